@@ -1,0 +1,108 @@
+-- Lent tables: row after row, a row its cells, a cell four bytes, the lowest first.
+use Prim.Native.Nat.{ℕ, zero, suc, _+_, _*_, _/_, _%_, _^_}
+use mathlib.Core.List.{List, [], _∷_, _++_}
+use mathlib.Core.Bool.{Bool}
+use lib.ListN.{length, getD, drop}
+use lib.Dec.{leb}
+use Rattle.format.specs.Bytes.{rowsAt, flat}
+use Rattle.format.specs.ClipRecord.{Row, Scalars, Clip}
+
+-- ---- cells
+
+-- the number of the n bytes of t from place p, the lowest first
+unfoldable pub lowAt : List ℕ → ℕ → ℕ → ℕ
+lowAt t p zero = 0
+lowAt t p (suc n) = lowAt t p n + getD t (p + n) 0 * 256 ^ n
+
+-- the n bytes of v, the lowest first
+unfoldable pub lowBytes : ℕ → ℕ → List ℕ
+lowBytes zero v = []
+lowBytes (suc n) v = v % 256 ∷ lowBytes n (v / 256)
+
+abbrev pub cellAt : List ℕ → ℕ → ℕ
+cellAt t p = lowAt t p 4
+
+abbrev pub cellBytes : ℕ → List ℕ
+cellBytes v = lowBytes 4 v
+
+-- ---- rows as bytes, and bytes as rows
+
+abbrev pub rowBytes : Row → List ℕ
+rowBytes row = flat cellBytes row
+
+abbrev pub tableBytes : List Row → List ℕ
+tableBytes rows = flat rowBytes rows
+
+-- a row of so many cells at place p
+abbrev pub cellsAt : List ℕ → ℕ → ℕ → Row
+cellsAt t cells p = rowsAt (cellAt t) (λ q. q + 4) p cells
+
+-- the first n rows, of so many cells each
+unfoldable pub tableRows : ℕ → List ℕ → ℕ → List Row
+tableRows cells t n = rowsAt (cellsAt t cells) (λ p. p + 4 * cells) 0 n
+
+-- how many whole rows a table has room for
+abbrev pub rowsLent : ℕ → List ℕ → ℕ
+rowsLent cells t = length t / (4 * cells)
+
+-- a table or an output after new bytes were put at its front: what stands beyond them keeps its values
+abbrev pub overwritten : List ℕ → List ℕ → List ℕ
+overwritten new old = new ++ drop (length new) old
+
+-- ---- the cells of a row, by table
+
+abbrev pub atcCells : ℕ
+atcCells = 3
+
+abbrev pub stcCells : ℕ
+stcCells = 4
+
+abbrev pub programCells : ℕ
+programCells = 3
+
+abbrev pub streamCells : ℕ
+streamCells = 5
+
+abbrev pub mapCells : ℕ
+mapCells = 3
+
+abbrev pub entryCells : ℕ
+entryCells = 5
+
+abbrev pub extensionCells : ℕ
+extensionCells = 4
+
+-- ---- tables that are given back, with the rows stated to be in each
+
+pub record Table : Type 0 where
+  pub bytes : List ℕ
+  pub rows : ℕ
+
+-- not more rows stated than lent
+abbrev pub isStated : ℕ → Table → Bool
+isStated cells t = leb (t .rows) (rowsLent cells (t .bytes))
+
+abbrev pub rowsOf : ℕ → Table → List Row
+rowsOf cells t = tableRows cells (t .bytes) (t .rows)
+
+-- a record handed over as scalars and tables 1 to 6
+pub record Lent : Type 0 where
+  pub scalars : Scalars
+  pub atcs : Table
+  pub stcs : Table
+  pub programs : Table
+  pub streams : Table
+  pub maps : Table
+  pub entries : Table
+
+-- the record that they hold: the stated rows, and nothing beyond them
+unfoldable pub clipIn : Lent → Clip
+clipIn l = record {
+  scalars = l .scalars;
+  atcs = rowsOf atcCells (l .atcs);
+  stcs = rowsOf stcCells (l .stcs);
+  programs = rowsOf programCells (l .programs);
+  streams = rowsOf streamCells (l .streams);
+  maps = rowsOf mapCells (l .maps);
+  entries = rowsOf entryCells (l .entries);
+}
