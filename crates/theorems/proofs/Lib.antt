@@ -1,0 +1,5 @@
+-- The proofs of the statements.
+pub mod CheckedByHand
+pub mod ListingExample
+pub mod BitFields
+pub mod ReadByRead

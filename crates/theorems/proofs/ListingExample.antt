@@ -1,0 +1,14 @@
+-- The listing example, by computation.
+use mathlib.Core.Path.{refl}
+use Rattle.format.specs.Bytes.{beAt, bytesOf}
+use Rattle.format.specs.ClipRecord.{lettersRight, scalarsOf, clipInfoIn, atcsFrom, stcsFrom, sequencesEnd, marksFrom, marksIn}
+use Rattle.format.specs.Programs.{programsFrom, streamsFrom, programsEnd}
+use Rattle.format.specs.EntryPoints.{joinTime, joinPacket, hasMaps, mapCount, mapsFrom, entriesFrom, cpiIn, mapsIn}
+use Rattle.format.specs.Reading.{clipOf, recordOf}
+use Rattle.format.specs.Rewriting.{coarseAfter, runs, sequencesBytes, programsBytes, bodyBytes, cpiBytes, headBytes, encode}
+use Rattle.format.specs.Refusals.{refusalOf, countsAdd, cellsFit, runsFit, writeRefusal}
+use Rattle.theorems.specs.ListingExample.{listedClip, listedFile, Listed}
+
+pub listed : Listed
+unfolding listedClip listedFile beAt bytesOf lettersRight scalarsOf clipInfoIn atcsFrom stcsFrom sequencesEnd marksFrom marksIn programsFrom streamsFrom programsEnd joinTime joinPacket hasMaps mapCount mapsFrom entriesFrom cpiIn mapsIn clipOf recordOf coarseAfter runs sequencesBytes programsBytes bodyBytes cpiBytes headBytes encode refusalOf countsAdd cellsFit runsFit writeRefusal
+listed = record { bytes = refl; not-refused = refl; written = refl; accepted = refl; reads = refl; marks = refl }
