@@ -3,3 +3,4 @@ pub mod Tests
 pub mod Lists
 pub mod Fields
 pub mod Numbers
+pub mod Rounding
