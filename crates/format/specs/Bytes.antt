@@ -1,9 +1,13 @@
 -- Tests, big-endian numbers, bit fields, and items that stand one behind the other: the words that the sections are told in.
-use Prim.Native.Nat.{ℕ, zero, suc, _+_, _*_, _/_, _%_, _^_}
+use Prim.Native.Nat.{ℕ, zero, suc, _+_, _*_, _/_, _%_, _^_, _<_}
 use mathlib.Core.List.{List, [], _∷_, _++_}
 use mathlib.Core.Bool.{Bool, true, false}
 use lib.ListN.{getD}
 use lib.Dec.{ltb}
+
+-- a file, a table and an output are lists of bytes
+abbrev pub IsBytes : List ℕ → Type 0
+IsBytes f = (i : ℕ) → getD f i 0 < 256
 
 -- ---- tests
 

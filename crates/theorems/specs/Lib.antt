@@ -3,3 +3,4 @@ pub mod CheckedByHand
 pub mod ListingExample
 pub mod BitFields
 pub mod ReadByRead
+pub mod Rewriting

@@ -1,0 +1,50 @@
+-- The facts of a record whose counts add up and whose cells fit: what a file's record can look like.
+use Prim.Native.Nat.{ℕ, _≤_}
+use mathlib.Core.Path.{_≡_}
+use mathlib.Core.List.{List, [], _∷_, _++_}
+use mathlib.Core.Bool.{true}
+use lib.ListN.{length}
+use lib.Dec.{eqb}
+use Rattle.format.specs.Bytes.{pick, total}
+use Rattle.format.specs.ClipRecord.{Row, Clip, atcStcCount, streamCount, codingType, aspect, language, mapType, entryCount}
+use Rattle.format.specs.Programs.{isVideo}
+use Rattle.format.specs.Rewriting.{runs}
+use Rattle.format.proofs.Fields.{Fit}
+use Rattle.format.proofs.Lists.{All}
+use Rattle.theorems.proofs.Join.{GoodEntry}
+
+abbrev pub GoodAtc : Row → Type 0
+GoodAtc = Fit (32 ∷ 8 ∷ 8 ∷ [])
+
+abbrev pub GoodStc : Row → Type 0
+GoodStc = Fit (16 ∷ 32 ∷ 32 ∷ 32 ∷ [])
+
+abbrev pub GoodProgram : Row → Type 0
+GoodProgram = Fit (32 ∷ 16 ∷ 8 ∷ [])
+
+pub record GoodStream (s : Row) : Type 0 where
+  pub cells : Fit (16 ∷ 8 ∷ 8 ∷ 4 ∷ 24 ∷ []) s
+  pub only : pick (isVideo (codingType s)) (eqb (language s) 0) (eqb (aspect s) 0) ≡ true
+
+abbrev pub GoodMap : Row → Type 0
+GoodMap = Fit (16 ∷ 4 ∷ 18 ∷ [])
+
+-- maps of at most `most` runs each, and their entries in one table
+pub data Maps (most : ℕ) : List Row → List Row → Type 0 where
+  none : Maps most [] []
+  more : {m : Row} {ms own rest : List Row} → GoodMap m → length own ≡ entryCount m → All (GoodEntry (mapType m)) own → runs own ≤ most
+      → Maps most ms rest → Maps most (m ∷ ms) (own ++ rest)
+
+pub record GoodClip (most : ℕ) (c : Clip) : Type 0 where
+  pub scalars : Fit (32 ∷ 8 ∷ 8 ∷ 32 ∷ 32 ∷ 8 ∷ 32 ∷ [])
+      (c .scalars .version ∷ c .scalars .streamType ∷ c .scalars .applicationType ∷ c .scalars .rate ∷ c .scalars .packets ∷ c .scalars .validityFlags ∷ c .scalars .formatId ∷ [])
+  pub atcs-few : length (c .atcs) ≤ 255
+  pub atcs-good : All GoodAtc (c .atcs)
+  pub stcs-good : All GoodStc (c .stcs)
+  pub stcs-add : total atcStcCount (c .atcs) ≡ length (c .stcs)
+  pub programs-few : length (c .programs) ≤ 255
+  pub programs-good : All GoodProgram (c .programs)
+  pub streams-good : All GoodStream (c .streams)
+  pub streams-add : total streamCount (c .programs) ≡ length (c .streams)
+  pub maps-few : length (c .maps) ≤ 255
+  pub maps-good : Maps most (c .maps) (c .entries)

@@ -1,0 +1,88 @@
+-- A record that the writer does not refuse is a good one, if its languages have no capital letter.
+use Prim.Native.Nat.{ℕ, zero, suc, _+_, _*_, _%_, _<_, _≤_}
+use mathlib.Core.Path.{_≡_, refl, sym, ap, _∙_}
+use mathlib.Core.List.{List, [], _∷_, _++_}
+use mathlib.Core.Bool.{Bool, true, false}
+use native.Mathlib.Omega.{arith}
+use lib.ListN.{length, take, drop, take-append-drop, length-drop}
+use lib.Seq.{length-take-le}
+use lib.Dec.{leb, eqb}
+use borrow.Author.Tests.{eqb-true, leb-true}
+use Rattle.format.specs.Bytes.{both, pick, every, unless, fits, total}
+use Rattle.format.specs.ClipRecord.{Row, Clip, atcStcCount, streamCount, codingType, aspect, language, mapType, entryCount, time, entryType}
+use Rattle.format.specs.Programs.{isVideo}
+use Rattle.format.specs.Refusals.{countsAdd, streamFits, entryFits, everyMap, cellsFit, runsFit, writeRefusal}
+use Rattle.format.specs.Rewriting.{runs}
+use Rattle.format.proofs.Fields.{Fit, fits-fit}
+use Rattle.format.proofs.Lists.{All, every-all, all-map}
+use Rattle.format.proofs.Numbers.{left}
+use Rattle.format.proofs.Tests.{both-true, split-both, passed}
+use Rattle.theorems.proofs.Good.{GoodStream, Maps, GoodClip}
+use Rattle.theorems.proofs.Join.{GoodEntry}
+use Rattle.theorems.proofs.Write.{cells}
+
+entry-made : (type : ℕ) (e : Row) → entryFits type e ≡ true → GoodEntry type e
+entry-made type e h =
+    let a = both-true (fits (1 ∷ 3 ∷ 32 ∷ 32 ∷ 4 ∷ []) e) (both (eqb (time e % 512) 0) (eqb (entryType e) type)) h in
+    let b = both-true (eqb (time e % 512) 0) (eqb (entryType e) type) (a .1) in
+    record {
+      cells = fits-fit (1 ∷ 3 ∷ 32 ∷ 32 ∷ 4 ∷ []) e (a .0);
+      step = eqb-true (time e % 512) 0 (b .0);
+      type-same = eqb-true (entryType e) type (b .1);
+    }
+
+maps-made : (ms es : List Row) → every (fits (16 ∷ 4 ∷ 18 ∷ [])) ms ≡ true → total entryCount ms ≡ length es
+    → everyMap (λ m own. every (entryFits (mapType m)) own) ms es ≡ true → everyMap (λ m own. leb (runs own) 65535) ms es ≡ true → Maps 65535 ms es
+maps-made [] [] f e h k = Maps.none
+maps-made [] (x ∷ es) f e h k = absurd (omega arith)
+maps-made (m ∷ ms) es f e h k =
+    let n = entryCount m in
+    let own = take n es in
+    let rest = drop n es in
+    let ff = both-true (fits (16 ∷ 4 ∷ 18 ∷ []) m) (every (fits (16 ∷ 4 ∷ 18 ∷ [])) ms) f in
+    let hh = both-true (every (entryFits (mapType m)) own) (everyMap (λ m own. every (entryFits (mapType m)) own) ms rest) h in
+    let kk = both-true (leb (runs own) 65535) (everyMap (λ m own. leb (runs own) 65535) ms rest) k in
+    let left : total entryCount ms ≡ length rest = omega (arith, length-drop n es) in
+    let own-good : All (GoodEntry (mapType m)) own = all-map (entry-made (mapType m)) (every-all (entryFits (mapType m)) own (hh .0)) in
+    rw (take-append-drop n es) at
+    (Maps.more (fits-fit (16 ∷ 4 ∷ 18 ∷ []) m (ff .0)) (length-take-le n es (omega arith)) own-good
+    (leb-true (runs own) 65535 (kk .0)) (maps-made ms rest (ff .1) left (hh .1) (kk .1)))
+
+stream-made : (s : Row) → streamFits s ≡ true → GoodStream s
+stream-made s h =
+    let b = both-true (fits (16 ∷ 8 ∷ 8 ∷ 4 ∷ 24 ∷ []) s) (pick (isVideo (codingType s)) (eqb (language s) 0) (eqb (aspect s) 0)) h in
+    record { cells = fits-fit (16 ∷ 8 ∷ 8 ∷ 4 ∷ 24 ∷ []) s (b .0); only = b .1 }
+
+fit-rows : (ws : List ℕ) (rows : List Row) → every (fits ws) rows ≡ true → All (Fit ws) rows
+fit-rows ws rows h = all-map (λ row k. fits-fit ws row k) (every-all (fits ws) rows h)
+
+pub good-made : (c : Clip) → writeRefusal c ≡ 0 → GoodClip 65535 c
+unfolding writeRefusal countsAdd cellsFit runsFit
+good-made c h =
+    let p0 = passed (countsAdd c) 21 (unless (cellsFit c) 30 (unless (runsFit c) 31 0)) h in
+    let p1 = passed (cellsFit c) 29 (unless (runsFit c) 31 0) (p0 .1) in
+    let p2 = passed (runsFit c) 30 0 (p1 .1) in
+    let a0 = split-both (p0 .0) in
+    let a1 = split-both (a0 .1) in
+    let b0 = split-both (p1 .0) in
+    let b1 = split-both (b0 .1) in
+    let b2 = split-both (b1 .1) in
+    let b3 = split-both (b2 .1) in
+    let b4 = split-both (b3 .1) in
+    let b5 = split-both (b4 .1) in
+    let b6 = split-both (b5 .1) in
+    let b7 = split-both (b6 .1) in
+    let b8 = split-both (b7 .1) in
+    record {
+      scalars = fits-fit (32 ∷ 8 ∷ 8 ∷ 32 ∷ 32 ∷ 8 ∷ 32 ∷ []) (c .scalars .version ∷ c .scalars .streamType ∷ c .scalars .applicationType ∷ c .scalars .rate ∷ c .scalars .packets ∷ c .scalars .validityFlags ∷ c .scalars .formatId ∷ []) (b0 .0);
+      atcs-few = leb-true (length (c .atcs)) 255 (b1 .0);
+      atcs-good = fit-rows (32 ∷ 8 ∷ 8 ∷ []) (c .atcs) (b2 .0);
+      stcs-good = fit-rows (16 ∷ 32 ∷ 32 ∷ 32 ∷ []) (c .stcs) (b3 .0);
+      stcs-add = eqb-true (total atcStcCount (c .atcs)) (length (c .stcs)) (a0 .0);
+      programs-few = leb-true (length (c .programs)) 255 (b4 .0);
+      programs-good = fit-rows (32 ∷ 16 ∷ 8 ∷ []) (c .programs) (b5 .0);
+      streams-good = all-map stream-made (every-all streamFits (c .streams) (b6 .0));
+      streams-add = eqb-true (total streamCount (c .programs)) (length (c .streams)) (a1 .0);
+      maps-few = leb-true (length (c .maps)) 255 (b7 .0);
+      maps-good = maps-made (c .maps) (c .entries) (b8 .0) (eqb-true (total entryCount (c .maps)) (length (c .entries)) (a1 .1)) (b8 .1) (p2 .0);
+    }

@@ -1,0 +1,292 @@
+-- What is read of a list of bytes is a record that can be written.
+use Prim.Native.Nat.{ℕ, zero, suc, _+_, _*_, _/_, _%_, _^_, _<_, _≤_, max}
+use mathlib.Core.Path.{_≡_, refl, sym, ap, ap₂, _∙_}
+use mathlib.Core.List.{List, [], _∷_, _++_}
+use mathlib.Core.Bool.{Bool, true, false, not}
+use native.Mathlib.Nat.{add-zero, add-assoc, pow-suc}
+use native.Mathlib.Omega.{arith}
+use lib.ListN.{length, getD, take, drop, length-append}
+use lib.Seq.{take-at, drop-at}
+use lib.Dec.{leb, eqb, lit<}
+use borrow.Author.Tests.{leb-true, leb-false, le-leb, lt-leb, eq-eqb}
+use Rattle.format.specs.Bytes.{IsBytes, both, pick, beAt, rowsAt, gather, total}
+use Rattle.format.specs.ClipRecord.{Row, Clip, atcStcCount, streamCount, entryCount, scalarsOf, atcAt, stcAt, nextStc, stcsOf, nextAtc, atcsFrom, stcsFrom}
+use Rattle.format.specs.EntryPoints.{coarseAt, nextCoarse, firstFine, fineAt, nextFine, joinTime, joinPacket, entryOf, stepOn, coarseFor, entriesFor, mapTypeAt, coarseCountAt, fineCountAt, mapAt, nextMap, bodyAt, fineStart, entriesOf, hasMaps, mapCount, mapsFrom, entriesFrom}
+use Rattle.format.specs.Programs.{isVideo, lower, lowered, codingAt, formatAt, aspectAt, languageAt, streamAt, nextStream, programAt, streamsOf, nextProgram, programsFrom, streamsFrom}
+use Rattle.format.specs.Reading.{clipOf}
+use Rattle.format.specs.Refusals.{everyMap, runsFit}
+use Rattle.format.specs.Rewriting.{sameRun, coarseRow, startRun, coarseAfter, runs}
+use Rattle.format.proofs.Fields.{Fit, fit, time-is}
+use Rattle.format.proofs.Lists.{All, all-append, none, more}
+use Rattle.format.proofs.Tests.{both-true}
+use Rattle.theorems.proofs.Good.{GoodAtc, GoodStc, GoodProgram, GoodStream, GoodMap, Maps, GoodClip, none, more}
+use Rattle.theorems.proofs.Join.{GoodEntry}
+use Rattle.theorems.proofs.Write.{cells}
+
+-- ---- rows one behind the other
+
+pub rows-length : {A : Type 0} (row : ℕ → A) (next : ℕ → ℕ) (p n : ℕ) → length (rowsAt row next p n) ≡ n
+rows-length row next p zero = refl
+rows-length row next p (suc n) = ap suc (rows-length row next (next p) n)
+
+pub rows-all : {A : Type 0} {P : A → Type 0} (row : ℕ → A) (next : ℕ → ℕ) → ((p : ℕ) → P (row p)) → (p n : ℕ) → All P (rowsAt row next p n)
+rows-all row next h p zero = none
+rows-all row next h p (suc n) = more (h p) (rows-all row next h (next p) n)
+
+pub gather-all : {A : Type 0} {P : A → Type 0} (rows : ℕ → List A) (next : ℕ → ℕ) → ((p : ℕ) → All P (rows p)) → (p n : ℕ) → All P (gather rows next p n)
+gather-all rows next h p zero = none
+gather-all rows next h p (suc n) = all-append (h p) (gather-all rows next h (next p) n)
+
+pub gather-adds : (head : ℕ → Row) (count : Row → ℕ) (rows : ℕ → List Row) (next : ℕ → ℕ) → ((p : ℕ) → length (rows p) ≡ count (head p))
+    → (p n : ℕ) → total count (rowsAt head next p n) ≡ length (gather rows next p n)
+gather-adds head count rows next h p zero = refl
+gather-adds head count rows next h p (suc n) =
+    let r = gather-adds head count rows next h (next p) n in
+    let e = h p in
+    rw length-append (omega arith)
+
+-- ---- letters
+
+pick-lt : (b : Bool) (x y k : ℕ) → x < k → y < k → pick b x y < k
+pick-lt true x y k h g = h
+pick-lt false x y k h g = g
+
+lower-cases : (b : ℕ) → b < 256 → (lower b < 256) × (lower (lower b) ≡ lower b)
+unfolding lower
+lower-cases b h = go (leb 65 b) (leb b 90) refl refl
+  where
+    go : (x y : Bool) → leb 65 b ≡ x → leb b 90 ≡ y
+        → (pick (both x y) (b + 32) b < 256) × (lower (pick (both x y) (b + 32) b) ≡ pick (both x y) (b + 32) b)
+    go true true e f =
+        let k = leb-true b 90 f in
+        let m = leb-true 65 b e in
+        (omega arith, rw (le-leb 65 (b + 32) (omega arith), lt-leb (b + 32) 90 (omega arith)))
+    go true false e f = (h, rw (e, f))
+    go false y e f = (h, rw e)
+
+pub lowered-facts : (x : ℕ) → x < 2 ^ 24 → (lowered x < 2 ^ 24) × (lowered (lowered x) ≡ lowered x)
+unfolding lowered
+lowered-facts x h =
+    let a = lower-cases (x / 65536) (omega arith) in
+    let m = lower-cases (x / 256 % 256) (omega arith) in
+    let z = lower-cases (x % 256) (omega arith) in
+    go (lower (x / 65536)) (lower (x / 256 % 256)) (lower (x % 256)) (a .0) (m .0) (z .0) (a .1) (m .1) (z .1)
+  where
+    go : (a m z : ℕ) → a < 256 → m < 256 → z < 256 → lower a ≡ a → lower m ≡ m → lower z ≡ z
+        → (a * 65536 + m * 256 + z < 2 ^ 24)
+        × (lower ((a * 65536 + m * 256 + z) / 65536) * 65536 + lower ((a * 65536 + m * 256 + z) / 256 % 256) * 256 + lower ((a * 65536 + m * 256 + z) % 256)
+        ≡ a * 65536 + m * 256 + z)
+    go a m z ha hm hz ea em ez =
+        let i : (a * 65536 + m * 256 + z) / 65536 ≡ a = omega arith in
+        let j : (a * 65536 + m * 256 + z) / 256 % 256 ≡ m = omega arith in
+        let k : (a * 65536 + m * 256 + z) % 256 ≡ z = omega arith in
+        (omega arith, rw (i, j, k, ea, em, ez))
+
+-- ---- entries
+
+-- a row that the stepping rule reaches is one of the rows, or zeros
+reach-all : {P : Row → Type 0} (c : Row) {cs : List Row} → P c → All P cs → (k : ℕ) → P (stepOn c cs k)
+reach-all c h none k = h
+reach-all {P} c h (more {x = d} {xs = ds} g gs) k = go (leb (firstFine d) k) (reach-all {P = P} d g gs k)
+  where
+    go : (b : Bool) → P (stepOn d ds k) → P (pick b (stepOn d ds k) c)
+    go true i = i
+    go false i = h
+
+abbrev HasPacket : Row → Type 0
+HasPacket c = getD c 2 0 < 2 ^ 32
+
+coarse-packet : {cs : List Row} → All HasPacket cs → (k : ℕ) → HasPacket (coarseFor cs k)
+coarse-packet none k = lit< tt
+coarse-packet (more {x = c} h hs) k = reach-all {P = HasPacket} c h hs k
+
+time-facts : (c t : ℕ) → t < 2048 → (joinTime c t < 2 ^ 32) × (joinTime c t % 512 ≡ 0)
+time-facts c t h = rw (time-is c t h) (go (c % 8192 / 2) (c % 2) (t / 1024) (t % 1024) (omega arith) (omega arith) (omega arith) (omega arith))
+  where
+    go : (a b d e : ℕ) → a < 4096 → b < 2 → d < 2 → e < 1024
+        → ((a * 2 + max b d) * 524288 + e * 512 < 2 ^ 32) × (((a * 2 + max b d) * 524288 + e * 512) % 512 ≡ 0)
+    go a b d e ha hb hd he = (omega arith, omega arith)
+
+packet-facts : (c p : ℕ) → c < 2 ^ 32 → p < 2 ^ 17 → joinPacket c p < 2 ^ 32
+unfolding joinPacket
+packet-facts c p h k = omega arith
+
+entry-good : (type : ℕ) (c x : Row) → type < 2 ^ 4 → HasPacket c → getD x 0 0 < 2 → getD x 1 0 < 8 → getD x 2 0 < 2048 → getD x 3 0 < 2 ^ 17
+    → GoodEntry type (entryOf type c x)
+entry-good type c x ht hc h0 h1 h2 h3 =
+    let t = time-facts (getD c 1 0) (getD x 2 0) h2 in
+    record {
+      cells = fit 1 (getD x 0 0) h0 (fit 3 (getD x 1 0) h1 (fit 32 (joinTime (getD c 1 0) (getD x 2 0)) (t .0)
+          (fit 32 (joinPacket (getD c 2 0) (getD x 3 0)) (packet-facts (getD c 2 0) (getD x 3 0) hc h3) (fit 4 type ht Fit.none))));
+      step = t .1;
+      type-same = refl;
+    }
+
+record FineCells (x : Row) : Type 0 where
+  angle : getD x 0 0 < 2
+  i-end : getD x 1 0 < 8
+  time : getD x 2 0 < 2048
+  packet : getD x 3 0 < 2 ^ 17
+
+entries-good : (type : ℕ) → type < 2 ^ 4 → (cs : List Row) → All HasPacket cs → {xs : List Row} → All FineCells xs → (k : ℕ)
+    → All (GoodEntry type) (entriesFor type cs k xs)
+entries-good type ht cs hc none k = none
+entries-good type ht cs hc (more {x = x} h hs) k =
+    more (entry-good type (coarseFor cs k) x ht (coarse-packet hc k) (h .angle) (h .i-end) (h .time) (h .packet)) (entries-good type ht cs hc hs (suc k))
+
+entries-length : (type : ℕ) (cs : List Row) (k : ℕ) (xs : List Row) → length (entriesFor type cs k xs) ≡ length xs
+entries-length type cs k [] = refl
+entries-length type cs k (x ∷ xs) = ap suc (entries-length type cs (suc k) xs)
+
+-- ---- runs
+
+-- not more coarse rows than entries
+after-few : (e : Row) (k : ℕ) (xs : List Row) → length (coarseAfter e k xs) ≤ length xs
+unfolding coarseAfter
+after-few e k [] = omega arith
+after-few e k (x ∷ xs) = go (sameRun e x) (after-few x (suc k) xs)
+  where
+    go : (b : Bool) → length (coarseAfter x (suc k) xs) ≤ length xs → length (startRun b (coarseRow k x) (coarseAfter x (suc k) xs)) ≤ suc (length xs)
+    go true h = omega arith
+    go false h = omega arith
+
+pub runs-few : (es : List Row) → runs es ≤ length es
+unfolding runs
+runs-few [] = omega arith
+runs-few (x ∷ xs) = let h = after-few x 1 xs in omega arith
+
+-- maps whose runs are tested to be few
+pub maps-narrow : {ms es : List Row} → Maps 262143 ms es → everyMap (λ m own. leb (runs own) 65535) ms es ≡ true → Maps 65535 ms es
+maps-narrow Maps.none h = Maps.none
+maps-narrow (Maps.more {m = m} {ms = ms} {own = own} {rest = rest} g size good few later) h =
+    let h′ = rw (take-at own rest (entryCount m) size, drop-at own rest (entryCount m) size) at h in
+    let b = both-true (leb (runs own) 65535) (everyMap (λ m own. leb (runs own) 65535) ms rest) h′ in
+    Maps.more g size good (leb-true (runs own) 65535 (b .0)) (maps-narrow later (b .1))
+
+-- a record of a file that is not refused with 31
+pub narrow : (c : Clip) → GoodClip 262143 c → runsFit c ≡ true → GoodClip 65535 c
+unfolding runsFit
+narrow c g h = record {
+  scalars = g .scalars;
+  atcs-few = g .atcs-few;
+  atcs-good = g .atcs-good;
+  stcs-good = g .stcs-good;
+  stcs-add = g .stcs-add;
+  programs-few = g .programs-few;
+  programs-good = g .programs-good;
+  streams-good = g .streams-good;
+  streams-add = g .streams-add;
+  maps-few = g .maps-few;
+  maps-good = maps-narrow (g .maps-good) h;
+}
+
+-- ---- a file
+
+module _ (f : List ℕ) (bytes : IsBytes f) where
+  pub be-below : (p n : ℕ) → beAt f p n < 256 ^ n
+  unfolding beAt
+  be-below p zero = lit< tt
+  be-below p (suc n) =
+      let h = be-below p n in
+      let b = bytes (p + n) in
+      rw pow-suc (omega arith)
+
+  atc-good : (p : ℕ) → GoodAtc (atcAt f p)
+  atc-good p = fit 32 (beAt f p 4) (be-below p 4) (fit 8 (beAt f (p + 4) 1) (be-below (p + 4) 1) (fit 8 (beAt f (p + 5) 1) (be-below (p + 5) 1) Fit.none))
+
+  stc-good : (p : ℕ) → GoodStc (stcAt f p)
+  stc-good p =
+      fit 16 (beAt f p 2) (be-below p 2) (fit 32 (beAt f (p + 2) 4) (be-below (p + 2) 4)
+      (fit 32 (beAt f (p + 6) 4) (be-below (p + 6) 4) (fit 32 (beAt f (p + 10) 4) (be-below (p + 10) 4) Fit.none)))
+
+  program-good : (p : ℕ) → GoodProgram (programAt f p)
+  program-good p = fit 32 (beAt f p 4) (be-below p 4) (fit 16 (beAt f (p + 4) 2) (be-below (p + 4) 2) (fit 8 (beAt f (p + 6) 1) (be-below (p + 6) 1) Fit.none))
+
+  language-facts : (v : Bool) (p size : ℕ) → (languageAt v f p size < 2 ^ 24) × (lowered (languageAt v f p size) ≡ languageAt v f p size)
+  unfolding lowered lower
+  language-facts v p size = go (both (not v) (leb 5 size))
+    where
+      x : ℕ
+      x = beAt f (p + 2) 3
+
+      go : (b : Bool) → (pick b (lowered x) 0 < 2 ^ 24) × (lowered (pick b (lowered x) 0) ≡ pick b (lowered x) 0)
+      go true = lowered-facts x (be-below (p + 2) 3)
+      go false = (lit< tt, refl)
+
+  only-one : (v : Bool) (p size : ℕ) → pick v (eqb (languageAt v f p size) 0) (eqb (aspectAt v f p size) 0) ≡ true
+  only-one true p size = refl
+  only-one false p size = refl
+
+  stream-good : (p : ℕ) → GoodStream (streamAt f p)
+  stream-good p =
+      let size = beAt f (p + 2) 1 in
+      let q = p + 3 in
+      let coding = codingAt f q size in
+      let v = isVideo coding in
+      let l = language-facts v q size in
+      let a = be-below (q + 2) 1 in
+      record {
+        cells = fit 16 (beAt f p 2) (be-below p 2) (fit 8 coding (pick-lt (leb 1 size) (beAt f q 1) 0 256 (be-below q 1) (lit< tt))
+            (fit 8 (formatAt f q size) (pick-lt (leb 2 size) (beAt f (q + 1) 1) 0 256 (be-below (q + 1) 1) (lit< tt))
+            (fit 4 (aspectAt v f q size) (pick-lt (both v (leb 3 size)) (beAt f (q + 2) 1 / 16) 0 16 (omega arith) (lit< tt))
+            (fit 24 (languageAt v f q size) (l .0) Fit.none))));
+        only = only-one v q size;
+      }
+
+  map-good : (p : ℕ) → GoodMap (mapAt f p)
+  map-good p = fit 16 (beAt f p 2) (be-below p 2) (fit 4 (mapTypeAt f p) (omega arith) (fit 18 (fineCountAt f p) (omega arith) Fit.none))
+
+  fine-cells : (p : ℕ) → FineCells (fineAt f p)
+  fine-cells p = let b = be-below p 4 in record { angle = omega arith; i-end = omega arith; time = omega arith; packet = omega arith }
+
+  own-good : (c p : ℕ) → All (GoodEntry (mapTypeAt f p)) (entriesOf f c p)
+  own-good c p =
+      entries-good (mapTypeAt f p) (omega arith) (rowsAt (coarseAt f) nextCoarse (bodyAt f c p + 4) (coarseCountAt f p))
+      (rows-all (coarseAt f) nextCoarse (λ q. omega arith) (bodyAt f c p + 4) (coarseCountAt f p))
+      (rows-all (fineAt f) nextFine fine-cells (fineStart f c p) (fineCountAt f p)) 0
+
+  own-length : (c p : ℕ) → length (entriesOf f c p) ≡ fineCountAt f p
+  own-length c p =
+      entries-length (mapTypeAt f p) (rowsAt (coarseAt f) nextCoarse (bodyAt f c p + 4) (coarseCountAt f p)) 0 (rowsAt (fineAt f) nextFine (fineStart f c p) (fineCountAt f p))
+      ∙ rows-length (fineAt f) nextFine (fineStart f c p) (fineCountAt f p)
+
+  maps-read : (c p n : ℕ) → Maps 262143 (rowsAt (mapAt f) nextMap p n) (gather (entriesOf f c) nextMap p n)
+  maps-read c p zero = Maps.none
+  maps-read c p (suc n) =
+      let own = entriesOf f c p in
+      let k = own-length c p in
+      let few : runs own ≤ 262143 = omega (arith, runs-few own) in
+      Maps.more (map-good p) k (own-good c p) few (maps-read c (nextMap p) n)
+
+  few-maps : (c : ℕ) → mapCount f c ≤ 255
+  unfolding mapCount
+  few-maps c = go (hasMaps f c)
+    where
+      go : (b : Bool) → pick b (beAt f (c + 7) 1) 0 ≤ 255
+      go true = let h = be-below (c + 7) 1 in omega arith
+      go false = omega arith
+
+  -- of any bytes, accepted or not
+  pub good-clip : GoodClip 262143 (clipOf f)
+  unfolding clipOf scalarsOf atcsFrom stcsFrom programsFrom streamsFrom mapsFrom entriesFrom
+  good-clip =
+      let a = beAt f 8 4 in
+      let b = beAt f 12 4 in
+      let c = beAt f 16 4 in
+      let na = be-below (a + 5) 1 in
+      let nb = be-below (b + 5) 1 in
+      record {
+        scalars = fit 32 (beAt f 4 4) (be-below 4 4) (fit 8 (beAt f 46 1) (be-below 46 1) (fit 8 (beAt f 47 1) (be-below 47 1)
+            (fit 32 (beAt f 52 4) (be-below 52 4) (fit 32 (beAt f 56 4) (be-below 56 4) (fit 8 (beAt f 188 1) (be-below 188 1)
+            (fit 32 (beAt f 190 4) (be-below 190 4) Fit.none))))));
+        atcs-few = rw rows-length (omega arith);
+        atcs-good = rows-all (atcAt f) (nextAtc f) atc-good (a + 6) (beAt f (a + 5) 1);
+        stcs-good = gather-all (stcsOf f) (nextAtc f) (λ p. rows-all (stcAt f) nextStc stc-good (p + 6) (beAt f (p + 4) 1)) (a + 6) (beAt f (a + 5) 1);
+        stcs-add = gather-adds (atcAt f) atcStcCount (stcsOf f) (nextAtc f) (λ p. rows-length (stcAt f) nextStc (p + 6) (beAt f (p + 4) 1)) (a + 6) (beAt f (a + 5) 1);
+        programs-few = rw rows-length (omega arith);
+        programs-good = rows-all (programAt f) (nextProgram f) program-good (b + 6) (beAt f (b + 5) 1);
+        streams-good = gather-all (streamsOf f) (nextProgram f) (λ p. rows-all (streamAt f) (nextStream f) stream-good (p + 8) (beAt f (p + 6) 1)) (b + 6) (beAt f (b + 5) 1);
+        streams-add = gather-adds (programAt f) streamCount (streamsOf f) (nextProgram f) (λ p. rows-length (streamAt f) (nextStream f) (p + 8) (beAt f (p + 6) 1)) (b + 6) (beAt f (b + 5) 1);
+        maps-few = rw rows-length (few-maps c);
+        maps-good = maps-read c (c + 8) (mapCount f c);
+      }

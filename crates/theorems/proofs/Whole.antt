@@ -1,0 +1,169 @@
+-- The new file is accepted, and reads to the record that was written.
+use Prim.Native.Nat.{ℕ, zero, suc, _+_, _*_, _^_, _<_, _≤_}
+use mathlib.Core.Path.{_≡_, refl, sym, ap, _∙_}
+use mathlib.Core.List.{List, [], _∷_, _++_, append-nil, map}
+use mathlib.Core.Bool.{Bool, true, false}
+use native.Mathlib.Nat.{add-assoc}
+use native.Mathlib.Omega.{arith}
+use lib.ListN.{length, getD, length-append}
+use lib.Dec.{leb, eqb, lit<}
+use borrow.Author.Tests.{le-leb}
+use Rattle.format.specs.Bytes.{beAt, fieldBytes, fieldsAt}
+use Rattle.format.specs.ClipRecord.{Clip, lettersRight, scalarsOf, clipInfoIn, atcsFrom, stcsFrom, sequencesEnd, marksIn}
+use Rattle.format.specs.EntryPoints.{mapsFrom, entriesFrom, cpiIn, mapsIn}
+use Rattle.format.specs.Programs.{programsFrom, streamsFrom, programsEnd}
+use Rattle.format.specs.Reading.{clipOf}
+use Rattle.format.specs.Refusals.{refusalOf}
+use Rattle.format.specs.Rewriting.{sequencesBytes, programsBytes, cpiBytes, headWidths, headValues, headBytes, marksBytes, encode}
+use Rattle.format.proofs.Fields.{Fit, one}
+use Rattle.format.proofs.Numbers.{Stands, left, right, bytes-length, Fill, fill, fields-back, fields-length}
+use Rattle.format.proofs.Tests.{true-both, pass}
+use Rattle.theorems.specs.Rewriting.{loweredStream, loweredClip}
+use Rattle.theorems.proofs.Cpi.{is-present, cpi-back}
+use Rattle.theorems.proofs.Good.{GoodClip}
+use Rattle.theorems.proofs.Lengths.{sequences-bound, programs-bound, cpi-bound}
+use Rattle.theorems.proofs.Sections.{sequences-back, programs-back}
+
+head-fill : (c : Clip) (pr cp mk : ℕ) → GoodClip 65535 c → pr < 2 ^ 32 → cp < 2 ^ 32 → mk < 2 ^ 32 → Fill headWidths (headValues c pr cp mk)
+head-fill c pr cp mk g h0 h1 h2 = go (g .scalars)
+  where
+    go : Fit (32 ∷ 8 ∷ 8 ∷ 32 ∷ 32 ∷ 8 ∷ 32 ∷ []) (c .scalars .version ∷ c .scalars .streamType ∷ c .scalars .applicationType ∷ c .scalars .rate ∷ c .scalars .packets ∷ c .scalars .validityFlags ∷ c .scalars .formatId ∷ [])
+        → Fill headWidths (headValues c pr cp mk)
+    go (one v0 (one v1 (one v2 (one v3 (one v4 (one v5 (one v6 Fit.none))))))) =
+        fill 4 0x434C5049 (lit< tt) (fill 4 (c .scalars .version) v0 (fill 4 220 (lit< tt) (fill 4 pr h0 (fill 4 cp h1 (fill 4 mk h2 (fill 4 0 (lit< tt)
+        (fill 12 0 (lit< tt) (fill 4 176 (lit< tt) (fill 2 0 (lit< tt) (fill 1 (c .scalars .streamType) v1 (fill 1 (c .scalars .applicationType) v2 (fill 4 0 (lit< tt)
+        (fill 4 (c .scalars .rate) v3 (fill 4 (c .scalars .packets) v4 (fill 128 0 (lit< tt) (fill 1 (c .scalars .validityFlags) v5 (fill 1 0 (lit< tt) (fill 4 (c .scalars .formatId) v6
+        (fill 26 0 (lit< tt) Fill.none)))))))))))))))))))
+
+itself : (g : List ℕ) → Stands g 0 g
+itself g = record { before = []; behind = []; place = refl; whole = sym (append-nil g) }
+
+-- ---- the file of a record
+
+record Facts (c : Clip) (g : List ℕ) (pr cp mk : ℕ) : Type 0 where
+  long : length g ≡ mk + 6
+  pr-is : pr ≡ 220 + length (sequencesBytes c)
+  cp-is : cp ≡ pr + length (programsBytes c)
+  mk-is : mk ≡ cp + length (cpiBytes c)
+  head : fieldsAt g 0 headWidths ≡ headValues c pr cp mk
+  sequences-at : Stands g 220 (sequencesBytes c)
+  programs-at : Stands g pr (programsBytes c)
+  cpi-at : Stands g cp (cpiBytes c)
+
+module _ (c : Clip) (good : GoodClip 65535 c) where
+  abbrev pr : ℕ
+  pr = 220 + length (sequencesBytes c)
+
+  abbrev cp : ℕ
+  cp = pr + length (programsBytes c)
+
+  abbrev mk : ℕ
+  mk = cp + length (cpiBytes c)
+
+  facts : Facts c (encode c) pr cp mk
+  unfolding encode headBytes
+  facts =
+      let sb = sequences-bound c good in
+      let pb = programs-bound c good in
+      let cb = cpi-bound c good in
+      let f = head-fill c pr cp mk good (omega arith) (omega arith) (omega arith) in
+      let h = fieldBytes headWidths (headValues c pr cp mk) in
+      let hl : length h ≡ 220 = fields-length f in
+      let sq = sequencesBytes c in
+      let pg = programsBytes c in
+      let ci = cpiBytes c in
+      let r3 = ci ++ marksBytes in
+      let r2 = pg ++ r3 in
+      let r1 = sq ++ r2 in
+      let all : Stands (h ++ r1) 0 (h ++ r1) = itself (h ++ r1) in
+      let t1 : Stands (h ++ r1) 220 r1 = right h r1 220 (rw hl) all in
+      let t2 : Stands (h ++ r1) pr r2 = right sq r2 pr refl t1 in
+      let t3 : Stands (h ++ r1) cp r3 = right pg r3 cp refl t2 in
+      let ml : length marksBytes ≡ 6 = simp (length-append, bytes-length) in
+      record {
+        long = length-append h r1 ∙ rw (hl, length-append sq r2, length-append pg r3, length-append ci marksBytes, ml) (omega arith);
+        pr-is = refl;
+        cp-is = refl;
+        mk-is = refl;
+        head = fields-back 0 f (left h r1 all);
+        sequences-at = left sq r2 t1;
+        programs-at = left pg r3 t2;
+        cpi-at = left ci marksBytes t3;
+      }
+
+-- ---- what is read of it
+
+module _ (c : Clip) (good : GoodClip 65535 c) where
+  at : (i : ℕ) → getD (fieldsAt (encode c) 0 headWidths) i 0 ≡ getD (headValues c (pr c good) (cp c good) (mk c good)) i 0
+  at i = ap (λ (l : List ℕ). getD l i 0) (facts c good .head)
+
+  pub long : length (encode c) ≤ 402515706
+  long =
+      let sb = sequences-bound c good in
+      let pb = programs-bound c good in
+      let cb = cpi-bound c good in
+      let l = facts c good .long in
+      omega arith
+
+  sequences : (atcsFrom (encode c) 220 ≡ c .atcs) × (stcsFrom (encode c) 220 ≡ c .stcs) × (sequencesEnd (encode c) 220 ≡ 220 + length (sequencesBytes c))
+  sequences = let sb = sequences-bound c good in sequences-back (encode c) 220 65535 c good (omega arith) (facts c good .sequences-at)
+
+  programs : (programsFrom (encode c) (pr c good) ≡ c .programs) × (streamsFrom (encode c) (pr c good) ≡ map loweredStream (c .streams))
+      × (programsEnd (encode c) (pr c good) ≡ pr c good + length (programsBytes c))
+  programs = let pb = programs-bound c good in programs-back (encode c) (pr c good) 65535 c good (omega arith) (facts c good .programs-at)
+
+  cpi : (mapsFrom (encode c) (cp c good) ≡ c .maps) × (entriesFrom (encode c) (cp c good) ≡ c .entries)
+      × (cpiIn (encode c) (cp c good) ≡ true) × (mapsIn (encode c) (cp c good) ≡ true)
+  unfolding cpiBytes
+  cpi =
+      let sb = sequences-bound c good in
+      let pb = programs-bound c good in
+      let cb = cpi-bound c good in
+      cpi-back (encode c) (cp c good) (omega arith) (good .maps-good) (good .maps-few) (omega arith) (facts c good .cpi-at)
+
+  scalars : scalarsOf (encode c) ≡ c .scalars
+  unfolding scalarsOf
+  scalars = λ i. record {
+    version = at 1 i;
+    streamType = at 10 i;
+    applicationType = at 11 i;
+    rate = at 13 i;
+    packets = at 14 i;
+    validityFlags = at 16 i;
+    formatId = at 18 i;
+  }
+
+  -- the record, with its languages lowered
+  pub reads-back : clipOf (encode c) ≡ loweredClip c
+  unfolding clipOf loweredClip
+  reads-back =
+      let a : atcsFrom (encode c) (beAt (encode c) 8 4) ≡ c .atcs = rw (at 2) (sequences .0) in
+      let b : stcsFrom (encode c) (beAt (encode c) 8 4) ≡ c .stcs = rw (at 2) (sequences .1) in
+      let d : programsFrom (encode c) (beAt (encode c) 12 4) ≡ c .programs = rw (at 3) (programs .0) in
+      let e : streamsFrom (encode c) (beAt (encode c) 12 4) ≡ map loweredStream (c .streams) = rw (at 3) (programs .1) in
+      let m : mapsFrom (encode c) (beAt (encode c) 16 4) ≡ c .maps = rw (at 4) (cpi .0) in
+      let n : entriesFrom (encode c) (beAt (encode c) 16 4) ≡ c .entries = rw (at 4) (cpi .1) in
+      λ i. record { scalars = scalars i; atcs = a i; stcs = b i; programs = d i; streams = e i; maps = m i; entries = n i }
+
+  pub accepted : refusalOf (encode c) ≡ 0
+  unfolding refusalOf lettersRight clipInfoIn marksIn
+  accepted =
+      let n = length (encode c) in
+      let bound = long in
+      let l = facts c good .long in
+      let t2 : lettersRight (encode c) ≡ true = rw (at 0) in
+      let t3 : clipInfoIn (encode c) ≡ true = true-both (le-leb 194 n (omega arith)) (rw (at 8) (le-leb 220 n (omega arith))) in
+      let t4 : leb (sequencesEnd (encode c) (beAt (encode c) 8 4)) n ≡ true =
+      rw (at 2, sequences .2) (le-leb (220 + length (sequencesBytes c)) n (omega arith)) in
+      let t5 : leb (programsEnd (encode c) (beAt (encode c) 12 4)) n ≡ true =
+      rw (at 3, programs .2) (le-leb (pr c good + length (programsBytes c)) n (omega arith)) in
+      let t6 : cpiIn (encode c) (beAt (encode c) 16 4) ≡ true = rw (at 4) (cpi .2) in
+      let t7 : mapsIn (encode c) (beAt (encode c) 16 4) ≡ true = rw (at 4) (cpi .3) in
+      let t8 : marksIn (encode c) (beAt (encode c) 20 4) ≡ true =
+      rw (at 5, is-present (encode c) (mk c good) (omega arith) (omega arith)) (le-leb (mk c good + 6) n (omega arith)) in
+      pass 20 (le-leb n 536870912 (omega arith))
+      (pass 1 (le-leb 8 n (omega arith))
+      (pass 2 t2
+      (pass 1 (le-leb 40 n (omega arith))
+      (pass 3 t3
+      (pass 4 t4 (pass 5 t5 (pass 6 t6 (pass 7 t7 (pass 8 t8 refl)))))))))

@@ -1,0 +1,170 @@
+-- A good record is not refused by the writer, and is written as bytes.
+use Prim.Native.Nat.{ℕ, zero, suc, _+_, _*_, _/_, _%_, _^_, _<_, _≤_}
+use mathlib.Core.Path.{_≡_, refl, sym, ap, _∙_}
+use mathlib.Core.List.{List, [], _∷_, _++_}
+use mathlib.Core.Bool.{Bool, true, false}
+use native.Mathlib.Omega.{arith}
+use lib.ListN.{length, getD, take, drop, length-append, take-append-drop}
+use lib.Seq.{take-at, drop-at, length-take-le}
+use lib.Dec.{leb, eqb, lit<}
+use borrow.Author.Tests.{eqb-true, eq-eqb, leb-true, le-leb}
+use Rattle.format.specs.Bytes.{IsBytes, every, bytesOf, fieldBytes, packed, flat, total}
+use Rattle.format.specs.ClipRecord.{Row, Clip, atcStcCount, streamCount, codingType, aspect, language, mapType, entryCount, time, entryType}
+use Rattle.format.specs.EntryPoints.{coarseWidths, fineWidths, headerWidths}
+use Rattle.format.specs.Programs.{isVideo}
+use Rattle.format.specs.Refusals.{countsAdd, atcFits, stcFits, programFits, streamFits, mapFits, entryFits, everyMap, cellsFit, runsFit, writeRefusal}
+use Rattle.format.specs.Rewriting.{coarseRows, runs, groups, sectionBytes, atcBytes, stcBytes, sequencesBytes, programBytes, streamBytesBy, streamBytes, programsBytes, coarseBytes, fineRow, fineBytes, bodyBytes, bodies, headers, cpiBytesBy, cpiBytes, headWidths, headValues, headBytes, encode}
+use Rattle.format.proofs.Fields.{fit-fits}
+use Rattle.format.proofs.Lists.{All, all-every, all-append, all-map, none, more}
+use Rattle.format.proofs.Tests.{true-both}
+use Rattle.theorems.proofs.Good.{GoodStream, GoodMap, Maps, GoodClip, none, more}
+use Rattle.theorems.proofs.Join.{GoodEntry}
+
+-- ---- bytes
+
+abbrev Byte : ℕ → Type 0
+Byte b = b < 256
+
+number-bytes : (n v : ℕ) → All Byte (bytesOf n v)
+unfolding bytesOf
+number-bytes zero v = none
+number-bytes (suc n) v = all-append (number-bytes n (v / 256)) (more (omega arith) none)
+
+field-bytes : (ws vs : List ℕ) → All Byte (fieldBytes ws vs)
+field-bytes [] vs = none
+field-bytes (w ∷ ws) [] = none
+field-bytes (w ∷ ws) (v ∷ vs) = all-append (number-bytes w v) (field-bytes ws vs)
+
+flat-bytes : (bytes : Row → List ℕ) → ((row : Row) → All Byte (bytes row)) → (rows : List Row) → All Byte (flat bytes rows)
+flat-bytes bytes h [] = none
+flat-bytes bytes h (row ∷ rows) = all-append (h row) (flat-bytes bytes h rows)
+
+groups-bytes : (head : Row → List ℕ) (count : Row → ℕ) (bytes : Row → List ℕ) → ((row : Row) → All Byte (head row)) → ((row : Row) → All Byte (bytes row))
+    → (hs rows : List Row) → All Byte (groups head count bytes hs rows)
+groups-bytes head count bytes h k [] rows = none
+groups-bytes head count bytes h k (x ∷ hs) rows =
+    all-append (all-append (h x) (flat-bytes bytes k (take (count x) rows))) (groups-bytes head count bytes h k hs (drop (count x) rows))
+
+stream-bytes : (v z : Bool) (row : Row) → All Byte (streamBytesBy v z row)
+stream-bytes true z row = field-bytes (2 ∷ 1 ∷ 1 ∷ 1 ∷ 1 ∷ []) (getD row 0 0 ∷ 3 ∷ getD row 1 0 ∷ getD row 2 0 ∷ aspect row * 16 ∷ [])
+stream-bytes false true row = field-bytes (2 ∷ 1 ∷ 1 ∷ 1 ∷ []) (getD row 0 0 ∷ 2 ∷ getD row 1 0 ∷ getD row 2 0 ∷ [])
+stream-bytes false false row = field-bytes (2 ∷ 1 ∷ 1 ∷ 1 ∷ 3 ∷ []) (getD row 0 0 ∷ 5 ∷ getD row 1 0 ∷ getD row 2 0 ∷ language row ∷ [])
+
+section-bytes : (n : ℕ) (items : List ℕ) → All Byte items → All Byte (sectionBytes n items)
+section-bytes n items h = all-append (field-bytes (4 ∷ 1 ∷ 1 ∷ []) ((2 + length items) ∷ 0 ∷ n ∷ [])) h
+
+sequences-bytes : (c : Clip) → All Byte (sequencesBytes c)
+unfolding sequencesBytes
+sequences-bytes c =
+    section-bytes (length (c .atcs)) (groups atcBytes atcStcCount stcBytes (c .atcs) (c .stcs))
+    (groups-bytes atcBytes atcStcCount stcBytes (field-bytes (4 ∷ 1 ∷ 1 ∷ [])) (field-bytes (2 ∷ 4 ∷ 4 ∷ 4 ∷ [])) (c .atcs) (c .stcs))
+
+programs-bytes : (c : Clip) → All Byte (programsBytes c)
+unfolding programsBytes
+programs-bytes c =
+    section-bytes (length (c .programs)) (groups programBytes streamCount streamBytes (c .programs) (c .streams))
+    (groups-bytes programBytes streamCount streamBytes (λ row. all-append (field-bytes (4 ∷ 2 ∷ 1 ∷ []) row) (number-bytes 1 0))
+    (λ row. stream-bytes (isVideo (codingType row)) (eqb (language row) 0) row) (c .programs) (c .streams))
+
+body-bytes : (es : List Row) → All Byte (bodyBytes es)
+unfolding bodyBytes
+body-bytes es =
+    all-append (number-bytes 4 (4 + 8 * runs es))
+    (all-append (flat-bytes coarseBytes (λ row. number-bytes 8 (packed coarseWidths row)) (coarseRows es))
+    (flat-bytes fineBytes (λ e. number-bytes 4 (packed fineWidths (fineRow e))) es))
+
+bodies-bytes : (ms es : List Row) → All Byte (bodies ms es)
+bodies-bytes [] es = none
+bodies-bytes (m ∷ ms) es = all-append (body-bytes (take (entryCount m) es)) (bodies-bytes ms (drop (entryCount m) es))
+
+headers-bytes : (ms es : List Row) (address : ℕ) → All Byte (headers ms es address)
+headers-bytes [] es address = none
+headers-bytes (m ∷ ms) es address =
+    let own = take (entryCount m) es in
+    all-append (field-bytes (2 ∷ 6 ∷ 4 ∷ []) (getD m 0 0 ∷ packed headerWidths (0 ∷ mapType m ∷ runs own ∷ length own ∷ []) ∷ address ∷ []))
+    (headers-bytes ms (drop (entryCount m) es) (address + length (bodyBytes own)))
+
+cpi-bytes : (ms es : List Row) → All Byte (cpiBytesBy ms es)
+cpi-bytes [] es = number-bytes 4 0
+cpi-bytes (m ∷ ms) es =
+    let n = suc (length ms) in
+    let rows = bodies (m ∷ ms) es in
+    all-append (field-bytes (4 ∷ 2 ∷ 1 ∷ 1 ∷ []) ((4 + 12 * n + length rows) ∷ 1 ∷ 0 ∷ n ∷ []))
+    (all-append (headers-bytes (m ∷ ms) es (2 + 12 * n)) (bodies-bytes (m ∷ ms) es))
+
+head-bytes : (c : Clip) (a b d : ℕ) → All Byte (headBytes c a b d)
+unfolding headBytes
+head-bytes c a b d = field-bytes headWidths (headValues c a b d)
+
+all-bytes : (c : Clip) → All Byte (encode c)
+unfolding encode cpiBytes
+all-bytes c =
+    let a = 220 + length (sequencesBytes c) in
+    let b = a + length (programsBytes c) in
+    let d = b + length (cpiBytes c) in
+    all-append (head-bytes c a b d) (all-append (sequences-bytes c) (all-append (programs-bytes c) (all-append (cpi-bytes (c .maps) (c .entries))
+    (field-bytes (4 ∷ 2 ∷ []) (2 ∷ 0 ∷ [])))))
+
+all-is : {f : List ℕ} → All Byte f → IsBytes f
+all-is none zero = lit< tt
+all-is none (suc i) = lit< tt
+all-is (more h hs) zero = h
+all-is (more h hs) (suc i) = all-is hs i
+
+pub encode-bytes : (c : Clip) → IsBytes (encode c)
+encode-bytes c = all-is (all-bytes c)
+
+-- ---- a good record is not refused
+
+maps-add : {most : ℕ} {ms es : List Row} → Maps most ms es → total entryCount ms ≡ length es
+maps-add Maps.none = refl
+maps-add (Maps.more {own = own} {rest = rest} g size good few later) =
+    let r = maps-add later in
+    rw length-append (omega arith)
+
+maps-fit : {most : ℕ} {ms es : List Row} → Maps most ms es → All GoodMap ms
+maps-fit Maps.none = none
+maps-fit (Maps.more g size good few later) = more g (maps-fit later)
+
+entry-fits : (type : ℕ) (e : Row) → GoodEntry type e → entryFits type e ≡ true
+entry-fits type e g = true-both (fit-fits (g .cells)) (true-both (eq-eqb (time e % 512) 0 (g .step)) (eq-eqb (entryType e) type (g .type-same)))
+
+maps-every : {most : ℕ} (test : Row → List Row → Bool) → ((m : Row) (own : List Row) → All (GoodEntry (mapType m)) own → runs own ≤ most → test m own ≡ true)
+    → {ms es : List Row} → Maps most ms es → everyMap test ms es ≡ true
+maps-every test h Maps.none = refl
+maps-every test h (Maps.more {m = m} {own = own} {rest = rest} g size good few later) =
+    rw (take-at own rest (entryCount m) size, drop-at own rest (entryCount m) size) (true-both (h m own good few) (maps-every test h later))
+
+stream-fits : (s : Row) → GoodStream s → streamFits s ≡ true
+stream-fits s g = true-both (fit-fits (g .cells)) (g .only)
+
+module _ (most : ℕ) (c : Clip) (g : GoodClip most c) where
+  pub counts : countsAdd c ≡ true
+  unfolding countsAdd
+  counts =
+      true-both (eq-eqb (total atcStcCount (c .atcs)) (length (c .stcs)) (g .stcs-add))
+      (true-both (eq-eqb (total streamCount (c .programs)) (length (c .streams)) (g .streams-add))
+      (eq-eqb (total entryCount (c .maps)) (length (c .entries)) (maps-add (g .maps-good))))
+
+  pub cells : cellsFit c ≡ true
+  unfolding cellsFit
+  cells =
+      true-both (fit-fits (g .scalars))
+      (true-both (le-leb (length (c .atcs)) 255 (g .atcs-few))
+      (true-both (all-every atcFits (all-map (λ r h. fit-fits h) (g .atcs-good)))
+      (true-both (all-every stcFits (all-map (λ r h. fit-fits h) (g .stcs-good)))
+      (true-both (le-leb (length (c .programs)) 255 (g .programs-few))
+      (true-both (all-every programFits (all-map (λ r h. fit-fits h) (g .programs-good)))
+      (true-both (all-every streamFits (all-map stream-fits (g .streams-good)))
+      (true-both (le-leb (length (c .maps)) 255 (g .maps-few))
+      (true-both (all-every mapFits (all-map (λ r h. fit-fits h) (maps-fit (g .maps-good))))
+      (maps-every (λ m es. every (entryFits (mapType m)) es) (λ m own good few. all-every (entryFits (mapType m)) (all-map (entry-fits (mapType m)) good)) (g .maps-good))))))))))
+
+module _ (c : Clip) (g : GoodClip 65535 c) where
+  pub runs-fit : runsFit c ≡ true
+  unfolding runsFit
+  runs-fit = maps-every (λ m es. leb (runs es) 65535) (λ m own good few. le-leb (runs own) 65535 few) (g .maps-good)
+
+  pub written : writeRefusal c ≡ 0
+  unfolding writeRefusal
+  written = rw (counts 65535 c g, cells 65535 c g, runs-fit)
