@@ -3,4 +3,8 @@ pub mod Tests
 pub mod Lists
 pub mod Fields
 pub mod Numbers
+pub mod Stores
+pub mod Cells
+pub mod Rows
+pub mod Tables
 pub mod Rounding

@@ -16,9 +16,9 @@ use Rattle.format.specs.Rewriting.{sameRun, coarseRow, startRun, coarseAfter, c
 use Rattle.format.proofs.Fields.{Fit, fit, packed-below, unpack, one}
 use Rattle.format.proofs.Lists.{All, none, more}
 use Rattle.format.proofs.Numbers.{Stands, left, right, ends-in, moved, bytes-length, number-back, Fill, fill, fields-back}
+use Rattle.format.proofs.Rows.{as-is, map-as-is, rows-back, flat-length, all-rows}
 use Rattle.format.proofs.Tests.{true-both}
 use Rattle.theorems.proofs.Good.{GoodMap, Maps, none, more}
-use Rattle.theorems.proofs.Groups.{as-is, map-as-is, rows-back}
 use Rattle.theorems.proofs.Join.{finesOf, GoodEntry, join-back}
 
 -- ---- coarse rows
@@ -70,16 +70,11 @@ pub fines-length : (es : List Row) → length (finesOf es) ≡ length es
 fines-length [] = refl
 fines-length (e ∷ es) = ap suc (fines-length es)
 
-pub flat-length : (w : ℕ) (bytes : Row → List ℕ) → ((row : Row) → length (bytes row) ≡ w) → (rows : List Row) → length (flat bytes rows) ≡ w * length rows
-flat-length w bytes e [] = sym (mul-zero w)
-flat-length w bytes e (row ∷ rows) =
-    length-append (bytes row) (flat bytes rows) ∙ rw (e row, flat-length w bytes e rows, mul-suc) (add-comm w (w * length rows))
-
 pub body-length : (es : List Row) → length (bodyBytes es) ≡ 4 + 8 * runs es + 4 * length es
 unfolding bodyBytes runs
 body-length es =
-    let a = flat-length 8 coarseBytes (λ row. bytes-length 8 (packed coarseWidths row)) (coarseRows es) in
-    let b = flat-length 4 fineBytes (λ e. bytes-length 4 (packed fineWidths (fineRow e))) es in
+    let a = flat-length 8 coarseBytes (all-rows (λ row. bytes-length 8 (packed coarseWidths row)) (coarseRows es)) in
+    let b = flat-length 4 fineBytes (all-rows (λ e. bytes-length 4 (packed fineWidths (fineRow e))) es) in
     rw (length-append, length-append, bytes-length) (omega arith)
 
 module _ (s : List ℕ) (p : ℕ) where
@@ -136,7 +131,7 @@ module _ (s : List ℕ) (c p address : ℕ) (own : List Row) where
       let fs = flat fineBytes own in
       let e3 : beAt s body 4 ≡ 4 + 8 * r = number-back 4 (4 + 8 * r) (left fa (cs ++ fs) bst) (omega arith) in
       let rows = right fa (cs ++ fs) (body + 4) (rw bytes-length) bst in
-      let cl : length cs ≡ 8 * r = flat-length 8 coarseBytes (λ row. bytes-length 8 (packed coarseWidths row)) (coarseRows own) in
+      let cl : length cs ≡ 8 * r = flat-length 8 coarseBytes (all-rows (λ row. bytes-length 8 (packed coarseWidths row)) (coarseRows own)) in
       let cb = rows-back s (coarseAt s) nextCoarse coarseBytes as-is GoodCoarse (coarse-back s) (coarse-good type good (omega arith)) (body + 4) (left cs fs rows) in
       let fb = rows-back s (fineAt s) nextFine fineRowBytes as-is GoodFine (fine-back s) (fines-good type good) (body + (4 + 8 * r))
       (moved refl (fines-flat own) (right cs fs (body + (4 + 8 * r)) (rw cl (omega arith)) rows)) in

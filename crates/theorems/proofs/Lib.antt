@@ -3,7 +3,6 @@ pub mod CheckedByHand
 pub mod ListingExample
 pub mod BitFields
 pub mod ReadByRead
-pub mod Groups
 pub mod Join
 pub mod Good
 pub mod Sections

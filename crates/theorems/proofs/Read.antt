@@ -9,7 +9,7 @@ use lib.ListN.{length, getD, take, drop, length-append}
 use lib.Seq.{take-at, drop-at}
 use lib.Dec.{leb, eqb, lit<}
 use borrow.Author.Tests.{leb-true, leb-false, le-leb, lt-leb, eq-eqb}
-use Rattle.format.specs.Bytes.{IsBytes, both, pick, beAt, rowsAt, gather, total}
+use Rattle.format.specs.Bytes.{IsBytes, both, pick, beAt, rowsAt, gather}
 use Rattle.format.specs.ClipRecord.{Row, Clip, atcStcCount, streamCount, entryCount, scalarsOf, atcAt, stcAt, nextStc, stcsOf, nextAtc, atcsFrom, stcsFrom}
 use Rattle.format.specs.EntryPoints.{coarseAt, nextCoarse, firstFine, fineAt, nextFine, joinTime, joinPacket, entryOf, stepOn, coarseFor, entriesFor, mapTypeAt, coarseCountAt, fineCountAt, mapAt, nextMap, bodyAt, fineStart, entriesOf, hasMaps, mapCount, mapsFrom, entriesFrom}
 use Rattle.format.specs.Programs.{isVideo, lower, lowered, codingAt, formatAt, aspectAt, languageAt, streamAt, nextStream, programAt, streamsOf, nextProgram, programsFrom, streamsFrom}
@@ -17,33 +17,13 @@ use Rattle.format.specs.Reading.{clipOf}
 use Rattle.format.specs.Refusals.{everyMap, runsFit}
 use Rattle.format.specs.Rewriting.{sameRun, coarseRow, startRun, coarseAfter, runs}
 use Rattle.format.proofs.Fields.{Fit, fit, time-is}
-use Rattle.format.proofs.Lists.{All, all-append, none, more}
+use Rattle.format.proofs.Lists.{All, none, more}
+use Rattle.format.proofs.Rows.{rows-length, rows-all, gather-all, gather-adds}
+use Rattle.format.proofs.Stores.{be-below}
 use Rattle.format.proofs.Tests.{both-true}
 use Rattle.theorems.proofs.Good.{GoodAtc, GoodStc, GoodProgram, GoodStream, GoodMap, Maps, GoodClip, none, more}
 use Rattle.theorems.proofs.Join.{GoodEntry}
 use Rattle.theorems.proofs.Write.{cells}
-
--- ---- rows one behind the other
-
-pub rows-length : {A : Type 0} (row : ℕ → A) (next : ℕ → ℕ) (p n : ℕ) → length (rowsAt row next p n) ≡ n
-rows-length row next p zero = refl
-rows-length row next p (suc n) = ap suc (rows-length row next (next p) n)
-
-pub rows-all : {A : Type 0} {P : A → Type 0} (row : ℕ → A) (next : ℕ → ℕ) → ((p : ℕ) → P (row p)) → (p n : ℕ) → All P (rowsAt row next p n)
-rows-all row next h p zero = none
-rows-all row next h p (suc n) = more (h p) (rows-all row next h (next p) n)
-
-pub gather-all : {A : Type 0} {P : A → Type 0} (rows : ℕ → List A) (next : ℕ → ℕ) → ((p : ℕ) → All P (rows p)) → (p n : ℕ) → All P (gather rows next p n)
-gather-all rows next h p zero = none
-gather-all rows next h p (suc n) = all-append (h p) (gather-all rows next h (next p) n)
-
-pub gather-adds : (head : ℕ → Row) (count : Row → ℕ) (rows : ℕ → List Row) (next : ℕ → ℕ) → ((p : ℕ) → length (rows p) ≡ count (head p))
-    → (p n : ℕ) → total count (rowsAt head next p n) ≡ length (gather rows next p n)
-gather-adds head count rows next h p zero = refl
-gather-adds head count rows next h p (suc n) =
-    let r = gather-adds head count rows next h (next p) n in
-    let e = h p in
-    rw length-append (omega arith)
 
 -- ---- letters
 
@@ -183,24 +163,19 @@ narrow c g h = record {
 -- ---- a file
 
 module _ (f : List ℕ) (bytes : IsBytes f) where
-  pub be-below : (p n : ℕ) → beAt f p n < 256 ^ n
-  unfolding beAt
-  be-below p zero = lit< tt
-  be-below p (suc n) =
-      let h = be-below p n in
-      let b = bytes (p + n) in
-      rw pow-suc (omega arith)
+  below : (p n : ℕ) → beAt f p n < 256 ^ n
+  below p n = be-below f bytes p n
 
   atc-good : (p : ℕ) → GoodAtc (atcAt f p)
-  atc-good p = fit 32 (beAt f p 4) (be-below p 4) (fit 8 (beAt f (p + 4) 1) (be-below (p + 4) 1) (fit 8 (beAt f (p + 5) 1) (be-below (p + 5) 1) Fit.none))
+  atc-good p = fit 32 (beAt f p 4) (below p 4) (fit 8 (beAt f (p + 4) 1) (below (p + 4) 1) (fit 8 (beAt f (p + 5) 1) (below (p + 5) 1) Fit.none))
 
   stc-good : (p : ℕ) → GoodStc (stcAt f p)
   stc-good p =
-      fit 16 (beAt f p 2) (be-below p 2) (fit 32 (beAt f (p + 2) 4) (be-below (p + 2) 4)
-      (fit 32 (beAt f (p + 6) 4) (be-below (p + 6) 4) (fit 32 (beAt f (p + 10) 4) (be-below (p + 10) 4) Fit.none)))
+      fit 16 (beAt f p 2) (below p 2) (fit 32 (beAt f (p + 2) 4) (below (p + 2) 4)
+      (fit 32 (beAt f (p + 6) 4) (below (p + 6) 4) (fit 32 (beAt f (p + 10) 4) (below (p + 10) 4) Fit.none)))
 
   program-good : (p : ℕ) → GoodProgram (programAt f p)
-  program-good p = fit 32 (beAt f p 4) (be-below p 4) (fit 16 (beAt f (p + 4) 2) (be-below (p + 4) 2) (fit 8 (beAt f (p + 6) 1) (be-below (p + 6) 1) Fit.none))
+  program-good p = fit 32 (beAt f p 4) (below p 4) (fit 16 (beAt f (p + 4) 2) (below (p + 4) 2) (fit 8 (beAt f (p + 6) 1) (below (p + 6) 1) Fit.none))
 
   language-facts : (v : Bool) (p size : ℕ) → (languageAt v f p size < 2 ^ 24) × (lowered (languageAt v f p size) ≡ languageAt v f p size)
   unfolding lowered lower
@@ -210,7 +185,7 @@ module _ (f : List ℕ) (bytes : IsBytes f) where
       x = beAt f (p + 2) 3
 
       go : (b : Bool) → (pick b (lowered x) 0 < 2 ^ 24) × (lowered (pick b (lowered x) 0) ≡ pick b (lowered x) 0)
-      go true = lowered-facts x (be-below (p + 2) 3)
+      go true = lowered-facts x (below (p + 2) 3)
       go false = (lit< tt, refl)
 
   only-one : (v : Bool) (p size : ℕ) → pick v (eqb (languageAt v f p size) 0) (eqb (aspectAt v f p size) 0) ≡ true
@@ -224,20 +199,20 @@ module _ (f : List ℕ) (bytes : IsBytes f) where
       let coding = codingAt f q size in
       let v = isVideo coding in
       let l = language-facts v q size in
-      let a = be-below (q + 2) 1 in
+      let a = below (q + 2) 1 in
       record {
-        cells = fit 16 (beAt f p 2) (be-below p 2) (fit 8 coding (pick-lt (leb 1 size) (beAt f q 1) 0 256 (be-below q 1) (lit< tt))
-            (fit 8 (formatAt f q size) (pick-lt (leb 2 size) (beAt f (q + 1) 1) 0 256 (be-below (q + 1) 1) (lit< tt))
+        cells = fit 16 (beAt f p 2) (below p 2) (fit 8 coding (pick-lt (leb 1 size) (beAt f q 1) 0 256 (below q 1) (lit< tt))
+            (fit 8 (formatAt f q size) (pick-lt (leb 2 size) (beAt f (q + 1) 1) 0 256 (below (q + 1) 1) (lit< tt))
             (fit 4 (aspectAt v f q size) (pick-lt (both v (leb 3 size)) (beAt f (q + 2) 1 / 16) 0 16 (omega arith) (lit< tt))
             (fit 24 (languageAt v f q size) (l .0) Fit.none))));
         only = only-one v q size;
       }
 
   map-good : (p : ℕ) → GoodMap (mapAt f p)
-  map-good p = fit 16 (beAt f p 2) (be-below p 2) (fit 4 (mapTypeAt f p) (omega arith) (fit 18 (fineCountAt f p) (omega arith) Fit.none))
+  map-good p = fit 16 (beAt f p 2) (below p 2) (fit 4 (mapTypeAt f p) (omega arith) (fit 18 (fineCountAt f p) (omega arith) Fit.none))
 
   fine-cells : (p : ℕ) → FineCells (fineAt f p)
-  fine-cells p = let b = be-below p 4 in record { angle = omega arith; i-end = omega arith; time = omega arith; packet = omega arith }
+  fine-cells p = let b = below p 4 in record { angle = omega arith; i-end = omega arith; time = omega arith; packet = omega arith }
 
   own-good : (c p : ℕ) → All (GoodEntry (mapTypeAt f p)) (entriesOf f c p)
   own-good c p =
@@ -263,7 +238,7 @@ module _ (f : List ℕ) (bytes : IsBytes f) where
   few-maps c = go (hasMaps f c)
     where
       go : (b : Bool) → pick b (beAt f (c + 7) 1) 0 ≤ 255
-      go true = let h = be-below (c + 7) 1 in omega arith
+      go true = let h = below (c + 7) 1 in omega arith
       go false = omega arith
 
   -- of any bytes, accepted or not
@@ -273,12 +248,12 @@ module _ (f : List ℕ) (bytes : IsBytes f) where
       let a = beAt f 8 4 in
       let b = beAt f 12 4 in
       let c = beAt f 16 4 in
-      let na = be-below (a + 5) 1 in
-      let nb = be-below (b + 5) 1 in
+      let na = below (a + 5) 1 in
+      let nb = below (b + 5) 1 in
       record {
-        scalars = fit 32 (beAt f 4 4) (be-below 4 4) (fit 8 (beAt f 46 1) (be-below 46 1) (fit 8 (beAt f 47 1) (be-below 47 1)
-            (fit 32 (beAt f 52 4) (be-below 52 4) (fit 32 (beAt f 56 4) (be-below 56 4) (fit 8 (beAt f 188 1) (be-below 188 1)
-            (fit 32 (beAt f 190 4) (be-below 190 4) Fit.none))))));
+        scalars = fit 32 (beAt f 4 4) (below 4 4) (fit 8 (beAt f 46 1) (below 46 1) (fit 8 (beAt f 47 1) (below 47 1)
+            (fit 32 (beAt f 52 4) (below 52 4) (fit 32 (beAt f 56 4) (below 56 4) (fit 8 (beAt f 188 1) (below 188 1)
+            (fit 32 (beAt f 190 4) (below 190 4) Fit.none))))));
         atcs-few = rw rows-length (omega arith);
         atcs-good = rows-all (atcAt f) (nextAtc f) atc-good (a + 6) (beAt f (a + 5) 1);
         stcs-good = gather-all (stcsOf f) (nextAtc f) (λ p. rows-all (stcAt f) nextStc stc-good (p + 6) (beAt f (p + 4) 1)) (a + 6) (beAt f (a + 5) 1);

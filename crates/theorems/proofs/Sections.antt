@@ -14,9 +14,9 @@ use Rattle.format.specs.Programs.{isVideo, lower, lowered, streamAt, nextStream
 use Rattle.format.specs.Rewriting.{groups, sectionBytes, atcBytes, stcBytes, sequencesBytes, programBytes, streamBytesBy, streamBytes, programsBytes}
 use Rattle.format.proofs.Fields.{Fit, one}
 use Rattle.format.proofs.Numbers.{Stands, left, right, bytes-length, Fill, fill, fields-back, fields-length}
+use Rattle.format.proofs.Rows.{as-is, map-as-is, groups-back}
 use Rattle.theorems.specs.Rewriting.{loweredStream}
 use Rattle.theorems.proofs.Good.{GoodAtc, GoodStc, GoodProgram, GoodStream, GoodClip}
-use Rattle.theorems.proofs.Groups.{as-is, map-as-is, groups-back}
 
 lowered-zero : lowered 0 ≡ 0
 unfolding lowered lower

@@ -1,39 +1,77 @@
--- Rows one behind the other, and headers with rows behind them, are read back from their bytes.
+-- Rows one behind the other, of any kind, and headers with rows behind them, are read back from their bytes.
 use Prim.Native.Nat.{ℕ, zero, suc, _+_, _*_, _-_, _<_, _≤_}
 use mathlib.Core.Path.{_≡_, refl, sym, ap, ap₂, _∙_}
 use mathlib.Core.List.{List, [], _∷_, _++_, map}
-use native.Mathlib.Nat.{add-zero, add-assoc}
+use native.Mathlib.Nat.{add-zero, add-assoc, add-comm, mul-zero, mul-suc}
 use native.Mathlib.Omega.{arith}
 use lib.ListN.{length, getD, take, drop, length-append, take-append-drop, length-drop}
 use lib.Seq.{length-take-le}
 use Rattle.format.specs.Bytes.{rowsAt, gather, endOf, flat, total}
 use Rattle.format.specs.ClipRecord.{Row}
 use Rattle.format.specs.Rewriting.{groups}
-use Rattle.format.proofs.Lists.{All, all-take, all-drop, none, more}
+use Rattle.format.proofs.Lists.{All, none, more, all-take, all-drop, all-append}
 use Rattle.format.proofs.Numbers.{Stands, left, right}
 
 -- rows that are read back as they are
-abbrev pub as-is : Row → Row
+abbrev pub as-is : {A : Type 0} → A → A
 as-is row = row
 
-pub map-as-is : (rows : List Row) → map as-is rows ≡ rows
+pub map-as-is : {A : Type 0} (rows : List A) → map as-is rows ≡ rows
 map-as-is [] = refl
-map-as-is (row ∷ rows) = ap (λ (l : List Row). row ∷ l) (map-as-is rows)
+map-as-is {A} (row ∷ rows) = ap (λ (l : List A). row ∷ l) (map-as-is rows)
+
+-- views of two lists one behind the other
+pub map-append : {A : Type 0} (view : A → A) (xs ys : List A) → map view (xs ++ ys) ≡ map view xs ++ map view ys
+map-append view [] ys = refl
+map-append {A} view (x ∷ xs) ys = ap (λ (l : List A). view x ∷ l) (map-append view xs ys)
+
+-- how many rows are read, and a fact of each
+pub rows-length : {A : Type 0} (row : ℕ → A) (next : ℕ → ℕ) (p n : ℕ) → length (rowsAt row next p n) ≡ n
+rows-length row next p zero = refl
+rows-length row next p (suc n) = ap suc (rows-length row next (next p) n)
+
+pub rows-all : {A : Type 0} {P : A → Type 0} (row : ℕ → A) (next : ℕ → ℕ) → ((p : ℕ) → P (row p)) → (p n : ℕ) → All P (rowsAt row next p n)
+rows-all row next h p zero = none
+rows-all row next h p (suc n) = more (h p) (rows-all row next h (next p) n)
+
+pub gather-all : {A : Type 0} {P : A → Type 0} (rows : ℕ → List A) (next : ℕ → ℕ) → ((p : ℕ) → All P (rows p)) → (p n : ℕ) → All P (gather rows next p n)
+gather-all rows next h p zero = none
+gather-all rows next h p (suc n) = all-append (h p) (gather-all rows next h (next p) n)
+
+-- the counts of the headers add up to the rows behind them
+pub gather-adds : (head : ℕ → Row) (count : Row → ℕ) (rows : ℕ → List Row) (next : ℕ → ℕ) → ((p : ℕ) → length (rows p) ≡ count (head p))
+    → (p n : ℕ) → total count (rowsAt head next p n) ≡ length (gather rows next p n)
+gather-adds head count rows next h p zero = refl
+gather-adds head count rows next h p (suc n) =
+    let r = gather-adds head count rows next h (next p) n in
+    let e = h p in
+    rw length-append (omega arith)
 
 -- ---- rows
 
 -- each row is read back as `view` of it
-module _ (s : List ℕ) (rowAt : ℕ → Row) (next : ℕ → ℕ) (bytes : Row → List ℕ) (view : Row → Row) (Good : Row → Type 0)
-    (back : (p : ℕ) (row : Row) → Good row → Stands s p (bytes row) → (rowAt p ≡ view row) × (next p ≡ p + length (bytes row))) where
-  pub rows-back : {rows : List Row} → All Good rows → (p : ℕ) → Stands s p (flat bytes rows)
+module _ {A : Type 0} (s : List ℕ) (rowAt : ℕ → A) (next : ℕ → ℕ) (bytes : A → List ℕ) (view : A → A) (Good : A → Type 0)
+    (back : (p : ℕ) (row : A) → Good row → Stands s p (bytes row) → (rowAt p ≡ view row) × (next p ≡ p + length (bytes row))) where
+  pub rows-back : {rows : List A} → All Good rows → (p : ℕ) → Stands s p (flat bytes rows)
       → (rowsAt rowAt next p (length rows) ≡ map view rows) × (endOf next p (length rows) ≡ p + length (flat bytes rows))
   rows-back none p t = (refl, sym (add-zero p))
   rows-back (more {x = row} {xs = rows} g gs) p t =
       let here = back p row g (left (bytes row) (flat bytes rows) t) in
       let r = rows-back gs (next p) (right (bytes row) (flat bytes rows) (next p) (sym (here .1)) t) in (
-        ap₂ (λ (x : Row) (xs : List Row). x ∷ xs) (here .0) (r .0),
+        ap₂ (λ (x : A) (xs : List A). x ∷ xs) (here .0) (r .0),
         r .1 ∙ rw (here .1, length-append) (add-assoc p (length (bytes row)) (length (flat bytes rows))),
       )
+
+-- rows of w bytes each take w times their number
+pub flat-length : {A : Type 0} (w : ℕ) (bytes : A → List ℕ) {rows : List A} → All (λ row. length (bytes row) ≡ w) rows → length (flat bytes rows) ≡ w * length rows
+flat-length w bytes none = sym (mul-zero w)
+flat-length w bytes (more {x = row} {xs = rows} h hs) =
+    length-append (bytes row) (flat bytes rows) ∙ rw (h, flat-length w bytes hs, mul-suc) (add-comm w (w * length rows))
+
+-- every row, where the fact holds of all
+pub all-rows : {A : Type 0} {P : A → Type 0} → ((row : A) → P row) → (rows : List A) → All P rows
+all-rows h [] = none
+all-rows h (row ∷ rows) = more (h row) (all-rows h rows)
 
 -- ---- headers with rows behind them
 
@@ -41,11 +79,6 @@ module _ (s : List ℕ) (headAt : ℕ → Row) (size : ℕ) (head : Row → List
     (headBack : (p : ℕ) (row : Row) → GoodHead row → Stands s p (head row) → (headAt p ≡ row) × (length (head row) ≡ size))
     (rowAt : ℕ → Row) (next : ℕ → ℕ) (bytes : Row → List ℕ) (view : Row → Row) (Good : Row → Type 0)
     (back : (p : ℕ) (row : Row) → Good row → Stands s p (bytes row) → (rowAt p ≡ view row) × (next p ≡ p + length (bytes row))) where
-  -- views of two lists one behind the other
-  map-append : (xs ys : List Row) → map view (xs ++ ys) ≡ map view xs ++ map view ys
-  map-append [] ys = refl
-  map-append (x ∷ xs) ys = ap (λ (l : List Row). view x ∷ l) (map-append xs ys)
-
   pub groups-back : {hs : List Row} → All GoodHead hs → {rows : List Row} → All Good rows → total count hs ≡ length rows
       → (p : ℕ) → Stands s p (groups head count bytes hs rows)
       → (rowsAt headAt (λ q. endOf next (q + size) (count (headAt q))) p (length hs) ≡ hs)
@@ -74,6 +107,6 @@ module _ (s : List ℕ) (headAt : ℕ → Row) (size : ℕ) (head : Row → List
       (right (head h ++ flat bytes mine) rest (endOf next (p + size) (count (headAt p))) (sym stop) t) in
       let own : rowsAt rowAt next (p + size) (count (headAt p)) ≡ map view mine = rw c (rw n at (rb .0)) in (
         ap₂ (λ (x : Row) (xs : List Row). x ∷ xs) (hb .0) (r .0),
-        ap₂ (λ (x y : List Row). x ++ y) own (r .1) ∙ sym (map-append mine later) ∙ ap (map view) (take-append-drop (count h) rows),
+        ap₂ (λ (x y : List Row). x ++ y) own (r .1) ∙ sym (map-append view mine later) ∙ ap (map view) (take-append-drop (count h) rows),
         r .2 ∙ rw (stop, length-append (head h ++ flat bytes mine) rest) (add-assoc p (length (head h ++ flat bytes mine)) (length rest)),
       )

@@ -1,0 +1,107 @@
+-- Bytes stored into a list: read back where they stand, nothing changed elsewhere; big-endian numbers and their bytes in parts.
+use Prim.Native.Nat.{ℕ, zero, suc, _+_, _*_, _/_, _%_, _^_, _<_, _≤_}
+use mathlib.Core.Path.{_≡_, refl, sym, ap, ap₂, _∙_}
+use mathlib.Core.Logic.{_⊎_, inl, inr, ⊎-elim}
+use mathlib.Core.List.{List, [], _∷_, _++_, append-assoc, append-nil}
+use native.Mathlib.Nat.{add-zero, add-suc, add-assoc, add-mul, mul-assoc, pow-suc, pow-succ', div-one, div-div-eq-div-mul, mul-add-div-right, div-add-mod'}
+use native.Mathlib.Omega.{arith}
+use lib.ListN.{length, getD, take, drop, set, length-append}
+use lib.Seq.{sets, sets-eq, getD-set-other, length-take-le}
+use lib.Dec.{lit<}
+use Rattle.format.specs.Bytes.{beAt, bytesOf}
+use Rattle.format.proofs.Numbers.{Stands, bytes-length, number-back}
+
+-- ---- stores into any list
+
+-- m places from p and n places from q share none
+abbrev pub Apart : ℕ → ℕ → ℕ → ℕ → Type 0
+Apart p m q n = (p + m ≤ q) ⊎ (q + n ≤ p)
+
+-- a place that no store meets keeps its value
+kept : (l : List ℕ) (i : ℕ) (vs : List ℕ) (k : ℕ) → Apart k 1 i (length vs) → getD (sets l i vs) k 0 ≡ getD l k 0
+kept l i [] k h = refl
+kept l i (v ∷ vs) k h =
+    let other : k ≡ i → ⊥ = λ e. ⊎-elim (λ a. omega arith) (λ a. omega arith) h in
+    let later : Apart k 1 (suc i) (length vs) = ⊎-elim (λ a. inl (omega arith)) (λ a. inr (omega arith)) h in
+    kept (set l i v) (suc i) vs k later ∙ getD-set-other l i k v 0 other
+
+-- so does each of n places that no store meets
+pub part-kept : (l : List ℕ) (i : ℕ) (vs : List ℕ) (p n : ℕ) → Apart p n i (length vs)
+    → (k : ℕ) → k < n → getD (sets l i vs) (p + k) 0 ≡ getD l (p + k) 0
+part-kept l i vs p n h k b = kept l i vs (p + k) (⊎-elim (λ a. inl (omega arith)) (λ a. inr (omega arith)) h)
+
+-- what is stored stands where it was stored
+pub stored : (l : List ℕ) (i : ℕ) (vs : List ℕ) → i + length vs ≤ length l → Stands (sets l i vs) i vs
+stored l i vs h = record {
+  before = take i l;
+  behind = drop (i + length vs) l;
+  place = length-take-le i l (omega arith);
+  whole = sets-eq vs l i h ∙ append-assoc (take i l) vs (drop (i + length vs) l);
+}
+
+-- two parts stored one behind the other are one store of both
+pub sets-append : (l : List ℕ) (i : ℕ) (vs ws : List ℕ) → sets l i (vs ++ ws) ≡ sets (sets l i vs) (i + length vs) ws
+sets-append l i [] ws = rw (add-zero i)
+sets-append l i (v ∷ vs) ws =
+    let e : suc i + length vs ≡ i + suc (length vs) = omega arith in
+    sets-append (set l i v) (suc i) vs ws ∙ ap (λ (k : ℕ). sets (sets (set l i v) (suc i) vs) k ws) e
+
+-- ---- big-endian numbers
+
+-- the same bytes are the same number
+pub be-same : (s t : List ℕ) (p q n : ℕ) → ((k : ℕ) → k < n → getD s (p + k) 0 ≡ getD t (q + k) 0) → beAt s p n ≡ beAt t q n
+unfolding beAt
+be-same s t p q zero h = refl
+be-same s t p q (suc n) h = rw (be-same s t p q n (λ k b. h k (omega arith)), h n (omega arith))
+
+-- a number that no store meets is what it was
+pub be-kept : (l : List ℕ) (i : ℕ) (vs : List ℕ) (p n : ℕ) → Apart p n i (length vs) → beAt (sets l i vs) p n ≡ beAt l p n
+be-kept l i vs p n h = be-same (sets l i vs) l p p n (part-kept l i vs p n h)
+
+-- a stored number reads back
+pub be-stored : (l : List ℕ) (i n v : ℕ) → v < 256 ^ n → i + n ≤ length l → beAt (sets l i (bytesOf n v)) i n ≡ v
+be-stored l i n v h room = number-back n v (stored l i (bytesOf n v) (omega (arith, bytes-length n v))) h
+
+-- a number of n bytes, each below 256, is below 256 ^ n
+pub be-below : (s : List ℕ) → ((i : ℕ) → getD s i 0 < 256) → (p n : ℕ) → beAt s p n < 256 ^ n
+unfolding beAt
+be-below s h p zero = omega arith
+be-below s h p (suc n) = rw pow-suc (omega (arith, be-below s h p n, h (p + n)))
+
+-- a number of m + n bytes is that of the first m above that of the last n
+pub be-parts : (s : List ℕ) (p m n : ℕ) → beAt s p (m + n) ≡ beAt s p m * 256 ^ n + beAt s (p + m) n
+unfolding beAt
+be-parts s p m zero = rw (add-zero m) (omega arith)
+be-parts s p m (suc n) =
+    let high = beAt s p m in
+    let low = beAt s (p + m) n in
+    let place : p + (m + n) ≡ p + m + n = sym (add-assoc p m n) in
+    let widen : high * (256 ^ n * 256) ≡ high * 256 ^ n * 256 = sym (mul-assoc high (256 ^ n) 256) in
+    rw (add-suc m n, be-parts s p m n, place, pow-suc, widen) (omega arith)
+
+-- ---- the bytes of a number
+
+-- a shift by one byte and by n is one by the next number of bytes
+pub div-bytes : (v n : ℕ) → v / 256 / 256 ^ n ≡ v / 256 ^ suc n
+div-bytes v n = div-div-eq-div-mul v 256 (256 ^ n) ∙ ap (λ (d : ℕ). v / d) (sym (pow-succ' 256 n))
+
+-- m + n bytes are the m above the last n, and these
+pub bytes-parts : (m n v : ℕ) → bytesOf (m + n) v ≡ bytesOf m (v / 256 ^ n) ++ bytesOf n v
+unfolding bytesOf
+bytes-parts m zero v = rw (add-zero m, div-one v) (sym (append-nil (bytesOf m v)))
+bytes-parts m (suc n) v =
+    rw (add-suc m n, bytes-parts m n (v / 256), div-bytes v n) (append-assoc (bytesOf m (v / 256 ^ suc n)) (bytesOf n (v / 256)) (v % 256 ∷ []))
+
+-- what stands above the n bytes does not show in them
+bytes-above : (n a v : ℕ) → bytesOf n (a * 256 ^ n + v) ≡ bytesOf n v
+unfolding bytesOf
+bytes-above zero a v = refl
+bytes-above (suc n) a v =
+    let e : a * 256 ^ suc n ≡ a * 256 ^ n * 256 = ap (λ (d : ℕ). a * d) (pow-suc 256 n) ∙ sym (mul-assoc a (256 ^ n) 256) in
+    let high : (a * 256 ^ n * 256 + v) / 256 ≡ a * 256 ^ n + v / 256 = omega arith in
+    let low : (a * 256 ^ n * 256 + v) % 256 ≡ v % 256 = omega arith in
+    rw (e, high, low, bytes-above n a (v / 256))
+
+-- so the n bytes are those of what they can hold
+pub bytes-low : (n v : ℕ) → bytesOf n (v % 256 ^ n) ≡ bytesOf n v
+bytes-low n v = sym (bytes-above n (v / 256 ^ n) (v % 256 ^ n)) ∙ ap (bytesOf n) (div-add-mod' v (256 ^ n))
