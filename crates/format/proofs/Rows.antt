@@ -12,13 +12,21 @@ use Rattle.format.specs.Rewriting.{groups}
 use Rattle.format.proofs.Lists.{All, none, more, all-take, all-drop, all-append}
 use Rattle.format.proofs.Numbers.{Stands, left, right}
 
--- rows that are read back as they are
+-- every row, where the fact holds of all
+pub all-rows : {A : Type 0} {P : A → Type 0} → ((row : A) → P row) → (rows : List A) → All P rows
+all-rows h [] = none
+all-rows h (row ∷ rows) = more (h row) (all-rows h rows)
+
+-- rows that are read back as they are, and views that change none of them
 abbrev pub as-is : {A : Type 0} → A → A
 as-is row = row
 
+pub map-fixed : {A : Type 0} (view : A → A) {rows : List A} → All (λ row. view row ≡ row) rows → map view rows ≡ rows
+map-fixed view none = refl
+map-fixed {A} view (more h hs) = ap₂ (λ (x : A) (xs : List A). x ∷ xs) h (map-fixed view hs)
+
 pub map-as-is : {A : Type 0} (rows : List A) → map as-is rows ≡ rows
-map-as-is [] = refl
-map-as-is {A} (row ∷ rows) = ap (λ (l : List A). row ∷ l) (map-as-is rows)
+map-as-is rows = map-fixed as-is (all-rows (λ row. refl) rows)
 
 -- views of two lists one behind the other
 pub map-append : {A : Type 0} (view : A → A) (xs ys : List A) → map view (xs ++ ys) ≡ map view xs ++ map view ys
@@ -67,11 +75,6 @@ pub flat-length : {A : Type 0} (w : ℕ) (bytes : A → List ℕ) {rows : List A
 flat-length w bytes none = sym (mul-zero w)
 flat-length w bytes (more {x = row} {xs = rows} h hs) =
     length-append (bytes row) (flat bytes rows) ∙ rw (h, flat-length w bytes hs, mul-suc) (add-comm w (w * length rows))
-
--- every row, where the fact holds of all
-pub all-rows : {A : Type 0} {P : A → Type 0} → ((row : A) → P row) → (rows : List A) → All P rows
-all-rows h [] = none
-all-rows h (row ∷ rows) = more (h row) (all-rows h rows)
 
 -- ---- headers with rows behind them
 

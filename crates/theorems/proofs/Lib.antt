@@ -12,3 +12,5 @@ pub mod Read
 pub mod Write
 pub mod Whole
 pub mod Maker
+pub mod Lent
+pub mod Rewriting

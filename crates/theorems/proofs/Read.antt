@@ -1,7 +1,7 @@
 -- What is read of a list of bytes is a record that can be written.
 use Prim.Native.Nat.{ℕ, zero, suc, _+_, _*_, _/_, _%_, _^_, _<_, _≤_, max}
 use mathlib.Core.Path.{_≡_, refl, sym, ap, ap₂, _∙_}
-use mathlib.Core.List.{List, [], _∷_, _++_}
+use mathlib.Core.List.{List, [], _∷_, _++_, map}
 use mathlib.Core.Bool.{Bool, true, false, not}
 use native.Mathlib.Nat.{add-zero, add-assoc, pow-suc}
 use native.Mathlib.Omega.{arith}
@@ -18,9 +18,10 @@ use Rattle.format.specs.Refusals.{everyMap, runsFit}
 use Rattle.format.specs.Rewriting.{sameRun, coarseRow, startRun, coarseAfter, runs}
 use Rattle.format.proofs.Fields.{Fit, fit, time-is}
 use Rattle.format.proofs.Lists.{All, none, more}
-use Rattle.format.proofs.Rows.{rows-length, rows-all, gather-all, gather-adds}
+use Rattle.format.proofs.Rows.{map-fixed, rows-length, rows-all, gather-all, gather-adds}
 use Rattle.format.proofs.Stores.{be-below}
 use Rattle.format.proofs.Tests.{both-true}
+use Rattle.theorems.specs.Rewriting.{loweredStream}
 use Rattle.theorems.proofs.Good.{GoodAtc, GoodStc, GoodProgram, GoodStream, GoodMap, Maps, GoodClip, none, more}
 use Rattle.theorems.proofs.Join.{GoodEntry}
 use Rattle.theorems.proofs.Write.{cells}
@@ -207,6 +208,19 @@ module _ (f : List ℕ) (bytes : IsBytes f) where
             (fit 24 (languageAt v f q size) (l .0) Fit.none))));
         only = only-one v q size;
       }
+
+  stream-low : (p : ℕ) → loweredStream (streamAt f p) ≡ streamAt f p
+  stream-low p =
+      let size = beAt f (p + 2) 1 in
+      let v = isVideo (codingAt f (p + 3) size) in
+      rw (language-facts v (p + 3) size .1)
+
+  -- languages that were read are lowered already
+  pub lowered-streams : (start : ℕ) → map loweredStream (streamsFrom f start) ≡ streamsFrom f start
+  unfolding streamsFrom
+  lowered-streams start =
+      map-fixed loweredStream
+      (gather-all (streamsOf f) (nextProgram f) (λ p. rows-all (streamAt f) (nextStream f) stream-low (p + 8) (beAt f (p + 6) 1)) (start + 6) (beAt f (start + 5) 1))
 
   map-good : (p : ℕ) → GoodMap (mapAt f p)
   map-good p = fit 16 (beAt f p 2) (below p 2) (fit 4 (mapTypeAt f p) (omega arith) (fit 18 (fineCountAt f p) (omega arith) Fit.none))

@@ -9,10 +9,11 @@ use lib.ListN.{length, getD, length-append}
 use lib.Dec.{leb, eqb, lit<}
 use borrow.Author.Tests.{le-leb}
 use Rattle.format.specs.Bytes.{beAt, fieldBytes, fieldsAt}
-use Rattle.format.specs.ClipRecord.{Clip, lettersRight, scalarsOf, clipInfoIn, atcsFrom, stcsFrom, sequencesEnd, marksIn}
+use Rattle.format.specs.ClipRecord.{Clip, lettersRight, scalarsOf, clipInfoIn, atcsFrom, stcsFrom, sequencesEnd, marksFrom, marksIn}
 use Rattle.format.specs.EntryPoints.{mapsFrom, entriesFrom, cpiIn, mapsIn}
+use Rattle.format.specs.Extensions.{extensionRows, extensionsFrom, listData, listIn}
 use Rattle.format.specs.Programs.{programsFrom, streamsFrom, programsEnd}
-use Rattle.format.specs.Reading.{clipOf}
+use Rattle.format.specs.Reading.{clipOf, recordOf}
 use Rattle.format.specs.Refusals.{refusalOf}
 use Rattle.format.specs.Rewriting.{sequencesBytes, programsBytes, cpiBytes, headWidths, headValues, headBytes, marksBytes, encode}
 use Rattle.format.proofs.Fields.{Fit, one}
@@ -49,6 +50,7 @@ record Facts (c : Clip) (g : List ℕ) (pr cp mk : ℕ) : Type 0 where
   sequences-at : Stands g 220 (sequencesBytes c)
   programs-at : Stands g pr (programsBytes c)
   cpi-at : Stands g cp (cpiBytes c)
+  marks-at : Stands g mk marksBytes
 
 module _ (c : Clip) (good : GoodClip 65535 c) where
   abbrev pr : ℕ
@@ -89,6 +91,7 @@ module _ (c : Clip) (good : GoodClip 65535 c) where
         sequences-at = left sq r2 t1;
         programs-at = left pg r3 t2;
         cpi-at = left ci marksBytes t3;
+        marks-at = right ci marksBytes mk refl t3;
       }
 
 -- ---- what is read of it
@@ -97,8 +100,8 @@ module _ (c : Clip) (good : GoodClip 65535 c) where
   at : (i : ℕ) → getD (fieldsAt (encode c) 0 headWidths) i 0 ≡ getD (headValues c (pr c good) (cp c good) (mk c good)) i 0
   at i = ap (λ (l : List ℕ). getD l i 0) (facts c good .head)
 
-  pub long : length (encode c) ≤ 402515706
-  long =
+  pub is-short : length (encode c) ≤ 402515706
+  is-short =
       let sb = sequences-bound c good in
       let pb = programs-bound c good in
       let cb = cpi-bound c good in
@@ -145,11 +148,25 @@ module _ (c : Clip) (good : GoodClip 65535 c) where
       let n : entriesFrom (encode c) (beAt (encode c) 16 4) ≡ c .entries = rw (at 4) (cpi .1) in
       λ i. record { scalars = scalars i; atcs = a i; stcs = b i; programs = d i; streams = e i; maps = m i; entries = n i }
 
-  pub accepted : refusalOf (encode c) ≡ 0
+  -- no marks, and no extensions
+  marks : marksFrom (encode c) (mk c good) ≡ 0
+  unfolding marksFrom
+  marks =
+      let l = facts c good .long in
+      let f : Fill (4 ∷ 2 ∷ []) (2 ∷ 0 ∷ []) = fill 4 2 (lit< tt) (fill 2 0 (lit< tt) Fill.none) in
+      let b : beAt (encode c) (mk c good + 4) 2 ≡ 0 = ap (λ (l : List ℕ). getD l 1 0) (fields-back (mk c good) f (facts c good .marks-at)) in
+      rw (is-present (encode c) (mk c good) (omega arith) (omega arith)) b
+
+  pub record-back : recordOf (encode c)
+      ≡ record { clip = loweredClip c; marks = 0; extensions = []; hasList = false; listPrograms = []; listStreams = [] }
+  unfolding recordOf extensionsFrom extensionRows listData listIn
+  record-back = rw (reads-back, at 5, at 6, marks)
+
+  pub is-accepted : refusalOf (encode c) ≡ 0
   unfolding refusalOf lettersRight clipInfoIn marksIn
-  accepted =
+  is-accepted =
       let n = length (encode c) in
-      let bound = long in
+      let bound = is-short in
       let l = facts c good .long in
       let t2 : lettersRight (encode c) ≡ true = rw (at 0) in
       let t3 : clipInfoIn (encode c) ≡ true = true-both (le-leb 194 n (omega arith)) (rw (at 8) (le-leb 220 n (omega arith))) in

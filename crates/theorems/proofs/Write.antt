@@ -122,7 +122,7 @@ maps-add (Maps.more {own = own} {rest = rest} g size good few later) =
     let r = maps-add later in
     rw length-append (omega arith)
 
-maps-fit : {most : ℕ} {ms es : List Row} → Maps most ms es → All GoodMap ms
+pub maps-fit : {most : ℕ} {ms es : List Row} → Maps most ms es → All GoodMap ms
 maps-fit Maps.none = none
 maps-fit (Maps.more g size good few later) = more g (maps-fit later)
 

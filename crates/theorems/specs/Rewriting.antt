@@ -1,23 +1,109 @@
 -- Demand 3: what rewriting promises of every accepted file, however it is laid out.
-use Prim.Native.Nat.{ℕ, _<_, _≤_}
+use Prim.Native.Nat.{ℕ, _≤_}
 use mathlib.Core.Path.{_≡_}
 use mathlib.Core.List.{List, [], _∷_, _++_, map}
-use mathlib.Core.Bool.{Bool, true, false}
+use mathlib.Core.Bool.{true, false}
 use lib.ListN.{length, getD, drop}
-use Rattle.format.specs.Bytes.{IsBytes}
+use Rattle.format.specs.Bytes.{IsBytes, unless}
 use Rattle.format.specs.ClipRecord.{Row, Clip, Record, streamPid, codingType, formatByte, aspect, language}
 use Rattle.format.specs.Programs.{lowered}
 use Rattle.format.specs.Reading.{recordOf}
-use Rattle.format.specs.Tables.{Table, Lent, tableBytes, rowsLent, overwritten}
+use Rattle.format.specs.Tables.{Table, Lent, tableBytes, rowsLent}
 use Rattle.format.specs.Questions.{Question, ask}
 use Rattle.format.specs.Rewriting.{encode}
-use Rattle.format.specs.Refusals.{refusalOf, ReadAnswer, readAnswer, tablesOf, tableCells, tablesAfter, countsAdd, cellsFit, runsFit, writeRefusal, WriteAnswer, writeAnswer, outputAfter}
+use Rattle.format.specs.Refusals.{refusalOf, accepted, readAnswer, tablesOf, tableCells, tablesAfter, countsAdd, cellsFit, runsFit, writeRefusal, written, writeAnswer, outputAfter}
+
+-- ---- the files meant, and their new files
+
+-- an accepted file, each of whose maps has at most 65,535 runs
+pub record Rewritable (f : List ℕ) : Type 0 where
+  pub bytes : IsBytes f
+  pub accepted : refusalOf f ≡ 0
+  pub runs : runsFit (recordOf f .clip) ≡ true
+
+-- the new file
+abbrev pub rewritten : List ℕ → List ℕ
+rewritten f = encode (recordOf f .clip)
+
+-- what rewriting loses: the mark count, tables 7 to 9, and the (2, 5) list
+abbrev pub withoutExtensions : Record → Record
+withoutExtensions r =
+    record { clip = r .clip; marks = 0; extensions = []; hasList = false; listPrograms = []; listStreams = [] }
+
+-- ---- tables
+
+-- each lent table has room for its rows, and may be longer and hold anything
+pub data Room : List ℕ → List (List Row) → List (List ℕ) → Type 0 where
+  none : Room [] [] []
+  more : {cells : ℕ} {rows : List Row} {t : List ℕ} {later : List ℕ} {needed : List (List Row)} {lent : List (List ℕ)}
+      → length rows ≤ rowsLent cells t → Room later needed lent → Room (cells ∷ later) (rows ∷ needed) (t ∷ lent)
+
+-- table k as reading left it, with the rows that reading stated
+abbrev pub leftIn : List ℕ → List (List ℕ) → ℕ → Table
+leftIn f lent k = record { bytes = getD (tablesAfter f lent) k []; rows = length (getD (tablesOf f) k []) }
+
+-- the very tables that reading filled, handed over for writing
+unfoldable pub handedOver : List ℕ → List (List ℕ) → Lent
+handedOver f lent = record {
+  scalars = recordOf f .clip .scalars;
+  atcs = leftIn f lent 0;
+  stcs = leftIn f lent 1;
+  programs = leftIn f lent 2;
+  streams = leftIn f lent 3;
+  maps = leftIn f lent 4;
+  entries = leftIn f lent 5;
+}
+
+-- a table that holds these rows, with anything beyond them
+pub record HoldsRows (t : Table) (rows : List Row) : Type 0 where
+  pub stated : t .rows ≡ length rows
+  pub beyond : List ℕ
+  pub bytes : t .bytes ≡ tableBytes rows ++ beyond
+
+-- tables that hold a record's rows
+pub record HoldsClip (l : Lent) (c : Clip) : Type 0 where
+  pub scalars : l .scalars ≡ c .scalars
+  pub atcs : HoldsRows (l .atcs) (c .atcs)
+  pub stcs : HoldsRows (l .stcs) (c .stcs)
+  pub programs : HoldsRows (l .programs) (c .programs)
+  pub streams : HoldsRows (l .streams) (c .streams)
+  pub maps : HoldsRows (l .maps) (c .maps)
+  pub entries : HoldsRows (l .entries) (c .entries)
+
+-- ---- the promise
+
+-- rewriting, which is reading and then writing, refuses nothing, and puts the new file at the front of the output
+pub record Succeeds (f : List ℕ) (lent : List (List ℕ)) (out : List ℕ) : Type 0 where
+  pub reads : readAnswer f lent ≡ accepted
+  pub holds : HoldsClip (handedOver f lent) (recordOf f .clip)
+  pub writes : writeAnswer (handedOver f lent) out ≡ written (length (rewritten f))
+  pub output : outputAfter (handedOver f lent) out ≡ rewritten f ++ drop (length (rewritten f)) out
+
+pub record RewritingKeeps (f : List ℕ) : Type 0 where
+  -- 1. where the buffers suffice, rewriting succeeds
+  pub succeeds : (lent : List (List ℕ)) (out : List ℕ) → Room tableCells (tablesOf f) lent → length (rewritten f) ≤ length out → Succeeds f lent out
+  -- 2. the new file is accepted, and well below the greatest length
+  pub short : length (rewritten f) ≤ 402515706
+  pub new : refusalOf (rewritten f) ≡ 0
+  -- 3. it reads to the same record apart from mark count and extensions
+  pub same : recordOf (rewritten f) ≡ withoutExtensions (recordOf f)
+  -- 4. every lookup, whatever it is asked, answers alike from the old file and the new, with none and refusals the same
+  pub alike : (question : Question) (old new : Lent) → HoldsClip old (recordOf f .clip) → HoldsClip new (recordOf (rewritten f) .clip)
+      → ask question old ≡ ask question new
+  -- 5. any two such files rewrite to equal bytes exactly when their records, compared in that way, are equal
+  pub equal-bytes : (f₂ : List ℕ) → Rewritable f₂ → rewritten f ≡ rewritten f₂ → recordOf f .clip ≡ recordOf f₂ .clip
+  pub equal-records : (f₂ : List ℕ) → Rewritable f₂ → recordOf f .clip ≡ recordOf f₂ .clip → rewritten f ≡ rewritten f₂
+  -- 6. the new file is such a file too, and rewriting it changes no byte
+  pub again : Rewritable (rewritten f)
+  pub stable : rewritten (rewritten f) ≡ rewritten f
+
+-- ---- what a file's record can look like, so that 1 has a reason: neither 22 nor 30 can hold of it
 
 -- a stream with its language lowered
 abbrev pub loweredStream : Row → Row
 loweredStream s = streamPid s ∷ codingType s ∷ formatByte s ∷ aspect s ∷ lowered (language s) ∷ []
 
--- a record with its languages lowered, as reading gives them
+-- a record with its languages lowered
 unfoldable pub loweredClip : Clip → Clip
 loweredClip c = record {
   scalars = c .scalars;
@@ -28,3 +114,18 @@ loweredClip c = record {
   maps = c .maps;
   entries = c .entries;
 }
+
+-- of any bytes, accepted or not: the counts add up, every cell fits, languages are lowered; only 31 can refuse it
+pub record FromFile (f : List ℕ) : Type 0 where
+  pub adds-up : countsAdd (recordOf f .clip) ≡ true
+  pub fits : cellsFit (recordOf f .clip) ≡ true
+  pub lowered : loweredClip (recordOf f .clip) ≡ recordOf f .clip
+  pub only-31 : writeRefusal (recordOf f .clip) ≡ unless (runsFit (recordOf f .clip)) 31 0
+
+-- ---- a record made by hand that writing does not refuse: what is written is accepted and reads to it, its languages lowered
+
+pub record Made (c : Clip) : Type 0 where
+  pub bytes : IsBytes (encode c)
+  pub short : length (encode c) ≤ 402515706
+  pub accepted : refusalOf (encode c) ≡ 0
+  pub reads : recordOf (encode c) .clip ≡ loweredClip c
