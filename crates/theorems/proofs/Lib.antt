@@ -14,3 +14,4 @@ pub mod Whole
 pub mod Maker
 pub mod Lent
 pub mod Rewriting
+pub mod Extensions

@@ -4,3 +4,4 @@ pub mod ListingExample
 pub mod BitFields
 pub mod ReadByRead
 pub mod Rewriting
+pub mod Extensions
