@@ -7,4 +7,15 @@ pub mod Stores
 pub mod Cells
 pub mod Rows
 pub mod Tables
+pub mod ReadByRead
+pub mod Join
+pub mod Good
+pub mod Sections
+pub mod Cpi
+pub mod Lengths
+pub mod Read
+pub mod Write
+pub mod Whole
+pub mod Maker
+pub mod Lent
 pub mod Rounding

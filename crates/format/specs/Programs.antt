@@ -1,10 +1,10 @@
 -- "Programs and languages": u32 length (ignored), a spare byte, u8 count; each program with its streams behind it.
 use Prim.Native.Nat.{ℕ, _+_, _*_, _/_, _%_}
-use mathlib.Core.List.{List, [], _∷_}
+use mathlib.Core.List.{List, [], _∷_, map}
 use mathlib.Core.Bool.{Bool, not}
 use lib.Dec.{leb, eqb}
 use Rattle.format.specs.Bytes.{both, either, pick, beAt, rowsAt, gather, endOf}
-use Rattle.format.specs.ClipRecord.{Row}
+use Rattle.format.specs.ClipRecord.{Row, Clip, streamPid, codingType, formatByte, aspect, language}
 
 -- ---- streams
 
@@ -68,3 +68,19 @@ streamsFrom f start = gather (streamsOf f) (nextProgram f) (start + 6) (beAt f (
 
 unfoldable pub programsEnd : List ℕ → ℕ → ℕ
 programsEnd f start = endOf (nextProgram f) (start + 6) (beAt f (start + 5) 1)
+
+-- ---- a record with its languages lowered: what reading gives of a record that was made by hand and written
+
+abbrev pub loweredStream : Row → Row
+loweredStream s = streamPid s ∷ codingType s ∷ formatByte s ∷ aspect s ∷ lowered (language s) ∷ []
+
+unfoldable pub loweredClip : Clip → Clip
+loweredClip c = record {
+  scalars = c .scalars;
+  atcs = c .atcs;
+  stcs = c .stcs;
+  programs = c .programs;
+  streams = map loweredStream (c .streams);
+  maps = c .maps;
+  entries = c .entries;
+}

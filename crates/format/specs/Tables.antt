@@ -1,5 +1,6 @@
 -- Lent tables: row after row, a row its cells, a cell four bytes, the lowest first.
-use Prim.Native.Nat.{ℕ, zero, suc, _+_, _*_, _/_, _%_, _^_}
+use Prim.Native.Nat.{ℕ, zero, suc, _+_, _*_, _/_, _%_, _^_, _≤_}
+use mathlib.Core.Path.{_≡_}
 use mathlib.Core.List.{List, [], _∷_, _++_}
 use mathlib.Core.Bool.{Bool}
 use lib.ListN.{length, getD, drop}
@@ -106,3 +107,26 @@ clipIn l = record {
   maps = rowsOf mapCells (l .maps);
   entries = rowsOf entryCells (l .entries);
 }
+
+-- ---- tables that hold a record
+
+-- a table that holds these rows, with anything beyond them
+pub record HoldsRows (t : Table) (rows : List Row) : Type 0 where
+  pub stated : t .rows ≡ length rows
+  pub beyond : List ℕ
+  pub bytes : t .bytes ≡ tableBytes rows ++ beyond
+
+pub record HoldsClip (l : Lent) (c : Clip) : Type 0 where
+  pub scalars : l .scalars ≡ c .scalars
+  pub atcs : HoldsRows (l .atcs) (c .atcs)
+  pub stcs : HoldsRows (l .stcs) (c .stcs)
+  pub programs : HoldsRows (l .programs) (c .programs)
+  pub streams : HoldsRows (l .streams) (c .streams)
+  pub maps : HoldsRows (l .maps) (c .maps)
+  pub entries : HoldsRows (l .entries) (c .entries)
+
+-- lent tables that have room for their rows, each row of so many cells; they may be longer and hold anything
+pub data Room : List ℕ → List (List Row) → List (List ℕ) → Type 0 where
+  none : Room [] [] []
+  more : {cells : ℕ} {rows : List Row} {t : List ℕ} {later : List ℕ} {needed : List (List Row)} {lent : List (List ℕ)}
+      → length rows ≤ rowsLent cells t → Room later needed lent → Room (cells ∷ later) (rows ∷ needed) (t ∷ lent)

@@ -9,16 +9,18 @@ use borrow.Author.Tests.{le-leb}
 use Rattle.format.specs.Bytes.{IsBytes, unless}
 use Rattle.format.specs.ClipRecord.{Clip, Record, programsStart}
 use Rattle.format.specs.Reading.{clipOf, recordOf}
-use Rattle.format.specs.Tables.{Lent, tableBytes, overwritten, clipIn}
+use Rattle.format.specs.Programs.{loweredClip}
+use Rattle.format.specs.Tables.{Lent, tableBytes, HoldsRows, HoldsClip, Room}
 use Rattle.format.specs.Questions.{Question, ask, answer}
 use Rattle.format.specs.Rewriting.{encode}
 use Rattle.format.specs.Refusals.{refusalOf, accepted, readAnswer, tablesOf, tableCells, tablesAfter, filled, countsAdd, cellsFit, runsFit, writeRefusal, written, writeAnswer, outputAfter, writtenIn}
-use Rattle.theorems.specs.Rewriting.{Rewritable, rewritten, withoutExtensions, Room, leftIn, handedOver, HoldsRows, HoldsClip, Succeeds, RewritingKeeps, FromFile, loweredClip}
-use Rattle.theorems.proofs.Good.{GoodClip}
-use Rattle.theorems.proofs.Read.{good-clip, narrow, lowered-streams}
-use Rattle.theorems.proofs.Write.{encode-bytes, counts, cells, runs-fit, written as not-refused}
-use Rattle.theorems.proofs.Whole.{is-short, is-accepted, reads-back, record-back}
-use Rattle.theorems.proofs.Lent.{shaped, clip-held, all-stated, asked, no-short, filled-at}
+use Rattle.theorems.specs.Rewriting.{Rewritable, rewritten, withoutExtensions, leftIn, handedOver, Succeeds, RewritingKeeps, FromFile, Made}
+use Rattle.format.proofs.Good.{GoodClip}
+use Rattle.format.proofs.Read.{good-clip, narrow, lowered-streams}
+use Rattle.format.proofs.Write.{encode-bytes, counts, cells, runs-fit, written as not-refused}
+use Rattle.format.proofs.Whole.{is-short, is-accepted, reads-back, record-back}
+use Rattle.format.proofs.Maker.{good-made}
+use Rattle.format.proofs.Lent.{shaped, clip-held, all-stated, asked, no-short, filled-at}
 
 -- ---- a file's record
 
@@ -39,6 +41,14 @@ from-file f bytes =
     let a = counts 262143 c g in
     let b = cells 262143 c g in
     record { adds-up = a; fits = b; lowered = low-of f bytes; only-31 = rw (a, b) }
+
+-- ---- a record made by hand
+
+pub made : (c : Clip) → writeRefusal c ≡ 0 → Made c
+unfolding recordOf
+made c h =
+    let g = good-made c h in
+    record { bytes = encode-bytes c; short = is-short c g; accepted = is-accepted c g; reads = reads-back c g }
 
 -- ---- the six parts
 

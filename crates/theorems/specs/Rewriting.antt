@@ -1,14 +1,14 @@
 -- Demand 3: what rewriting promises of every accepted file, however it is laid out.
 use Prim.Native.Nat.{ℕ, _≤_}
 use mathlib.Core.Path.{_≡_}
-use mathlib.Core.List.{List, [], _∷_, _++_, map}
+use mathlib.Core.List.{List, [], _++_}
 use mathlib.Core.Bool.{true, false}
 use lib.ListN.{length, getD, drop}
 use Rattle.format.specs.Bytes.{IsBytes, unless}
-use Rattle.format.specs.ClipRecord.{Row, Clip, Record, streamPid, codingType, formatByte, aspect, language}
-use Rattle.format.specs.Programs.{lowered}
+use Rattle.format.specs.ClipRecord.{Clip, Record}
+use Rattle.format.specs.Programs.{loweredClip}
 use Rattle.format.specs.Reading.{recordOf}
-use Rattle.format.specs.Tables.{Table, Lent, tableBytes, rowsLent}
+use Rattle.format.specs.Tables.{Table, Lent, HoldsClip, Room}
 use Rattle.format.specs.Questions.{Question, ask}
 use Rattle.format.specs.Rewriting.{encode}
 use Rattle.format.specs.Refusals.{refusalOf, accepted, readAnswer, tablesOf, tableCells, tablesAfter, countsAdd, cellsFit, runsFit, writeRefusal, written, writeAnswer, outputAfter}
@@ -30,13 +30,7 @@ abbrev pub withoutExtensions : Record → Record
 withoutExtensions r =
     record { clip = r .clip; marks = 0; extensions = []; hasList = false; listPrograms = []; listStreams = [] }
 
--- ---- tables
-
--- each lent table has room for its rows, and may be longer and hold anything
-pub data Room : List ℕ → List (List Row) → List (List ℕ) → Type 0 where
-  none : Room [] [] []
-  more : {cells : ℕ} {rows : List Row} {t : List ℕ} {later : List ℕ} {needed : List (List Row)} {lent : List (List ℕ)}
-      → length rows ≤ rowsLent cells t → Room later needed lent → Room (cells ∷ later) (rows ∷ needed) (t ∷ lent)
+-- ---- rewriting through lent tables
 
 -- table k as reading left it, with the rows that reading stated
 abbrev pub leftIn : List ℕ → List (List ℕ) → ℕ → Table
@@ -53,22 +47,6 @@ handedOver f lent = record {
   maps = leftIn f lent 4;
   entries = leftIn f lent 5;
 }
-
--- a table that holds these rows, with anything beyond them
-pub record HoldsRows (t : Table) (rows : List Row) : Type 0 where
-  pub stated : t .rows ≡ length rows
-  pub beyond : List ℕ
-  pub bytes : t .bytes ≡ tableBytes rows ++ beyond
-
--- tables that hold a record's rows
-pub record HoldsClip (l : Lent) (c : Clip) : Type 0 where
-  pub scalars : l .scalars ≡ c .scalars
-  pub atcs : HoldsRows (l .atcs) (c .atcs)
-  pub stcs : HoldsRows (l .stcs) (c .stcs)
-  pub programs : HoldsRows (l .programs) (c .programs)
-  pub streams : HoldsRows (l .streams) (c .streams)
-  pub maps : HoldsRows (l .maps) (c .maps)
-  pub entries : HoldsRows (l .entries) (c .entries)
 
 -- ---- the promise
 
@@ -98,22 +76,6 @@ pub record RewritingKeeps (f : List ℕ) : Type 0 where
   pub stable : rewritten (rewritten f) ≡ rewritten f
 
 -- ---- what a file's record can look like, so that 1 has a reason: neither 22 nor 30 can hold of it
-
--- a stream with its language lowered
-abbrev pub loweredStream : Row → Row
-loweredStream s = streamPid s ∷ codingType s ∷ formatByte s ∷ aspect s ∷ lowered (language s) ∷ []
-
--- a record with its languages lowered
-unfoldable pub loweredClip : Clip → Clip
-loweredClip c = record {
-  scalars = c .scalars;
-  atcs = c .atcs;
-  stcs = c .stcs;
-  programs = c .programs;
-  streams = map loweredStream (c .streams);
-  maps = c .maps;
-  entries = c .entries;
-}
 
 -- of any bytes, accepted or not: the counts add up, every cell fits, languages are lowered; only 31 can refuse it
 pub record FromFile (f : List ℕ) : Type 0 where

@@ -5,13 +5,13 @@ use mathlib.Core.List.{List, [], _∷_, _++_}
 use mathlib.Core.Bool.{true}
 use lib.ListN.{length}
 use lib.Dec.{eqb}
 use Rattle.format.specs.Bytes.{pick, total}
 use Rattle.format.specs.ClipRecord.{Row, Clip, atcStcCount, streamCount, codingType, aspect, language, mapType, entryCount}
 use Rattle.format.specs.Programs.{isVideo}
 use Rattle.format.specs.Rewriting.{runs}
 use Rattle.format.proofs.Fields.{Fit}
+use Rattle.format.proofs.Join.{GoodEntry}
 use Rattle.format.proofs.Lists.{All}
-use Rattle.theorems.proofs.Join.{GoodEntry}
 
 abbrev pub GoodAtc : Row → Type 0
 GoodAtc = Fit (32 ∷ 8 ∷ 8 ∷ [])

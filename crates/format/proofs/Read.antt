@@ -9,22 +9,21 @@ use lib.ListN.{length, getD, take, drop, length-append}
 use lib.Seq.{take-at, drop-at}
 use lib.Dec.{leb, eqb, lit<}
 use borrow.Author.Tests.{leb-true, leb-false, le-leb, lt-leb, eq-eqb}
 use Rattle.format.specs.Bytes.{IsBytes, both, pick, beAt, rowsAt, gather}
 use Rattle.format.specs.ClipRecord.{Row, Clip, atcStcCount, streamCount, entryCount, scalarsOf, atcAt, stcAt, nextStc, stcsOf, nextAtc, atcsFrom, stcsFrom}
 use Rattle.format.specs.EntryPoints.{coarseAt, nextCoarse, firstFine, fineAt, nextFine, joinTime, joinPacket, entryOf, stepOn, coarseFor, entriesFor, mapTypeAt, coarseCountAt, fineCountAt, mapAt, nextMap, bodyAt, fineStart, entriesOf, hasMaps, mapCount, mapsFrom, entriesFrom}
-use Rattle.format.specs.Programs.{isVideo, lower, lowered, codingAt, formatAt, aspectAt, languageAt, streamAt, nextStream, programAt, streamsOf, nextProgram, programsFrom, streamsFrom}
+use Rattle.format.specs.Programs.{isVideo, lower, lowered, codingAt, formatAt, aspectAt, languageAt, streamAt, nextStream, programAt, streamsOf, nextProgram, programsFrom, streamsFrom, loweredStream}
 use Rattle.format.specs.Reading.{clipOf}
 use Rattle.format.specs.Refusals.{everyMap, runsFit}
 use Rattle.format.specs.Rewriting.{sameRun, coarseRow, startRun, coarseAfter, runs}
 use Rattle.format.proofs.Fields.{Fit, fit, time-is}
+use Rattle.format.proofs.Good.{GoodAtc, GoodStc, GoodProgram, GoodStream, GoodMap, Maps, GoodClip, none, more}
+use Rattle.format.proofs.Join.{GoodEntry}
 use Rattle.format.proofs.Lists.{All, none, more}
 use Rattle.format.proofs.Rows.{map-fixed, rows-length, rows-all, gather-all, gather-adds}
 use Rattle.format.proofs.Stores.{be-below}
 use Rattle.format.proofs.Tests.{both-true}
-use Rattle.theorems.specs.Rewriting.{loweredStream}
-use Rattle.theorems.proofs.Good.{GoodAtc, GoodStc, GoodProgram, GoodStream, GoodMap, Maps, GoodClip, none, more}
-use Rattle.theorems.proofs.Join.{GoodEntry}
-use Rattle.theorems.proofs.Write.{cells}
+use Rattle.format.proofs.Write.{cells}
 
 -- ---- letters
 

@@ -8,21 +8,18 @@ use lib.ListN.{length, take, drop, take-append-drop, length-drop}
 use lib.Seq.{length-take-le}
 use lib.Dec.{leb, eqb}
 use borrow.Author.Tests.{eqb-true, leb-true}
 use Rattle.format.specs.Bytes.{both, pick, every, unless, fits, total}
 use Rattle.format.specs.ClipRecord.{Row, Clip, atcStcCount, streamCount, codingType, aspect, language, mapType, entryCount, time, entryType}
 use Rattle.format.specs.Programs.{isVideo}
-use Rattle.format.specs.Reading.{recordOf}
-use Rattle.format.specs.Refusals.{countsAdd, streamFits, entryFits, everyMap, cellsFit, runsFit, writeRefusal, accepted}
+use Rattle.format.specs.Refusals.{countsAdd, streamFits, entryFits, everyMap, cellsFit, runsFit, writeRefusal}
 use Rattle.format.specs.Rewriting.{runs}
 use Rattle.format.proofs.Fields.{Fit, fits-fit}
+use Rattle.format.proofs.Good.{GoodStream, Maps, GoodClip}
+use Rattle.format.proofs.Join.{GoodEntry}
 use Rattle.format.proofs.Lists.{All, every-all, all-map}
 use Rattle.format.proofs.Numbers.{left}
 use Rattle.format.proofs.Tests.{both-true, split-both, passed}
-use Rattle.theorems.specs.Rewriting.{Made}
-use Rattle.theorems.proofs.Good.{GoodStream, Maps, GoodClip}
-use Rattle.theorems.proofs.Join.{GoodEntry}
-use Rattle.theorems.proofs.Whole.{is-short, reads-back, is-accepted}
-use Rattle.theorems.proofs.Write.{encode-bytes, cells}
+use Rattle.format.proofs.Write.{cells}
 
 entry-made : (type : ℕ) (e : Row) → entryFits type e ≡ true → GoodEntry type e
 entry-made type e h =
@@ -89,10 +86,3 @@ good-made c h =
       maps-few = leb-true (length (c .maps)) 255 (b7 .0);
       maps-good = maps-made (c .maps) (c .entries) (b8 .0) (eqb-true (total entryCount (c .maps)) (length (c .entries)) (a1 .1)) (b8 .1) (p2 .0);
     }
-
--- reading what was written of a record that is not refused
-pub made : (c : Clip) → writeRefusal c ≡ 0 → Made c
-unfolding recordOf
-made c h =
-    let g = good-made c h in
-    record { bytes = encode-bytes c; short = is-short c g; accepted = is-accepted c g; reads = reads-back c g }

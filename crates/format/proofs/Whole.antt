@@ -8,22 +8,21 @@ use native.Mathlib.Omega.{arith}
 use lib.ListN.{length, getD, length-append}
 use lib.Dec.{leb, eqb, lit<}
 use borrow.Author.Tests.{le-leb}
 use Rattle.format.specs.Bytes.{beAt, fieldBytes, fieldsAt}
 use Rattle.format.specs.ClipRecord.{Clip, lettersRight, scalarsOf, clipInfoIn, atcsFrom, stcsFrom, sequencesEnd, marksFrom, marksIn}
 use Rattle.format.specs.EntryPoints.{mapsFrom, entriesFrom, cpiIn, mapsIn}
 use Rattle.format.specs.Extensions.{extensionRows, extensionsFrom, listData, listIn}
-use Rattle.format.specs.Programs.{programsFrom, streamsFrom, programsEnd}
+use Rattle.format.specs.Programs.{programsFrom, streamsFrom, programsEnd, loweredStream, loweredClip}
 use Rattle.format.specs.Reading.{clipOf, recordOf}
 use Rattle.format.specs.Refusals.{refusalOf}
 use Rattle.format.specs.Rewriting.{sequencesBytes, programsBytes, cpiBytes, headWidths, headValues, headBytes, marksBytes, encode}
+use Rattle.format.proofs.Cpi.{is-present, cpi-back}
 use Rattle.format.proofs.Fields.{Fit, one}
+use Rattle.format.proofs.Good.{GoodClip}
+use Rattle.format.proofs.Lengths.{sequences-bound, programs-bound, cpi-bound}
 use Rattle.format.proofs.Numbers.{Stands, left, right, bytes-length, Fill, fill, fields-back, fields-length}
+use Rattle.format.proofs.Sections.{sequences-back, programs-back}
 use Rattle.format.proofs.Tests.{true-both, pass}
-use Rattle.theorems.specs.Rewriting.{loweredStream, loweredClip}
-use Rattle.theorems.proofs.Cpi.{is-present, cpi-back}
-use Rattle.theorems.proofs.Good.{GoodClip}
-use Rattle.theorems.proofs.Lengths.{sequences-bound, programs-bound, cpi-bound}
-use Rattle.theorems.proofs.Sections.{sequences-back, programs-back}
 
 head-fill : (c : Clip) (pr cp mk : ℕ) → GoodClip 65535 c → pr < 2 ^ 32 → cp < 2 ^ 32 → mk < 2 ^ 32 → Fill headWidths (headValues c pr cp mk)
 head-fill c pr cp mk g h0 h1 h2 = go (g .scalars)

@@ -8,15 +8,14 @@ use native.Mathlib.Omega.{arith}
 use lib.ListN.{length, getD, length-append}
 use lib.Dec.{eqb, leb}
 use borrow.Author.Tests.{eqb-true}
 use Rattle.format.specs.Bytes.{pick, beAt, bytesOf, fieldBytes}
 use Rattle.format.specs.ClipRecord.{Row, Clip, atcStcCount, streamCount, codingType, aspect, language, atcAt, stcAt, nextStc, atcsFrom, stcsFrom, sequencesEnd}
-use Rattle.format.specs.Programs.{isVideo, lower, lowered, streamAt, nextStream, programAt, programsFrom, streamsFrom, programsEnd}
+use Rattle.format.specs.Programs.{isVideo, lower, lowered, streamAt, nextStream, programAt, programsFrom, streamsFrom, programsEnd, loweredStream}
 use Rattle.format.specs.Rewriting.{groups, sectionBytes, atcBytes, stcBytes, sequencesBytes, programBytes, streamBytesBy, streamBytes, programsBytes}
 use Rattle.format.proofs.Fields.{Fit, one}
+use Rattle.format.proofs.Good.{GoodAtc, GoodStc, GoodProgram, GoodStream, GoodClip}
 use Rattle.format.proofs.Numbers.{Stands, left, right, bytes-length, Fill, fill, fields-back, fields-length}
 use Rattle.format.proofs.Rows.{as-is, map-as-is, groups-back}
-use Rattle.theorems.specs.Rewriting.{loweredStream}
-use Rattle.theorems.proofs.Good.{GoodAtc, GoodStc, GoodProgram, GoodStream, GoodClip}
 
 lowered-zero : lowered 0 ≡ 0
 unfolding lowered lower

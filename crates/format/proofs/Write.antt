@@ -8,17 +8,17 @@ use lib.ListN.{length, getD, take, drop, length-append, take-append-drop}
 use lib.Seq.{take-at, drop-at, length-take-le}
 use lib.Dec.{leb, eqb, lit<}
 use borrow.Author.Tests.{eqb-true, eq-eqb, leb-true, le-leb}
 use Rattle.format.specs.Bytes.{IsBytes, every, bytesOf, fieldBytes, packed, flat, total}
 use Rattle.format.specs.ClipRecord.{Row, Clip, atcStcCount, streamCount, codingType, aspect, language, mapType, entryCount, time, entryType}
 use Rattle.format.specs.EntryPoints.{coarseWidths, fineWidths, headerWidths}
 use Rattle.format.specs.Programs.{isVideo}
 use Rattle.format.specs.Refusals.{countsAdd, atcFits, stcFits, programFits, streamFits, mapFits, entryFits, everyMap, cellsFit, runsFit, writeRefusal}
 use Rattle.format.specs.Rewriting.{coarseRows, runs, groups, sectionBytes, atcBytes, stcBytes, sequencesBytes, programBytes, streamBytesBy, streamBytes, programsBytes, coarseBytes, fineRow, fineBytes, bodyBytes, bodies, headers, cpiBytesBy, cpiBytes, headWidths, headValues, headBytes, encode}
 use Rattle.format.proofs.Fields.{fit-fits}
+use Rattle.format.proofs.Good.{GoodStream, GoodMap, Maps, GoodClip, none, more}
+use Rattle.format.proofs.Join.{GoodEntry}
 use Rattle.format.proofs.Lists.{All, all-every, all-append, all-map, none, more}
 use Rattle.format.proofs.Tests.{true-both}
-use Rattle.theorems.proofs.Good.{GoodStream, GoodMap, Maps, GoodClip, none, more}
-use Rattle.theorems.proofs.Join.{GoodEntry}
 
 -- ---- bytes
 

@@ -9,17 +9,17 @@ use lib.ListN.{length, getD, take, drop, length-append}
 use lib.Seq.{take-at, drop-at}
 use lib.Dec.{eqb, leb, ltb}
 use borrow.Author.Tests.{lt-ltb, le-leb, ne-eqb}
 use Rattle.format.specs.Bytes.{both, pick, every, beAt, bytesOf, fieldBytes, unpacked, packed, fits, rowsAt, gather, flat}
 use Rattle.format.specs.ClipRecord.{Row, mapType, entryCount, present}
 use Rattle.format.specs.EntryPoints.{coarseWidths, coarseAt, nextCoarse, fineWidths, fineAt, nextFine, headerWidths, mapTypeAt, coarseCountAt, fineCountAt, mapAt, nextMap, entriesOf, cpiEnd, hasMaps, mapCount, mapsFrom, entriesFrom, cpiIn, mapIn, mapsIn}
 use Rattle.format.specs.Rewriting.{sameRun, coarseRow, startRun, coarseAfter, coarseRows, runs, coarseBytes, fineRow, fineBytes, bodyBytes, bodies, headerBytes, headers, cpiBytesBy}
 use Rattle.format.proofs.Fields.{Fit, fit, packed-below, unpack, one}
+use Rattle.format.proofs.Good.{GoodMap, Maps, none, more}
+use Rattle.format.proofs.Join.{finesOf, GoodEntry, join-back}
 use Rattle.format.proofs.Lists.{All, none, more}
 use Rattle.format.proofs.Numbers.{Stands, left, right, ends-in, moved, bytes-length, number-back, Fill, fill, fields-back}
-use Rattle.format.proofs.Rows.{as-is, map-as-is, rows-back, flat-length, all-rows}
+use Rattle.format.proofs.Rows.{all-rows, as-is, map-as-is, rows-back, flat-length}
 use Rattle.format.proofs.Tests.{true-both}
-use Rattle.theorems.proofs.Good.{GoodMap, Maps, none, more}
-use Rattle.theorems.proofs.Join.{finesOf, GoodEntry, join-back}
 
 -- ---- coarse rows
 

@@ -8,16 +8,16 @@ use native.Mathlib.Omega.{arith}
 use lib.ListN.{length, getD, take, drop, length-append, length-take, length-drop, take-append-drop}
 use lib.Seq.{take-at, drop-at}
 use lib.Dec.{eqb}
 use Rattle.format.specs.Bytes.{fieldBytes, flat, total}
 use Rattle.format.specs.ClipRecord.{Row, Clip, atcStcCount, streamCount, codingType, language, entryCount}
 use Rattle.format.specs.Programs.{isVideo}
 use Rattle.format.specs.Rewriting.{groups, atcBytes, stcBytes, sequencesBytes, programBytes, streamBytesBy, streamBytes, programsBytes, bodyBytes, bodies, headers, cpiBytesBy, cpiBytes}
+use Rattle.format.proofs.Cpi.{body-length, headers-length}
 use Rattle.format.proofs.Fields.{Fit, one}
+use Rattle.format.proofs.Good.{GoodAtc, GoodStc, GoodProgram, GoodStream, GoodMap, Maps, GoodClip, none, more}
 use Rattle.format.proofs.Lists.{All, all-take, all-drop, all-map, none, more}
 use Rattle.format.proofs.Numbers.{bytes-length}
-use Rattle.theorems.proofs.Cpi.{body-length, headers-length}
-use Rattle.theorems.proofs.Good.{GoodAtc, GoodStc, GoodProgram, GoodStream, GoodMap, Maps, GoodClip, none, more}
-use Rattle.theorems.proofs.Sections.{section-length}
+use Rattle.format.proofs.Sections.{section-length}
 
 flat-bound : (w : ℕ) (bytes : Row → List ℕ) {rows : List Row} → All (λ row. length (bytes row) ≤ w) rows → length (flat bytes rows) ≤ w * length rows
 flat-bound w bytes none = omega arith

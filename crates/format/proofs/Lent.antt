@@ -7,17 +7,16 @@ use native.Mathlib.Omega.{arith}
 use lib.ListN.{length, getD}
 use lib.Dec.{lit<, lit≤}
 use borrow.Author.Tests.{le-leb}
 use Rattle.format.specs.ClipRecord.{Row, Clip}
 use Rattle.format.specs.Questions.{Question, entryPointAtOrBefore, entryPointAfter, primaryVideoEpMap, spnToByte, byteToSpn, stcSequenceById, stcSequenceForSpn, streamByPid, primaryVideoPid, duration45k, duration90k, presentationSpan90k, indexedSpan90k, transferDurationSecs, minutesRemaining, answer, isLent, ask}
 use Rattle.format.specs.Refusals.{accepted, shortFrom, filled, allStated}
-use Rattle.format.specs.Tables.{tableBytes, rowsLent, overwritten, atcCells, stcCells, programCells, streamCells, mapCells, entryCells, Table, isStated, rowsOf, Lent, clipIn}
+use Rattle.format.specs.Tables.{tableBytes, rowsLent, overwritten, atcCells, stcCells, programCells, streamCells, mapCells, entryCells, Table, isStated, rowsOf, Lent, clipIn, HoldsRows, HoldsClip, Room}
 use Rattle.format.proofs.Fields.{Fit}
 use Rattle.format.proofs.Lists.{All, all-append, all-map, none, more}
 use Rattle.format.proofs.Tables.{Cells, fit-cells, table-back, table-room}
 use Rattle.format.proofs.Tests.{true-both}
-use Rattle.theorems.specs.Rewriting.{Room, HoldsRows, HoldsClip}
-use Rattle.theorems.proofs.Good.{Maps, GoodClip}
-use Rattle.theorems.proofs.Write.{maps-fit}
+use Rattle.format.proofs.Good.{Maps, GoodClip}
+use Rattle.format.proofs.Write.{maps-fit}
 
 -- the rows of a record have as many cells as their tables say, each of 32 bits
 pub record Shaped (c : Clip) : Type 0 where
