@@ -6,6 +6,7 @@ pub mod Numbers
 pub mod Stores
 pub mod Cells
 pub mod Rows
+pub mod Loops
 pub mod Tables
 pub mod ReadByRead
 pub mod Join

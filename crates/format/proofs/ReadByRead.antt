@@ -3,7 +3,7 @@ use Prim.Native.Nat.{ℕ, zero, suc, _+_, _*_, _<_, _≤_}
 use mathlib.Core.Path.{_≡_, refl, ap, ap₂, _∙_}
 use mathlib.Core.List.{List, [], _∷_}
 use mathlib.Core.Bool.{Bool, true, false, not}
-use native.Mathlib.Nat.{le-refl, le-trans, add-assoc}
+use native.Mathlib.Nat.{le-trans, add-assoc}
 use native.Mathlib.Omega.{arith}
 use lib.ListN.{length}
 use lib.Dec.{leb, ltb, eqb}
@@ -15,6 +15,7 @@ use Rattle.format.specs.EntryPoints.{nextCoarse, nextFine, nextMap, cpiL
 use Rattle.format.specs.Extensions.{found, listIn, blockLength, extensionCount, nextExtension, hasExtensions}
 use Rattle.format.specs.Refusals.{refusalOf}
 use Rattle.format.specs.ReadByRead.{startIn, readsIn, itemsIn, clipInfoRead, stcRead, atcRead, sequencesRead, streamRead, programRead, programsRead, mapHeaderRead, cpiHeadersRead, cpiTypeRead, cpiRead, mapRead, mapsRead, marksRead, refusalRead, extensionRead, blockRead, extensionsRead}
+use Rattle.format.proofs.Loops.{end-ge}
 
 -- ---- tests of places, each at or past the one before
 
@@ -51,11 +52,6 @@ both-false false = refl
 rows-same : (g h : ℕ → Bool) → ((p : ℕ) → g p ≡ h p) → (next : ℕ → ℕ) (p n : ℕ) → rowsAt g next p n ≡ rowsAt h next p n
 rows-same g h e next p zero = refl
 rows-same g h e next p (suc n) = ap₂ (λ (x : Bool) (xs : List Bool). x ∷ xs) (e p) (rows-same g h e next (next p) n)
-
--- items end at or past where they start
-end-ge : (next : ℕ → ℕ) → ((p : ℕ) → p ≤ next p) → (p n : ℕ) → p ≤ endOf next p n
-end-ge next up p zero = le-refl p
-end-ge next up p (suc n) = le-trans (up p) (end-ge next up (next p) n)
 
 -- items from a place in the file: each is in the file exactly where the last one's end is
 items : (len : ℕ) (test : ℕ → Bool) (next : ℕ → ℕ) → ((p : ℕ) → p ≤ next p) → ((p : ℕ) → test p ≡ leb (next p) len)
