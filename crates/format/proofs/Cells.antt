@@ -10,7 +10,7 @@ use lib.Seq.{sets, getD-at}
 use lib.Dec.{lit<}
 use Rattle.format.specs.Bytes.{beAt, bytesOf}
 use Rattle.format.specs.Tables.{lowAt, lowBytes}
-use Rattle.format.proofs.Numbers.{Stands, left, right}
+use Rattle.format.proofs.Numbers.{Stands, right}
 use Rattle.format.proofs.Stores.{Apart, part-kept, stored, be-same, div-bytes, bytes-parts}
 
 pub low-length : (n v : ℕ) → length (lowBytes n v) ≡ n

@@ -1,13 +1,12 @@
 -- Bytes stored into a list: read back where they stand, nothing changed elsewhere; big-endian numbers and their bytes in parts.
 use Prim.Native.Nat.{ℕ, zero, suc, _+_, _*_, _/_, _%_, _^_, _<_, _≤_}
-use mathlib.Core.Path.{_≡_, refl, sym, ap, ap₂, _∙_}
+use mathlib.Core.Path.{_≡_, refl, sym, ap, _∙_}
 use mathlib.Core.Logic.{_⊎_, inl, inr, ⊎-elim}
 use mathlib.Core.List.{List, [], _∷_, _++_, append-assoc, append-nil}
-use native.Mathlib.Nat.{add-zero, add-suc, add-assoc, add-mul, mul-assoc, pow-suc, pow-succ', div-one, div-div-eq-div-mul, mul-add-div-right, div-add-mod'}
+use native.Mathlib.Nat.{add-zero, add-suc, add-assoc, mul-assoc, pow-suc, pow-succ', div-one, div-div-eq-div-mul, div-add-mod'}
 use native.Mathlib.Omega.{arith}
-use lib.ListN.{length, getD, take, drop, set, length-append}
+use lib.ListN.{length, getD, take, drop, set}
 use lib.Seq.{sets, sets-eq, getD-set-other, length-take-le}
-use lib.Dec.{lit<}
 use Rattle.format.specs.Bytes.{beAt, bytesOf}
 use Rattle.format.proofs.Numbers.{Stands, bytes-length, number-back}
 

@@ -1,0 +1,37 @@
+-- What `within` answers decides between a number of four bytes and none.
+use lib.ListN.{length}
+use Prim.Native.Nat.{_+_}
+use mathlib.Core.Path.{sym, _∙_}
+use native.Mathlib.Omega.{arith}
+use denote.Ref.{now}
+use borrow.Author.Needs.{needs}
+use Rattle.common.proofs.Laws.{number-read, number-past, passed}
+use Rattle.common.proofs.Laws.{number-read, number-past}
+use Rattle.common.proofs.reader.Reader.read_u32.Statement.{statement}
+use Rattle.common.proofs.reader.Reader.read_u32.Tie as tie
+
+within-requires : tie.Need-within-requires
+within-requires c κs = search needs
+
+u32-at-requires : tie.Need-u32-at-requires
+u32-at-requires c κs = let a = c .before .before .before .args in passed (a .self .pos + 4) (length (now (a .buf))) (c .before .within .ensures) (c .if1 .taken)
+
+cast-t8 : tie.Need-cast-t8
+cast-t8 c = search needs
+
+add-t9 : tie.Need-add-t9
+add-t9 c =
+    let a = c .before .before .before .before .args in
+    omega (arith, passed (a .self .pos + 4) (length (now (a .buf))) (c .before .before .within .ensures) (c .before .if1 .taken))
+
+returns : tie.Need-returns
+returns c =
+    let a = c .before .before .before .before .args in
+    number-read (now (a .buf)) (a .self .pos) 4 (sym (c .before .before .within .ensures) ∙ c .before .if1 .taken) (c .u32-at .ensures)
+
+returns-2 : tie.Need-returns-2
+returns-2 c = let a = c .before .before .before .args in number-past (now (a .buf)) (a .self .pos) 4 (sym (c .before .within .ensures) ∙ c .if1 .left)
+
+pub read-u32-spec : {M : Type 1} → statement M
+read-u32-spec =
+    tie.close (tie.spec within-requires u32-at-requires cast-t8 add-t9 returns returns-2)

@@ -1,0 +1,2 @@
+-- The law behind the one match.
+pub mod Laws

@@ -1,0 +1,2 @@
+-- The code's times as the definitions' times.
+pub mod Times

@@ -1,0 +1,49 @@
+// Times as tuple structs, one for each clock, so that a 45 kHz time cannot stand where a 90 kHz time is meant.
+ghost use mathlib.Core.Path.{_≡_};
+ghost use Rattle.format.specs.Ticks.{doubled, less45, less90, minutes};
+ghost use Rattle.ticks.specs.Times.{as45, as90};
+
+// A time in 45 kHz ticks, as the file's STC times.
+pub struct Ticks45(pub u32);
+
+// A time in 90 kHz ticks, as entry times and the questions.
+pub struct Ticks90(pub u64);
+
+impl Ticks45 {
+    // The doubling, the only way from 45 kHz ticks to 90 kHz ticks.
+    pub fn doubled(self) -> Ticks90
+        ensures { λ r. ⌜ as90 r ≡ doubled (as45 self) ⌝ }
+    {
+        let ticks = self.0 as u64;
+        Ticks90(2 * ticks)
+    }
+
+    // One time less another, not below 0.
+    pub fn less(self, other: Ticks45) -> Ticks45
+        ensures { λ r. ⌜ as45 r ≡ less45 (as45 self) (as45 other) ⌝ }
+    {
+        if self.0 < other.0 {
+            return Ticks45(0);
+        }
+        Ticks45(self.0 - other.0)
+    }
+}
+
+impl Ticks90 {
+    // One time less another, not below 0.
+    pub fn less(self, other: Ticks90) -> Ticks90
+        ensures { λ r. ⌜ as90 r ≡ less90 (as90 self) (as90 other) ⌝ }
+    {
+        if self.0 < other.0 {
+            return Ticks90(0);
+        }
+        Ticks90(self.0 - other.0)
+    }
+
+    // Whole minutes of 5,400,000 ticks, rounded down.
+    pub fn minutes(self) -> u64
+        ensures { λ r. ⌜ r ≡ minutes (as90 self) ⌝ }
+    {
+        self.0 / 5400000
+    }
+}
