@@ -2,7 +2,7 @@
 use Prim.Native.Nat.{ℕ, suc, _+_, _*_, _-_, _/_, _%_, _^_, _<_, _≤_}
 use mathlib.Core.Path.{_≡_, refl, sym, ap, _∙_}
 use mathlib.Core.Logic.{_⊎_, inl, inr, ⊎-elim}
-use mathlib.Core.List.{List, [], _∷_}
+use mathlib.Core.List.{List, [], _∷_, _++_, append-nil}
 use mathlib.Core.Bool.{Bool, true, false}
 use native.Mathlib.Nat.{add-zero, suc-mul, mul-le-mul-right, one-le-pow}
 use native.Mathlib.Omega.{arith}
@@ -14,10 +14,10 @@ use lib.Dec.{leb, eqb, lit<}
 use borrow.Author.Tests.{leb-true, leb-false, le-leb, lt-leb}
 use Rattle.format.specs.Bytes.{either, pick, beAt, bytesOf}
 use Rattle.format.specs.ClipRecord.{lettersRight}
-use Rattle.format.specs.Tables.{lowAt, lowBytes, cellAt, cellBytes}
+use Rattle.format.specs.Tables.{lowAt, lowBytes, cellAt, cellBytes, rowBytes}
 use Rattle.format.proofs.Numbers.{bytes-length}
 use Rattle.format.proofs.Stores.{be-below, be-parts, bytes-parts, sets-append}
-use Rattle.format.proofs.Cells.{turned-number, turned-bytes}
+use Rattle.format.proofs.Cells.{low-length, turned-number, turned-bytes}
 use Rattle.common.specs.Reads.{Wide, ReadIs, CellIs, swapped}
 use Rattle.common.specs.Reader.{numberAt, movedTo, NumberIs}
 use Rattle.common.specs.declared.reader.Reader.{Reader}
@@ -79,6 +79,15 @@ pub stored-joined : (l : List ℕ) (at m n v w : ℕ) {l′ l″ : List ℕ} →
 stored-joined l at m n v w same e f =
     let high = bytesOf m (v / 256 ^ n) in
     f ∙ rw (e, same, bytes-parts m n v, sets-append l at high (bytesOf n v), bytes-length m (v / 256 ^ n))
+
+-- a cell stored, and the rest of its row behind it
+pub cell-then : (l : List ℕ) (at v : ℕ) (rest : List ℕ) {l′ l″ : List ℕ} → l′ ≡ sets l at (cellBytes v) → l″ ≡ sets l′ (at + 4) rest
+    → l″ ≡ sets l at (cellBytes v ++ rest)
+cell-then l at v rest e f = f ∙ rw (e, sets-append l at (cellBytes v) rest, low-length 4 v)
+
+-- the last cell of a row
+pub cell-last : (l : List ℕ) (at at′ v : ℕ) {l′ : List ℕ} → at + 4 ≡ at′ → l′ ≡ sets l at′ (cellBytes v) → l′ ≡ sets l (at + 4) (rowBytes (v ∷ []))
+cell-last l at at′ v p e = e ∙ rw (p, append-nil (cellBytes v))
 
 -- ---- the other byte order
 

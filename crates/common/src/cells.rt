@@ -3,7 +3,8 @@ ghost use mathlib.Core.Path.{_≡_};
 ghost use Prim.Native.Nat.{_+_, _≤_, _<_};
 ghost use lib.ListN.{length};
 ghost use lib.Seq.{sets};
-ghost use Rattle.format.specs.Tables.{cellBytes};
+ghost use mathlib.Core.List.{[], _∷_};
+ghost use Rattle.format.specs.Tables.{cellBytes, rowBytes};
 ghost use Rattle.common.specs.Reads.{CellIs, Wide};
 
 // A byte as a wider number.
@@ -30,4 +31,32 @@ pub fn put_cell(t: &mut [u8], at: usize, v: u32)
     t[at + 1] = (v / 256 % 256) as u8;
     t[at + 2] = (v / 65536 % 256) as u8;
     t[at + 3] = (v / 16777216 % 256) as u8;
+}
+
+// Stores a row of three cells from `at`.
+pub fn put_row3(t: &mut [u8], at: usize, a: u32, b: u32, c: u32)
+    requires { ⌜ at + 12 ≤ length (now t) ⌝ }
+    ensures { λ _. ⌜ now (t .exit) ≡ sets (now (t .entry)) at (rowBytes (a ∷ b ∷ c ∷ [])) ⌝ }
+{
+    put_cell(t, at, a);
+    put_cell(t, at + 4, b);
+    put_cell(t, at + 8, c);
+}
+
+// Stores a row of four cells from `at`.
+pub fn put_row4(t: &mut [u8], at: usize, a: u32, b: u32, c: u32, d: u32)
+    requires { ⌜ at + 16 ≤ length (now t) ⌝ }
+    ensures { λ _. ⌜ now (t .exit) ≡ sets (now (t .entry)) at (rowBytes (a ∷ b ∷ c ∷ d ∷ [])) ⌝ }
+{
+    put_cell(t, at, a);
+    put_row3(t, at + 4, b, c, d);
+}
+
+// Stores a row of five cells from `at`.
+pub fn put_row5(t: &mut [u8], at: usize, a: u32, b: u32, c: u32, d: u32, e: u32)
+    requires { ⌜ at + 20 ≤ length (now t) ⌝ }
+    ensures { λ _. ⌜ now (t .exit) ≡ sets (now (t .entry)) at (rowBytes (a ∷ b ∷ c ∷ d ∷ e ∷ [])) ⌝ }
+{
+    put_cell(t, at, a);
+    put_row4(t, at + 4, b, c, d, e);
 }

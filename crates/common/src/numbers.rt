@@ -42,6 +42,16 @@ pub fn u32_at(s: &[u8], at: usize) -> u32
     swap(cell_at(s, at))
 }
 
+// The six bytes from `at`.
+pub fn u48_at(s: &[u8], at: usize) -> u64
+    requires { ⌜ at + 6 ≤ length (now s) ⌝ }
+    ensures { λ r. ⌜ ReadIs (now (s .entry)) at 6 r ⌝ }
+{
+    let high = u16_at(s, at) as u64;
+    let low = u32_at(s, at + 2) as u64;
+    high * 4294967296 + low
+}
+
 // The eight bytes from `at`.
 pub fn u64_at(s: &[u8], at: usize) -> u64
     requires { ⌜ at + 8 ≤ length (now s) ⌝ }

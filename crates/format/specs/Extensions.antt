@@ -56,12 +56,25 @@ extensionRows f start =
 
 -- ---- an extension as the record has it
 
--- the data of a row of table 7 is a part of the file
+-- a row of table 7: its ids, and where its data stands
+abbrev pub firstId : Row → ℕ
+firstId row = getD row 0 0
+
+abbrev pub secondId : Row → ℕ
+secondId row = getD row 1 0
+
+abbrev pub dataStart : Row → ℕ
+dataStart row = getD row 2 0
+
+abbrev pub dataLength : Row → ℕ
+dataLength row = getD row 3 0
+
+-- the data of a row is a part of the file
 abbrev pub dataOf : List ℕ → Row → List ℕ
-dataOf f row = take (getD row 3 0) (drop (getD row 2 0) f)
+dataOf f row = take (dataLength row) (drop (dataStart row) f)
 
 abbrev pub extensionOf : List ℕ → Row → Extension
-extensionOf f row = record { id1 = getD row 0 0; id2 = getD row 1 0; bytes = dataOf f row }
+extensionOf f row = record { id1 = firstId row; id2 = secondId row; bytes = dataOf f row }
 
 unfoldable pub extensionsFrom : List ℕ → ℕ → List Extension
 extensionsFrom f start = map (extensionOf f) (extensionRows f start)

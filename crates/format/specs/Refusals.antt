@@ -2,15 +2,15 @@
 use Prim.Native.Nat.{ℕ, suc, _+_, _*_, _%_}
 use mathlib.Core.List.{List, [], _∷_, map}
 use mathlib.Core.Bool.{Bool, true, false}
-use lib.ListN.{length, take, drop}
-use lib.Dec.{leb, eqb}
+use lib.ListN.{length, getD, take, drop}
+use lib.Dec.{leb, ltb, eqb}
 use Rattle.format.specs.Bytes.{both, pick, every, unless, fits}
 use Rattle.format.specs.ClipRecord.{Row, Scalars, Clip, Record, atcStcCount, streamCount, codingType, aspect, language, mapType, entryCount, time, entryType, lettersRight, clipInfoIn, sequencesStart, programsStart, cpiStart, marksStart, extensionsStart, sequencesEnd, marksIn}
 use Rattle.format.specs.Programs.{isVideo, programsEnd}
 use Rattle.format.specs.EntryPoints.{cpiIn, mapsIn}
-use Rattle.format.specs.Extensions.{extensionRows}
+use Rattle.format.specs.Extensions.{extensionRows, dataStart, dataLength, dataOf}
 use Rattle.format.specs.Reading.{recordOf}
-use Rattle.format.specs.Tables.{tableBytes, rowsLent, overwritten, Lent, isStated, clipIn, atcCells, stcCells, programCells, streamCells, mapCells, entryCells, extensionCells}
+use Rattle.format.specs.Tables.{tableBytes, rowsLent, overwritten, Table, rowsOf, Lent, isStated, clipIn, atcCells, stcCells, programCells, streamCells, mapCells, entryCells, extensionCells}
 use Rattle.format.specs.Questions.{addUp}
 use Rattle.format.specs.Rewriting.{runs, encode}
 
@@ -75,6 +75,22 @@ tablesBy accepted needed lent = filled needed lent
 
 unfoldable pub tablesAfter : List ℕ → List (List ℕ) → List (List ℕ)
 tablesAfter f lent = tablesBy (readAnswer f lent) (tablesOf f) lent
+
+-- ---- the data of an extension: given the lent file, table 7 with its stated rows, and a row number
+
+abbrev pub extensionRow : Table → ℕ → Row
+extensionRow t k = getD (rowsOf extensionCells t) k []
+
+-- 22: more rows stated than lent, a row number outside the stated rows, or a row whose data isn't inside the lent file; else 0
+unfoldable pub dataRefusal : List ℕ → Table → ℕ → ℕ
+dataRefusal f t k =
+    unless (isStated extensionCells t) 22
+    (unless (ltb k (t .rows)) 22
+    (unless (leb (dataStart (extensionRow t k) + dataLength (extensionRow t k)) (length f)) 22 0))
+
+-- a part of the file; nothing where it is refused
+unfoldable pub dataAsked : List ℕ → Table → ℕ → List ℕ
+dataAsked f t k = pick (eqb (dataRefusal f t k) 0) (dataOf f (extensionRow t k)) []
 
 -- ---- writing a record: 22, 30, 31, 23
 
