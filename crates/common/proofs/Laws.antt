@@ -91,6 +91,7 @@ cell-last l at at′ v p e = e ∙ rw (p, append-nil (cellBytes v))
 
 -- ---- the other byte order
 
+-- the number in sums
 swapped-sum : (v : ℕ) → swapped v ≡ ((v % 256 * 256 + v / 256 % 256) * 256 + v / 65536 % 256) * 256 + v / 16777216 % 256
 unfolding swapped beAt
 swapped-sum v = rw (cell-bytes v) (omega arith)
@@ -193,7 +194,7 @@ not-got f p n e =
     (λ t. t .0)
     (either-way (p + n) (length f) Number.PastEnd read Number.PastEnd e)
 
--- what a caller learns of a reader that moved, and of one that did not
+-- what a caller learns of a reader that moved
 pub went : (f : List ℕ) (p : ℕ) {r : Reader} → Moved.At r ≡ movedTo f p → (p ≤ length f) × (r .pos ≡ p)
 went f p {r} e =
     let there = Moved.At (record { pos = p }) in
@@ -202,6 +203,7 @@ went f p {r} e =
     (λ t. let is = t .1 in let z : _≡_ {A = ℕ} 0 1 = cc in absurd (omega arith))
     (either-way p (length f) (Moved.At r) there Moved.PastEnd e)
 
+-- where it did not, the place lies past the end
 pub stayed : (f : List ℕ) (p : ℕ) → Moved.PastEnd ≡ movedTo f p → length f < p
 stayed f p e =
     let there = Moved.At (record { pos = p }) in

@@ -9,6 +9,7 @@ use Rattle.common.specs.declared.reader.Reader.{Reader}
 use Rattle.common.specs.declared.reader.Moved.{Moved}
 use Rattle.common.specs.declared.reader.Number.{Number}
 
+-- the reader at the front
 abbrev pub start : Reader
 start = record { pos = 0 }
 
@@ -29,6 +30,7 @@ abbrev pub valueOf : Number → ℕ
 valueOf (Number.Read v next) = v
 valueOf Number.PastEnd = 0
 
+-- what a read of n bytes at p answers
 pub record NumberIs (f : List ℕ) (p n : ℕ) (r : Number) : Type 0 where
   pub same : r ≡ numberAt f p n
   pub below : valueOf r < 256 ^ n

@@ -12,10 +12,13 @@ pub enum BdmvHeader {
     OtherLetters,
 }
 
+// The letters and the version, in bytes.
 const SIZE: usize = 8;
 
+// The letters HDMV as one number.
 const HDMV: u32 = 0x48444D56;
 
+// The letters CLPI as one number.
 const CLPI: u32 = 0x434C5049;
 
 // Whether four letters as one number are those of a clip file.

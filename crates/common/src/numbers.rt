@@ -47,9 +47,9 @@ pub fn u48_at(s: &[u8], at: usize) -> u64
     requires { ⌜ at + 6 ≤ length (now s) ⌝ }
     ensures { λ r. ⌜ ReadIs (now (s .entry)) at 6 r ⌝ }
 {
-    let high = u16_at(s, at) as u64;
-    let low = u32_at(s, at + 2) as u64;
-    high * 4294967296 + low
+    let first = u16_at(s, at) as u64;
+    let last = u32_at(s, at + 2) as u64;
+    first * 4294967296 + last
 }
 
 // The eight bytes from `at`.

@@ -2,7 +2,7 @@
 use Prim.Native.Nat.{ℕ, zero, suc, _+_, _*_, _/_, _%_, _^_, _<_, _≤_}
 use mathlib.Core.Path.{_≡_, refl, sym, ap, ap₂, _∙_}
 use mathlib.Core.List.{List, [], _∷_, _++_}
-use native.Mathlib.Nat.{add-zero, zero-add, mul-assoc, pow-suc, div-one, div-lt-iff-lt-mul}
+use native.Mathlib.Nat.{add-zero, zero-add, pow-suc, div-one, div-lt-iff-lt-mul}
 use native.Mathlib.Numerals.{one-add}
 use native.Mathlib.Omega.{arith}
 use lib.ListN.{length, getD}
@@ -11,8 +11,9 @@ use lib.Dec.{lit<}
 use Rattle.format.specs.Bytes.{beAt, bytesOf}
 use Rattle.format.specs.Tables.{lowAt, lowBytes}
 use Rattle.format.proofs.Numbers.{Stands, right}
-use Rattle.format.proofs.Stores.{Apart, part-kept, stored, be-same, div-bytes, bytes-parts}
+use Rattle.format.proofs.Stores.{Apart, part-kept, stored, same-read, be-same, mul-bytes, div-bytes, bytes-parts}
 
+-- the n bytes are n
 pub low-length : (n v : ℕ) → length (lowBytes n v) ≡ n
 unfolding lowBytes
 low-length zero v = refl
@@ -21,8 +22,7 @@ low-length (suc n) v = ap suc (low-length n (v / 256))
 -- the same bytes are the same number
 pub low-same : (s t : List ℕ) (p q n : ℕ) → ((k : ℕ) → k < n → getD s (p + k) 0 ≡ getD t (q + k) 0) → lowAt s p n ≡ lowAt t q n
 unfolding lowAt
-low-same s t p q zero h = refl
-low-same s t p q (suc n) h = rw (low-same s t p q n (λ k b. h k (omega arith)), h n (omega arith))
+low-same s t p q n h = same-read lowAt (λ n below byte. below + byte * 256 ^ n) (λ s p. refl) (λ s p n. refl) s t p q n h
 
 -- a cell that no store meets is what it was
 pub low-kept : (l : List ℕ) (i : ℕ) (vs : List ℕ) (p n : ℕ) → Apart p n i (length vs) → lowAt (sets l i vs) p n ≡ lowAt l p n
@@ -35,8 +35,7 @@ low-first s p zero = rw (add-zero p) (omega arith)
 low-first s p (suc n) =
     let byte = getD s (p + 1 + n) 0 in
     let place : p + suc n ≡ p + 1 + n = omega arith in
-    let scale : byte * 256 ^ suc n ≡ byte * 256 ^ n * 256 = ap (λ (d : ℕ). byte * d) (pow-suc 256 n) ∙ sym (mul-assoc byte (256 ^ n) 256) in
-    ap₂ (λ (x y : ℕ). x + y) (low-first s p n) (ap (λ (k : ℕ). getD s k 0 * 256 ^ suc n) place ∙ scale) ∙ omega arith
+    ap₂ (λ (x y : ℕ). x + y) (low-first s p n) (ap (λ (k : ℕ). getD s k 0 * 256 ^ suc n) place ∙ mul-bytes byte n) ∙ omega arith
 
 -- a number whose bytes stand at p is read there
 pub low-back : {s : List ℕ} {p : ℕ} (n v : ℕ) → Stands s p (lowBytes n v) → v < 256 ^ n → lowAt s p n ≡ v
@@ -90,7 +89,7 @@ low-digit (suc n) v (suc k) h = low-digit n (v / 256) k (omega arith) ∙ ap (λ
 pub turned-number : (s : List ℕ) → ((i : ℕ) → getD s i 0 < 256) → (p n : ℕ) → beAt (lowBytes n (lowAt s p n)) 0 n ≡ beAt s p n
 turned-number s h p n = be-same (lowBytes n (lowAt s p n)) s 0 p n (λ k b. rw (zero-add k) (low-digits s h p n k b))
 
--- a number whose bytes, read highest first, are those of v from the lowest has v's bytes, highest first, as its lowest-first bytes
+-- where the bytes at p are those of v, the lowest first, their big-endian number has the big-endian bytes of v as its lowest-first bytes
 turned-from : (s : List ℕ) (p n v : ℕ) → ((k : ℕ) → k < n → getD s (p + k) 0 ≡ v / 256 ^ k % 256) → lowBytes n (beAt s p n) ≡ bytesOf n v
 unfolding beAt bytesOf lowBytes
 turned-from s p zero v h = refl
@@ -99,5 +98,6 @@ turned-from s p (suc n) v h =
     rw (h n (omega arith), low-push n (beAt s p n) byte (omega arith), turned-from s p n v (λ k b. h k (omega arith)))
     (sym (bytes-parts 1 n v) ∙ ap (λ (m : ℕ). bytesOf m v) (one-add n))
 
+-- the bytes of v, turned round and stored lowest first, are its big-endian bytes
 pub turned-bytes : (n v : ℕ) → lowBytes n (beAt (lowBytes n v) 0 n) ≡ bytesOf n v
 turned-bytes n v = turned-from (lowBytes n v) 0 n v (λ k h. rw (zero-add k) (low-digit n v k h))

@@ -1,6 +1,6 @@
 -- Bytes stored into a list: read back where they stand, nothing changed elsewhere; big-endian numbers and their bytes in parts.
 use Prim.Native.Nat.{ℕ, zero, suc, _+_, _*_, _/_, _%_, _^_, _<_, _≤_}
-use mathlib.Core.Path.{_≡_, refl, sym, ap, _∙_}
+use mathlib.Core.Path.{_≡_, refl, sym, ap, ap₂, _∙_}
 use mathlib.Core.Logic.{_⊎_, inl, inr, ⊎-elim}
 use mathlib.Core.List.{List, [], _∷_, _++_, append-assoc, append-nil}
 use native.Mathlib.Nat.{add-zero, add-suc, add-assoc, mul-assoc, pow-suc, pow-succ', div-one, div-div-eq-div-mul, div-add-mod'}
@@ -45,13 +45,31 @@ sets-append l i (v ∷ vs) ws =
     let e : suc i + length vs ≡ i + suc (length vs) = omega arith in
     sets-append (set l i v) (suc i) vs ws ∙ ap (λ (k : ℕ). sets (sets (set l i v) (suc i) vs) k ws) e
 
+-- ---- numbers in either byte order
+
+-- a number read byte by byte is the same from the same bytes
+pub same-read : (read : List ℕ → ℕ → ℕ → ℕ) (step : ℕ → ℕ → ℕ → ℕ) → ((s : List ℕ) (p : ℕ) → read s p 0 ≡ 0)
+    → ((s : List ℕ) (p n : ℕ) → read s p (suc n) ≡ step n (read s p n) (getD s (p + n) 0))
+    → (s t : List ℕ) (p q n : ℕ) → ((k : ℕ) → k < n → getD s (p + k) 0 ≡ getD t (q + k) 0) → read s p n ≡ read t q n
+same-read read step none more s t p q zero h = none s p ∙ sym (none t q)
+same-read read step none more s t p q (suc n) h =
+    let rest = same-read read step none more s t p q n (λ k b. h k (omega arith)) in
+    more s p n ∙ ap₂ (step n) rest (h n (omega arith)) ∙ sym (more t q n)
+
+-- one more byte behind is a factor 256
+pub mul-bytes : (x n : ℕ) → x * 256 ^ suc n ≡ x * 256 ^ n * 256
+mul-bytes x n = ap (λ (d : ℕ). x * d) (pow-suc 256 n) ∙ sym (mul-assoc x (256 ^ n) 256)
+
+-- a shift by one byte and by n is one by the next number of bytes
+pub div-bytes : (v n : ℕ) → v / 256 / 256 ^ n ≡ v / 256 ^ suc n
+div-bytes v n = div-div-eq-div-mul v 256 (256 ^ n) ∙ ap (λ (d : ℕ). v / d) (sym (pow-succ' 256 n))
+
 -- ---- big-endian numbers
 
 -- the same bytes are the same number
 pub be-same : (s t : List ℕ) (p q n : ℕ) → ((k : ℕ) → k < n → getD s (p + k) 0 ≡ getD t (q + k) 0) → beAt s p n ≡ beAt t q n
 unfolding beAt
-be-same s t p q zero h = refl
-be-same s t p q (suc n) h = rw (be-same s t p q n (λ k b. h k (omega arith)), h n (omega arith))
+be-same s t p q n h = same-read beAt (λ n high byte. high * 256 + byte) (λ s p. refl) (λ s p n. refl) s t p q n h
 
 -- a number that no store meets is what it was
 pub be-kept : (l : List ℕ) (i : ℕ) (vs : List ℕ) (p n : ℕ) → Apart p n i (length vs) → beAt (sets l i vs) p n ≡ beAt l p n
@@ -72,17 +90,10 @@ pub be-parts : (s : List ℕ) (p m n : ℕ) → beAt s p (m + n) ≡ beAt s p m 
 unfolding beAt
 be-parts s p m zero = rw (add-zero m) (omega arith)
 be-parts s p m (suc n) =
-    let high = beAt s p m in
-    let low = beAt s (p + m) n in
     let place : p + (m + n) ≡ p + m + n = sym (add-assoc p m n) in
-    let widen : high * (256 ^ n * 256) ≡ high * 256 ^ n * 256 = sym (mul-assoc high (256 ^ n) 256) in
-    rw (add-suc m n, be-parts s p m n, place, pow-suc, widen) (omega arith)
+    rw (add-suc m n, be-parts s p m n, place, mul-bytes (beAt s p m) n) (omega arith)
 
 -- ---- the bytes of a number
-
--- a shift by one byte and by n is one by the next number of bytes
-pub div-bytes : (v n : ℕ) → v / 256 / 256 ^ n ≡ v / 256 ^ suc n
-div-bytes v n = div-div-eq-div-mul v 256 (256 ^ n) ∙ ap (λ (d : ℕ). v / d) (sym (pow-succ' 256 n))
 
 -- m + n bytes are the m above the last n, and these
 pub bytes-parts : (m n v : ℕ) → bytesOf (m + n) v ≡ bytesOf m (v / 256 ^ n) ++ bytesOf n v
@@ -96,10 +107,9 @@ bytes-above : (n a v : ℕ) → bytesOf n (a * 256 ^ n + v) ≡ bytesOf n v
 unfolding bytesOf
 bytes-above zero a v = refl
 bytes-above (suc n) a v =
-    let e : a * 256 ^ suc n ≡ a * 256 ^ n * 256 = ap (λ (d : ℕ). a * d) (pow-suc 256 n) ∙ sym (mul-assoc a (256 ^ n) 256) in
     let high : (a * 256 ^ n * 256 + v) / 256 ≡ a * 256 ^ n + v / 256 = omega arith in
     let low : (a * 256 ^ n * 256 + v) % 256 ≡ v % 256 = omega arith in
-    rw (e, high, low, bytes-above n a (v / 256))
+    rw (mul-bytes a n, high, low, bytes-above n a (v / 256))
 
 -- so the n bytes are those of what they can hold
 pub bytes-low : (n v : ℕ) → bytesOf n (v % 256 ^ n) ≡ bytesOf n v

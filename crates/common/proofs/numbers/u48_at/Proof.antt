@@ -7,8 +7,8 @@ use Rattle.common.proofs.numbers.u48_at.Tie as tie
 u16-at-requires : tie.Need-u16-at-requires
 u16-at-requires c κs = search needs
 
-cast-high : tie.Need-cast-high
-cast-high c = search needs
+cast-first : tie.Need-cast-first
+cast-first c = search needs
 
 add-u32-at : tie.Need-add-u32-at
 add-u32-at c = search needs
@@ -16,8 +16,8 @@ add-u32-at c = search needs
 u32-at-requires : tie.Need-u32-at-requires
 u32-at-requires c κs = search needs
 
-cast-low : tie.Need-cast-low
-cast-low c = search needs
+cast-last : tie.Need-cast-last
+cast-last c = search needs
 
 mul-result : tie.Need-mul-result
 mul-result c = search needs
@@ -33,10 +33,10 @@ u48-at-spec =
     tie.close
     (tie.spec
     u16-at-requires
-    cast-high
+    cast-first
     add-u32-at
     u32-at-requires
-    cast-low
+    cast-last
     mul-result
     add-result
     returns)

@@ -6,7 +6,6 @@ use native.Mathlib.Omega.{arith}
 use denote.Ref.{now}
 use borrow.Author.Needs.{needs}
 use Rattle.common.proofs.Laws.{number-read, number-past, passed}
-use Rattle.common.proofs.Laws.{number-read, number-past}
 use Rattle.common.proofs.reader.Reader.read_u32.Statement.{statement}
 use Rattle.common.proofs.reader.Reader.read_u32.Tie as tie
 
