@@ -10,10 +10,10 @@ use lib.ListN.{length, getD, set}
 use lib.Seq.{sets}
 use lib.Bits.{bitAnd, bitOr, and-high, or-shifted}
 use lib.Pow.{pow-add, low}
-use lib.Dec.{leb, eqb, lit<}
+use lib.Dec.{leb, lit<}
 use borrow.Author.Tests.{leb-true, leb-false, le-leb, lt-leb}
-use Rattle.format.specs.Bytes.{either, pick, beAt, bytesOf}
-use Rattle.format.specs.ClipRecord.{lettersRight}
+use Rattle.format.specs.Bytes.{pick, beAt, bytesOf}
+use Rattle.format.specs.ClipRecord.{areLetters, lettersRight}
 use Rattle.format.specs.Tables.{lowAt, lowBytes, cellAt, cellBytes, rowBytes}
 use Rattle.format.proofs.Numbers.{bytes-length}
 use Rattle.format.proofs.Stores.{be-below, be-parts, bytes-parts, sets-append}
@@ -148,7 +148,7 @@ passed a b e t = leb-true a b (sym e ∙ t)
 -- ---- the header
 
 -- the test on the four letters that were read is the one on the file
-pub letters : (f : List ℕ) {v : ℕ} {r : Bool} → ReadIs f 0 4 v → r ≡ either (eqb v 0x48444D56) (eqb v 0x434C5049) → r ≡ lettersRight f
+pub letters : (f : List ℕ) {v : ℕ} {r : Bool} → ReadIs f 0 4 v → r ≡ areLetters v → r ≡ lettersRight f
 unfolding lettersRight
 letters f is e = e ∙ rw (is .same)
 

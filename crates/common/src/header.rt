@@ -1,7 +1,6 @@
 // The front of a file: four letters, HDMV or CLPI, and a version of four bytes.
 ghost use mathlib.Core.Path.{_≡_};
-ghost use lib.Dec.{eqb};
-ghost use Rattle.format.specs.Bytes.{either};
+ghost use Rattle.format.specs.ClipRecord.{areLetters};
 ghost use Rattle.common.specs.Header.{headerOf};
 use crate::numbers::u32_at;
 
@@ -23,7 +22,7 @@ const CLPI: u32 = 0x434C5049;
 
 // Whether four letters as one number are those of a clip file.
 fn is_clip(letters: u32) -> bool
-    ensures { λ r. ⌜ r ≡ either (eqb letters 0x48444D56) (eqb letters 0x434C5049) ⌝ }
+    ensures { λ r. ⌜ r ≡ areLetters letters ⌝ }
 {
     if letters == HDMV {
         true

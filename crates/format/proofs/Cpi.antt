@@ -12,7 +12,7 @@ use borrow.Author.Tests.{lt-ltb, le-leb, ne-eqb}
 use Rattle.format.specs.Bytes.{both, pick, every, beAt, bytesOf, fieldBytes, unpacked, packed, fits, rowsAt, gather, flat}
 use Rattle.format.specs.ClipRecord.{Row, mapType, entryCount, present}
 use Rattle.format.specs.EntryPoints.{coarseWidths, coarseAt, nextCoarse, fineWidths, fineAt, nextFine, headerWidths, mapTypeAt, coarseCountAt, fineCountAt, mapAt, nextMap, entriesOf, cpiEnd, hasMaps, mapCount, mapsFrom, entriesFrom, cpiIn, mapIn, mapsIn}
-use Rattle.format.specs.Rewriting.{sameRun, coarseRow, startRun, coarseAfter, coarseRows, runs, coarseBytes, fineRow, fineBytes, bodyBytes, bodies, headerBytes, headers, cpiBytesBy}
+use Rattle.format.specs.Rewriting.{sameRun, coarseRow, unlessSame, coarseAfter, coarseRows, runs, coarseBytes, fineRow, fineBytes, bodyBytes, bodies, headerBytes, headers, cpiBytesBy}
 use Rattle.format.proofs.Fields.{Fit, fit, packed-below, unpack, one}
 use Rattle.format.proofs.Good.{GoodMap, Maps, none, more}
 use Rattle.format.proofs.Join.{finesOf, GoodEntry, join-back}
@@ -37,7 +37,7 @@ after-good type e k (more {x = x} {xs = xs} g gs) h =
     go (sameRun e x) (row-good type k x (omega arith) (g .cells)) (after-good type x (suc k) gs (omega arith))
   where
     go : (b : Bool) → GoodCoarse (coarseRow k x) → All GoodCoarse (coarseAfter x (suc k) xs)
-        → All GoodCoarse (startRun b (coarseRow k x) (coarseAfter x (suc k) xs))
+        → All GoodCoarse (unlessSame b (coarseRow k x) (coarseAfter x (suc k) xs))
     go true r rs = rs
     go false r rs = more r rs
 

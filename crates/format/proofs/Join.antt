@@ -10,7 +10,7 @@ use lib.Dec.{leb, eqb}
 use borrow.Author.Tests.{le-leb, lt-leb, eqb-true}
 use Rattle.format.specs.ClipRecord.{Row, time, entryType}
 use Rattle.format.specs.EntryPoints.{coarseTime, coarsePacket, entryOf, stepOn, coarseFor, entriesFor}
-use Rattle.format.specs.Rewriting.{timeKey, packetKey, sameRun, coarseRow, startRun, coarseAfter, coarseRows, fineRow}
+use Rattle.format.specs.Rewriting.{timeKey, packetKey, sameRun, coarseRow, unlessSame, coarseAfter, coarseRows, fineRow}
 use Rattle.format.proofs.Fields.{Fit, time-back, packet-back, one}
 use Rattle.format.proofs.Lists.{All, none, more}
 use Rattle.format.proofs.Tests.{both-true}
@@ -24,7 +24,7 @@ stay c e k j [] h = refl
 stay c e k j (x ∷ xs) h = go (sameRun e x) (stay c x k (suc j) xs (omega arith))
   where
     go : (b : Bool) → stepOn c (coarseAfter x (suc j) xs) k ≡ c
-        → stepOn c (startRun b (coarseRow j x) (coarseAfter x (suc j) xs)) k ≡ c
+        → stepOn c (unlessSame b (coarseRow j x) (coarseAfter x (suc j) xs)) k ≡ c
     go true i = i
     go false i = rw (lt-leb j k h)
 
@@ -60,7 +60,7 @@ module _ (type : ℕ) (whole : List Row) where
       here d cov′ e = rw e (joined-by type d x (g .cells) (g .step) (g .type-same) cov′)
 
       go : (b : Bool) → sameRun e x ≡ b
-          → ((j : ℕ) → k ≤ j → coarseFor whole j ≡ stepOn c (startRun b (coarseRow k x) (coarseAfter x (suc k) xs)) j)
+          → ((j : ℕ) → k ≤ j → coarseFor whole j ≡ stepOn c (unlessSame b (coarseRow k x) (coarseAfter x (suc k) xs)) j)
           → ((d : Row) → Covers d x → ((j : ℕ) → suc k ≤ j → coarseFor whole j ≡ stepOn d (coarseAfter x (suc k) xs) j)
           → entriesFor type whole (suc k) (finesOf xs) ≡ xs)
           → entryOf type (coarseFor whole k) (fineRow x) ∷ entriesFor type whole (suc k) (finesOf xs) ≡ x ∷ xs

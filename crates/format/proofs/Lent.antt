@@ -1,18 +1,17 @@
 -- Questions and writing look at the stated rows alone: what lent tables hold is their record.
-use Prim.Native.Nat.{ℕ, zero, suc, _+_, _*_, _<_, _≤_}
-use mathlib.Core.Path.{_≡_, refl, sym, ap, _∙_}
+use Prim.Native.Nat.{ℕ, _<_, _≤_}
+use mathlib.Core.Path.{_≡_, refl}
 use mathlib.Core.List.{List, [], _∷_, _++_}
-use mathlib.Core.Bool.{Bool, true, false}
-use native.Mathlib.Omega.{arith}
-use lib.ListN.{length, getD}
+use mathlib.Core.Bool.{true}
+use lib.ListN.{length, drop}
 use lib.Dec.{lit<, lit≤}
 use borrow.Author.Tests.{le-leb}
 use Rattle.format.specs.ClipRecord.{Row, Clip}
-use Rattle.format.specs.Questions.{Question, entryPointAtOrBefore, entryPointAfter, primaryVideoEpMap, spnToByte, byteToSpn, stcSequenceById, stcSequenceForSpn, streamByPid, primaryVideoPid, duration45k, duration90k, presentationSpan90k, indexedSpan90k, transferDurationSecs, minutesRemaining, answer, isLent, ask}
-use Rattle.format.specs.Refusals.{accepted, shortFrom, filled, allStated}
-use Rattle.format.specs.Tables.{tableBytes, rowsLent, overwritten, atcCells, stcCells, programCells, streamCells, mapCells, entryCells, Table, isStated, rowsOf, Lent, clipIn, HoldsRows, HoldsClip, Room}
+use Rattle.format.specs.Questions.{Part, scalars, atcs, stcs, streams, maps, entries, partsOf, partStated, HoldsPart, Question, entryPointAtOrBefore, entryPointAfter, primaryVideoEpMap, spnToByte, byteToSpn, stcSequenceById, stcSequenceForSpn, streamByPid, primaryVideoPid, duration45k, duration90k, presentationSpan90k, indexedSpan90k, transferDurationSecs, minutesRemaining, answer, ask}
+use Rattle.format.specs.Refusals.{accepted, tablesOf, statedOf, tablesAnswer, allStated}
+use Rattle.format.specs.Tables.{tableBytes, rowsLent, overwritten, atcCells, stcCells, programCells, streamCells, mapCells, entryCells, Table, isStated, rowsOf, Lent, clipIn, Nine, HoldsRows, HoldsClip, Room}
 use Rattle.format.proofs.Fields.{Fit}
-use Rattle.format.proofs.Lists.{All, all-append, all-map, none, more}
+use Rattle.format.proofs.Lists.{All, all-every, all-append, all-map, none, more}
 use Rattle.format.proofs.Tables.{Cells, fit-cells, table-back, table-room}
 use Rattle.format.proofs.Tests.{true-both}
 use Rattle.format.proofs.Good.{Maps, GoodClip}
@@ -99,41 +98,73 @@ module _ (l : Lent) (c : Clip) (s : Shaped c) (h : HoldsClip l c) where
   all-stated =
       true-both atcs-stated (true-both stcs-stated (true-both programs-stated (true-both streams-stated (true-both maps-stated entries-stated))))
 
-  -- whatever is asked, the tables it is lent are stated in full
-  lent-all : (q : Question) → isLent q l ≡ true
-  unfolding isLent
-  lent-all (entryPointAtOrBefore m at) = true-both maps-stated entries-stated
-  lent-all (entryPointAfter m at) = true-both maps-stated entries-stated
-  lent-all primaryVideoEpMap = maps-stated
-  lent-all (spnToByte spn) = refl
-  lent-all (byteToSpn byte) = refl
-  lent-all (stcSequenceById id) = true-both atcs-stated stcs-stated
-  lent-all (stcSequenceForSpn atc spn) = true-both atcs-stated stcs-stated
-  lent-all (streamByPid pid) = streams-stated
-  lent-all primaryVideoPid = streams-stated
-  lent-all (duration45k stc) = stcs-stated
-  lent-all (duration90k stc) = stcs-stated
-  lent-all presentationSpan90k = stcs-stated
-  lent-all (indexedSpan90k m) = true-both maps-stated entries-stated
-  lent-all transferDurationSecs = refl
-  lent-all (minutesRemaining at) = stcs-stated
+-- ---- a question looks at its own parts alone, and of these at the stated rows
 
-  -- an answer from tables that hold a record is the answer on that record
-  pub asked : (q : Question) → ask q l ≡ answer q c
+module _ (l : Lent) (c : Clip) (s : Shaped c) where
+  -- a part that holds its rows is stated in full
+  part-stated : (p : Part) → HoldsPart l c p → partStated l p ≡ true
+  part-stated scalars h = refl
+  part-stated atcs h = is-stated atcCells (l .atcs) (s .atcs) h (lit< tt)
+  part-stated stcs h = is-stated stcCells (l .stcs) (s .stcs) h (lit< tt)
+  part-stated streams h = is-stated streamCells (l .streams) (s .streams) h (lit< tt)
+  part-stated maps h = is-stated mapCells (l .maps) (s .maps) h (lit< tt)
+  part-stated entries h = is-stated entryCells (l .entries) (s .entries) h (lit< tt)
+
+  stcs-held : HoldsPart l c stcs → rowsOf stcCells (l .stcs) ≡ c .stcs
+  stcs-held h = rows-held stcCells (l .stcs) (s .stcs) h
+
+  streams-held : HoldsPart l c streams → rowsOf streamCells (l .streams) ≡ c .streams
+  streams-held h = rows-held streamCells (l .streams) (s .streams) h
+
+  atcs-held : HoldsPart l c atcs → rowsOf atcCells (l .atcs) ≡ c .atcs
+  atcs-held h = rows-held atcCells (l .atcs) (s .atcs) h
+
+  maps-held : HoldsPart l c maps → rowsOf mapCells (l .maps) ≡ c .maps
+  maps-held h = rows-held mapCells (l .maps) (s .maps) h
+
+  entries-held : HoldsPart l c entries → rowsOf entryCells (l .entries) ≡ c .entries
+  entries-held h = rows-held entryCells (l .entries) (s .entries) h
+
+  -- the answer on what the tables hold is the answer on the record
+  same-answer : (q : Question) → All (HoldsPart l c) (partsOf q) → answer q (clipIn l) ≡ answer q c
+  unfolding answer clipIn
+  same-answer (entryPointAtOrBefore m at) (more hm (more he none)) = rw (maps-held hm, entries-held he)
+  same-answer (entryPointAfter m at) (more hm (more he none)) = rw (maps-held hm, entries-held he)
+  same-answer primaryVideoEpMap (more hm none) = rw (maps-held hm)
+  same-answer (spnToByte spn) (more h none) = rw h
+  same-answer (byteToSpn byte) (more h none) = rw h
+  same-answer (stcSequenceById id) (more ha (more hs none)) = rw (atcs-held ha, stcs-held hs)
+  same-answer (stcSequenceForSpn atc spn) (more ha (more hs none)) = rw (atcs-held ha, stcs-held hs)
+  same-answer (streamByPid pid) (more h none) = rw (streams-held h)
+  same-answer primaryVideoPid (more h none) = rw (streams-held h)
+  same-answer (duration45k stc) (more h none) = rw (stcs-held h)
+  same-answer (duration90k stc) (more h none) = rw (stcs-held h)
+  same-answer presentationSpan90k (more h none) = rw (stcs-held h)
+  same-answer (indexedSpan90k m) (more hm (more he none)) = rw (maps-held hm, entries-held he)
+  same-answer transferDurationSecs (more h none) = rw h
+  same-answer (minutesRemaining at) (more h none) = rw (stcs-held h)
+
+  pub asked : (q : Question) → All (HoldsPart l c) (partsOf q) → ask q l ≡ answer q c
   unfolding ask
-  asked q = rw (lent-all q, clip-held)
+  asked q h = rw (all-every (partStated l) (all-map part-stated h)) (same-answer q h)
 
--- ---- the tables that reading filled
+-- ---- reading into tables with room
 
--- no table is too short where there is room
-pub no-short : (k : ℕ) {cells : List ℕ} {needed : List (List Row)} {lent : List (List ℕ)} → Room cells needed lent → shortFrom k cells needed lent ≡ accepted
-no-short k Room.none = refl
-no-short k (Room.more {cells = cells} {rows = rows} {t = t} h later) =
-    rw (le-leb (length rows) (rowsLent cells t) h) (no-short (suc k) later)
+pub no-short : (f : List ℕ) (lent : Nine (List ℕ)) → Room (tablesOf f) lent → tablesAnswer f lent ≡ accepted (statedOf f)
+unfolding tablesAnswer
+no-short f lent r =
+    rw (
+      le-leb _ _ (r .atcs),
+      le-leb _ _ (r .stcs),
+      le-leb _ _ (r .programs),
+      le-leb _ _ (r .streams),
+      le-leb _ _ (r .maps),
+      le-leb _ _ (r .entries),
+      le-leb _ _ (r .extensions),
+      le-leb _ _ (r .listPrograms),
+      le-leb _ _ (r .listStreams),
+    )
 
--- each is its rows, and then what stood there
-pub filled-at : (k : ℕ) {cells : List ℕ} {needed : List (List Row)} {lent : List (List ℕ)} → Room cells needed lent → k < length cells
-    → getD (filled needed lent) k [] ≡ overwritten (tableBytes (getD needed k [])) (getD lent k [])
-filled-at k Room.none h = absurd (omega arith)
-filled-at zero (Room.more r later) h = refl
-filled-at (suc k) (Room.more r later) h = filled-at k later (omega arith)
+-- a table that was filled holds its rows, and beyond them what stood there
+pub filled-holds : (rows : List Row) (t : List ℕ) → HoldsRows (record { bytes = overwritten (tableBytes rows) t; rows = length rows }) rows
+filled-holds rows t = record { stated = refl; beyond = drop (length (tableBytes rows)) t; bytes = refl }

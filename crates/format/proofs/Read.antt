@@ -15,7 +15,7 @@ use Rattle.format.specs.EntryPoints.{coarseAt, nextCoarse, firstFine, fi
 use Rattle.format.specs.Programs.{isVideo, lower, lowered, codingAt, formatAt, aspectAt, languageAt, streamAt, nextStream, programAt, streamsOf, nextProgram, programsFrom, streamsFrom, loweredStream}
 use Rattle.format.specs.Reading.{clipOf}
 use Rattle.format.specs.Refusals.{everyMap, runsFit}
-use Rattle.format.specs.Rewriting.{sameRun, coarseRow, startRun, coarseAfter, runs}
+use Rattle.format.specs.Rewriting.{sameRun, coarseRow, unlessSame, coarseAfter, runs}
 use Rattle.format.proofs.Fields.{Fit, fit, time-is}
 use Rattle.format.proofs.Good.{GoodAtc, GoodStc, GoodProgram, GoodStream, GoodMap, Maps, GoodClip, none, more}
 use Rattle.format.proofs.Join.{GoodEntry}
@@ -126,7 +126,7 @@ unfolding coarseAfter
 after-few e k [] = omega arith
 after-few e k (x ∷ xs) = go (sameRun e x) (after-few x (suc k) xs)
   where
-    go : (b : Bool) → length (coarseAfter x (suc k) xs) ≤ length xs → length (startRun b (coarseRow k x) (coarseAfter x (suc k) xs)) ≤ suc (length xs)
+    go : (b : Bool) → length (coarseAfter x (suc k) xs) ≤ length xs → length (unlessSame b (coarseRow k x) (coarseAfter x (suc k) xs)) ≤ suc (length xs)
     go true h = omega arith
     go false h = omega arith
 

@@ -48,7 +48,7 @@ unfoldable pub bytesOf : ℕ → ℕ → List ℕ
 bytesOf zero v = []
 bytesOf (suc n) v = bytesOf n (v / 256) ++ (v % 256 ∷ [])
 
--- the bytes of values in fields that are `widths` bytes wide
+-- the bytes of values in fields that are `widths` bytes wide; of a value that does not fit, its low bytes
 abbrev pub fieldBytes : List ℕ → List ℕ → List ℕ
 fieldBytes [] values = []
 fieldBytes (w ∷ widths) [] = []
@@ -71,13 +71,13 @@ abbrev pub unpacked : List ℕ → ℕ → List ℕ
 unpacked [] x = []
 unpacked (w ∷ widths) x = x / 2 ^ widthOf widths % 2 ^ w ∷ unpacked widths x
 
--- the number whose fields have these values
+-- the number whose fields have these values, where each fits its field
 abbrev pub packed : List ℕ → List ℕ → ℕ
 packed [] values = 0
 packed (w ∷ widths) [] = 0
 packed (w ∷ widths) (v ∷ values) = v * 2 ^ widthOf widths + packed widths values
 
--- as many values as fields, each narrower than its field of so many bits
+-- as many values as fields, each below 2 ^ its field's width
 abbrev pub fits : List ℕ → List ℕ → Bool
 fits [] [] = true
 fits [] (v ∷ values) = false

@@ -98,10 +98,10 @@ angle entry = getD entry 0 0
 abbrev pub iEnd : Row → ℕ
 iEnd entry = getD entry 1 0
 
+-- an entry's time as the cell that is read and written, and as what it counts
 abbrev pub time : Row → ℕ
 time entry = getD entry 2 0
 
--- an entry's time counts 90 kHz ticks
 abbrev pub entryTime : Row → Ticks90
 entryTime entry = record { ticks = time entry }
 
@@ -113,9 +113,19 @@ entryType entry = getD entry 4 0
 
 -- ---- the header: letters, version, five starts
 
--- HDMV or CLPI, not kept
+-- the letters HDMV and CLPI, each as one number
+abbrev pub hdmv : ℕ
+hdmv = 0x48444D56
+
+abbrev pub clpi : ℕ
+clpi = 0x434C5049
+
+abbrev pub areLetters : ℕ → Bool
+areLetters letters = either (eqb letters hdmv) (eqb letters clpi)
+
+-- HDMV or CLPI at 0, not kept
 unfoldable pub lettersRight : List ℕ → Bool
-lettersRight f = either (eqb (beAt f 0 4) 0x48444D56) (eqb (beAt f 0 4) 0x434C5049)
+lettersRight f = areLetters (beAt f 0 4)
 
 abbrev pub versionOf : List ℕ → ℕ
 versionOf f = beAt f 4 4

@@ -118,6 +118,7 @@ entriesOf f c p =
 abbrev pub cpiLength : List ℕ → ℕ → ℕ
 cpiLength f c = beAt f c 4
 
+-- the CPI end: CPI start + 4 + N
 abbrev pub cpiEnd : List ℕ → ℕ → ℕ
 cpiEnd f c = c + 4 + cpiLength f c
 

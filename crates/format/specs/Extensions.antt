@@ -34,7 +34,7 @@ nextExtension p = p + 12
 abbrev pub extensionAt : List ℕ → ℕ → ℕ → Row
 extensionAt f start p = beAt f p 2 ∷ beAt f (p + 2) 2 ∷ (start + addressAt f p) ∷ dataLengthAt f p ∷ []
 
--- left out: an address of 0, or data past the smaller of block end and file end
+-- kept: an address that is not 0, and data that ends within the smaller of block end and file end; else left out
 abbrev pub isKept : List ℕ → ℕ → ℕ → Bool
 isKept f start p =
     both (not (eqb (addressAt f p) 0))
@@ -75,6 +75,10 @@ dataOf f row = take (dataLength row) (drop (dataStart row) f)
 
 abbrev pub extensionOf : List ℕ → Row → Extension
 extensionOf f row = record { id1 = firstId row; id2 = secondId row; bytes = dataOf f row }
+
+-- the data of a row lies inside the file
+abbrev pub dataIn : List ℕ → Row → Bool
+dataIn f row = leb (dataStart row + dataLength row) (length f)
 
 unfoldable pub extensionsFrom : List ℕ → ℕ → List Extension
 extensionsFrom f start = map (extensionOf f) (extensionRows f start)

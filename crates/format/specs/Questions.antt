@@ -7,36 +7,38 @@ use lib.ListN.{length, getD, take, drop}
 use lib.Dec.{leb, ltb, eqb}
 use lib.IntN.{pos}
 use lib.Ieee.{Float, nan, inf, fin, binary64, up, down, ofInt, div, ofBits, toBits}
-use Rattle.format.specs.Bytes.{both, either, pick, total}
+use Rattle.format.specs.Bytes.{both, either, pick, every, total}
 use Rattle.format.specs.Ticks.{Ticks45, Ticks90, doubled, less45, less90, minutes}
 use Rattle.format.specs.ClipRecord.{Row, Clip, atcStcCount, offsetId, stcPacket, stcStart, stcEnd, streamPid, codingType, mapPid, mapType, entryCount, time, entryTime}
 use Rattle.format.specs.Programs.{isVideo}
-use Rattle.format.specs.Tables.{Table, Lent, isStated, clipIn, atcCells, stcCells, streamCells, mapCells, entryCells}
+use Rattle.format.specs.Tables.{Lent, isStated, addUp, isRow, clipIn, HoldsRows, atcCells, stcCells, streamCells, mapCells, entryCells}
 
--- every question with its arguments. Rows are counted from 0, entries within their map, STCs through all ATCs.
+-- every question with its arguments, and what it answers. Rows are counted from 0, entries within their map, STCs through all ATCs.
 -- A caller's 90 kHz time has 32 bits for entry lookups and 64 elsewhere; the answers here hold for any number
 pub data Question : Type 0 where
-  entryPointAtOrBefore : (map : ℕ) (at : Ticks90) → Question
-  entryPointAfter : (map : ℕ) (at : Ticks90) → Question
-  primaryVideoEpMap : Question
-  spnToByte : (spn : ℕ) → Question
-  byteToSpn : (byte : ℕ) → Question
-  stcSequenceById : (id : ℕ) → Question
-  stcSequenceForSpn : (atc spn : ℕ) → Question
-  streamByPid : (pid : ℕ) → Question
-  primaryVideoPid : Question
-  duration45k : (stc : ℕ) → Question
-  duration90k : (stc : ℕ) → Question
-  presentationSpan90k : Question
-  indexedSpan90k : (map : ℕ) → Question
-  transferDurationSecs : Question
-  minutesRemaining : (at : Ticks90) → Question
+  entryPointAtOrBefore : (map : ℕ) (at : Ticks90) → Question  -- a row of the map's entries
+  entryPointAfter : (map : ℕ) (at : Ticks90) → Question  -- a row of the map's entries, or none
+  primaryVideoEpMap : Question  -- a row of table 5, or none
+  spnToByte : (spn : ℕ) → Question  -- a byte, or none
+  byteToSpn : (byte : ℕ) → Question  -- a packet, or none
+  stcSequenceById : (id : ℕ) → Question  -- a row of table 2, or none
+  stcSequenceForSpn : (atc spn : ℕ) → Question  -- a row of table 2, or none
+  streamByPid : (pid : ℕ) → Question  -- a row of table 4, or none
+  primaryVideoPid : Question  -- a PID, or none
+  duration45k : (stc : ℕ) → Question  -- 45 kHz ticks
+  duration90k : (stc : ℕ) → Question  -- 90 kHz ticks
+  presentationSpan90k : Question  -- 90 kHz ticks
+  indexedSpan90k : (map : ℕ) → Question  -- 90 kHz ticks
+  transferDurationSecs : Question  -- seconds, or no rate
+  minutesRemaining : (at : Ticks90) → Question  -- minutes
 
--- a refusal, none, a number (a row, packet, byte, PID, ticks or minutes), or the choice of seconds or no rate
+-- a refusal's number, none, a number (a row, packet, byte, PID or minutes), a time, or the choice of seconds or no rate
 pub data Answer : Type 0 where
   refused : ℕ → Answer
   none : Answer
   number : ℕ → Answer
+  ticks45 : Ticks45 → Answer
+  ticks90 : Ticks90 → Answer
   seconds : Float → Answer
   noRate : Answer
 
@@ -77,6 +79,8 @@ abbrev pub orElse : Answer → Answer → Answer
 orElse none later = later
 orElse (refused n) later = refused n
 orElse (number k) later = number k
+orElse (ticks45 t) later = ticks45 t
+orElse (ticks90 t) later = ticks90 t
 orElse (seconds q) later = seconds q
 orElse noRate later = noRate
 
@@ -90,17 +94,10 @@ firstRow count heads h = total count (take h heads)
 abbrev pub ownRows : (Row → ℕ) → List Row → List Row → ℕ → List Row
 ownRows count heads rows h = take (count (getD heads h [])) (drop (firstRow count heads h) rows)
 
--- the counts of the headers add up to the rows
-abbrev pub addUp : (Row → ℕ) → List Row → List Row → Bool
-addUp count heads rows = eqb (total count heads) (length rows)
-
--- 22: a row number outside its table's rows, or row counts that don't add up
+-- 22 where a test fails
 abbrev pub unless22 : Bool → Answer → Answer
 unless22 true answer = answer
 unless22 false answer = refused 22
-
-abbrev pub isRow : ℕ → List Row → Bool
-isRow k rows = ltb k (length rows)
 
 -- ---- entry points of one map, by their times
 
@@ -121,12 +118,6 @@ lastOf t (e ∷ es) = lastOf (entryTime e) es
 unfoldable pub spanOf : List Row → Ticks90
 spanOf [] = record { ticks = 0 }
 spanOf (e ∷ es) = less90 (lastOf (entryTime e) es) (entryTime e)
-
--- what is asked of the entries of map m
-abbrev pub inMap : Clip → ℕ → (List Row → Answer) → Answer
-inMap c m question =
-    unless22 (both (addUp entryCount (c .maps) (c .entries)) (isRow m (c .maps)))
-    (question (ownRows entryCount (c .maps) (c .entries) m))
 
 -- ---- the primary map, by the low four bits of the type: first of type 8, else first of 1, 5, 6, 8, else least PID, earliest among equals
 
@@ -156,14 +147,14 @@ spnOf packets byte = pick (ltb (byte / packetBytes) packets) (number (byte / pac
 -- ---- STCs
 
 -- the first ATC in which id less offset id is not negative and is a row of it; k STCs stand before it
-abbrev pub stcById : List Row → ℕ → ℕ → Answer
+unfoldable pub stcById : List Row → ℕ → ℕ → Answer
 stcById [] id k = none
 stcById (a ∷ later) id k =
     pick (both (leb (offsetId a) id) (ltb (id - offsetId a) (atcStcCount a)))
     (number (k + (id - offsetId a))) (stcById later id (k + atcStcCount a))
 
 -- in one ATC, whose STCs begin with row k: the last row whose packet is at most the one given
-abbrev pub stcBySpn : List Row → ℕ → ℕ → Answer
+unfoldable pub stcBySpn : List Row → ℕ → ℕ → Answer
 stcBySpn stcs spn k = lastWhere (λ y. leb y spn) k (map stcPacket stcs) none
 
 -- end less start, not below 0
@@ -191,7 +182,7 @@ minutesLeft stcs at = minutes (less90 (doubled (latestEnd stcs)) at)
 
 -- ---- streams: the first in file order
 
-abbrev pub videoPid : List Row → Answer
+unfoldable pub videoPid : List Row → Answer
 videoPid [] = none
 videoPid (s ∷ later) = pick (isVideo (codingType s)) (number (streamPid s)) (videoPid later)
 
@@ -206,11 +197,11 @@ transferSecs rate packets =
 abbrev pub apart : ℕ → ℕ → ℕ
 apart a b = (a - b) + (b - a)
 
--- 2^53 × |q × rate − bytes| is at most bytes, for a q that is not negative. q is m × up e / down e, so both sides are taken times down e
+-- 2^53 × |q × rate − bytes| is at most bytes. q is m × up e / down e with its sign, so both sides are taken times down e
 abbrev pub Near : ℕ → ℕ → Float → Type 0
 Near rate bytes nan = ⊥
 Near rate bytes (inf s) = ⊥
-Near rate bytes (fin true m e) = ⊥
+Near rate bytes (fin true m e) = 2 ^ 53 * (m * up e * rate + bytes * down e) ≤ bytes * down e
 Near rate bytes (fin false m e) = 2 ^ 53 * apart (m * up e * rate) (bytes * down e) ≤ bytes * down e
 
 -- what holds of the answer: no rate exactly where the rate is 0, else seconds that are near, with q read exactly from its bits
@@ -220,47 +211,105 @@ IsTransfer rate packets noRate = rate ≡ 0
 IsTransfer rate packets (refused n) = ⊥
 IsTransfer rate packets none = ⊥
 IsTransfer rate packets (number n) = ⊥
+IsTransfer rate packets (ticks45 t) = ⊥
+IsTransfer rate packets (ticks90 t) = ⊥
+
+-- ---- what each question looks at: its rows, and 22
+
+-- the entries of map m, of a table of maps and a table of entries
+unfoldable pub ofMap : List Row → List Row → ℕ → (List Row → Answer) → Answer
+ofMap maps entries m question =
+    unless22 (both (addUp entryCount maps entries) (isRow m maps)) (question (ownRows entryCount maps entries m))
+
+-- the STCs through all ATCs
+unfoldable pub ofAtcs : List Row → List Row → Answer → Answer
+ofAtcs atcs stcs question = unless22 (addUp atcStcCount atcs stcs) question
+
+-- the STCs of one ATC, and the row of table 2 with which they begin
+unfoldable pub ofAtc : List Row → List Row → ℕ → (List Row → ℕ → Answer) → Answer
+ofAtc atcs stcs a question =
+    unless22 (both (addUp atcStcCount atcs stcs) (isRow a atcs))
+    (question (ownRows atcStcCount atcs stcs a) (firstRow atcStcCount atcs a))
+
+-- one STC
+unfoldable pub ofStc : List Row → ℕ → (Row → Answer) → Answer
+ofStc stcs k question = unless22 (isRow k stcs) (question (getD stcs k []))
 
 -- ---- the answer to each question on a record
 
 unfoldable pub answer : Question → Clip → Answer
-answer (entryPointAtOrBefore m at) c = inMap c m (λ es. atOrBefore (map time es) (at .ticks))
-answer (entryPointAfter m at) c = inMap c m (λ es. after (map time es) (at .ticks))
+answer (entryPointAtOrBefore m at) c = ofMap (c .maps) (c .entries) m (λ es. atOrBefore (map time es) (at .ticks))
+answer (entryPointAfter m at) c = ofMap (c .maps) (c .entries) m (λ es. after (map time es) (at .ticks))
 answer primaryVideoEpMap c = primaryMap (c .maps)
 answer (spnToByte spn) c = byteOf (c .scalars .packets) spn
 answer (byteToSpn byte) c = spnOf (c .scalars .packets) byte
-answer (stcSequenceById id) c = unless22 (addUp atcStcCount (c .atcs) (c .stcs)) (stcById (c .atcs) id 0)
-answer (stcSequenceForSpn atc spn) c =
-    unless22 (both (addUp atcStcCount (c .atcs) (c .stcs)) (isRow atc (c .atcs)))
-    (stcBySpn (ownRows atcStcCount (c .atcs) (c .stcs) atc) spn (firstRow atcStcCount (c .atcs) atc))
+answer (stcSequenceById id) c = ofAtcs (c .atcs) (c .stcs) (stcById (c .atcs) id 0)
+answer (stcSequenceForSpn atc spn) c = ofAtc (c .atcs) (c .stcs) atc (λ stcs first. stcBySpn stcs spn first)
 answer (streamByPid pid) c = firstWhere (λ y. eqb y pid) 0 (map streamPid (c .streams))
 answer primaryVideoPid c = videoPid (c .streams)
-answer (duration45k stc) c = unless22 (isRow stc (c .stcs)) (number (durationOf (getD (c .stcs) stc []) .ticks))
-answer (duration90k stc) c = unless22 (isRow stc (c .stcs)) (number (doubled (durationOf (getD (c .stcs) stc [])) .ticks))
-answer presentationSpan90k c = number (presentationSpan (c .stcs) .ticks)
-answer (indexedSpan90k m) c = inMap c m (λ es. number (spanOf es .ticks))
+answer (duration45k stc) c = ofStc (c .stcs) stc (λ s. ticks45 (durationOf s))
+answer (duration90k stc) c = ofStc (c .stcs) stc (λ s. ticks90 (doubled (durationOf s)))
+answer presentationSpan90k c = ticks90 (presentationSpan (c .stcs))
+answer (indexedSpan90k m) c = ofMap (c .maps) (c .entries) m (λ es. ticks90 (spanOf es))
 answer transferDurationSecs c = transferSecs (c .scalars .rate) (c .scalars .packets)
 answer (minutesRemaining at) c = number (minutesLeft (c .stcs) at)
 
 -- ---- the answer from lent tables
 
--- 22: in a table that the question is lent, more rows are stated than lent
-unfoldable pub isLent : Question → Lent → Bool
-isLent (entryPointAtOrBefore m at) l = both (isStated mapCells (l .maps)) (isStated entryCells (l .entries))
-isLent (entryPointAfter m at) l = both (isStated mapCells (l .maps)) (isStated entryCells (l .entries))
-isLent primaryVideoEpMap l = isStated mapCells (l .maps)
-isLent (spnToByte spn) l = true
-isLent (byteToSpn byte) l = true
-isLent (stcSequenceById id) l = both (isStated atcCells (l .atcs)) (isStated stcCells (l .stcs))
-isLent (stcSequenceForSpn atc spn) l = both (isStated atcCells (l .atcs)) (isStated stcCells (l .stcs))
-isLent (streamByPid pid) l = isStated streamCells (l .streams)
-isLent primaryVideoPid l = isStated streamCells (l .streams)
-isLent (duration45k stc) l = isStated stcCells (l .stcs)
-isLent (duration90k stc) l = isStated stcCells (l .stcs)
-isLent presentationSpan90k l = isStated stcCells (l .stcs)
-isLent (indexedSpan90k m) l = both (isStated mapCells (l .maps)) (isStated entryCells (l .entries))
-isLent transferDurationSecs l = true
-isLent (minutesRemaining at) l = isStated stcCells (l .stcs)
+-- which of tables 1 to 6 a question is lent, and whether it is given scalars
+pub data Part : Type 0 where
+  scalars : Part
+  atcs : Part
+  stcs : Part
+  streams : Part
+  maps : Part
+  entries : Part
+
+abbrev pub partsOf : Question → List Part
+partsOf (entryPointAtOrBefore m at) = maps ∷ entries ∷ []
+partsOf (entryPointAfter m at) = maps ∷ entries ∷ []
+partsOf primaryVideoEpMap = maps ∷ []
+partsOf (spnToByte spn) = scalars ∷ []
+partsOf (byteToSpn byte) = scalars ∷ []
+partsOf (stcSequenceById id) = atcs ∷ stcs ∷ []
+partsOf (stcSequenceForSpn atc spn) = atcs ∷ stcs ∷ []
+partsOf (streamByPid pid) = streams ∷ []
+partsOf primaryVideoPid = streams ∷ []
+partsOf (duration45k stc) = stcs ∷ []
+partsOf (duration90k stc) = stcs ∷ []
+partsOf presentationSpan90k = stcs ∷ []
+partsOf (indexedSpan90k m) = maps ∷ entries ∷ []
+partsOf transferDurationSecs = scalars ∷ []
+partsOf (minutesRemaining at) = stcs ∷ []
+
+-- in a part that is lent, not more rows are stated than lent, else 22
+abbrev pub partStated : Lent → Part → Bool
+partStated l scalars = true
+partStated l atcs = isStated atcCells (l .atcs)
+partStated l stcs = isStated stcCells (l .stcs)
+partStated l streams = isStated streamCells (l .streams)
+partStated l maps = isStated mapCells (l .maps)
+partStated l entries = isStated entryCells (l .entries)
 
 unfoldable pub ask : Question → Lent → Answer
-ask question l = unless22 (isLent question l) (answer question (clipIn l))
+ask question l = unless22 (every (partStated l) (partsOf question)) (answer question (clipIn l))
+
+-- a part that holds what the record has there, with anything beyond its rows
+abbrev pub HoldsPart : Lent → Clip → Part → Type 0
+HoldsPart l c scalars = l .scalars ≡ c .scalars
+HoldsPart l c atcs = HoldsRows (l .atcs) (c .atcs)
+HoldsPart l c stcs = HoldsRows (l .stcs) (c .stcs)
+HoldsPart l c streams = HoldsRows (l .streams) (c .streams)
+HoldsPart l c maps = HoldsRows (l .maps) (c .maps)
+HoldsPart l c entries = HoldsRows (l .entries) (c .entries)
+
+-- ---- 01's numbers of an answer: the refusal, whether there is a value, the value. Other numbers are 0
+
+abbrev pub answerNumbers : Answer → List ℕ
+answerNumbers (refused n) = n ∷ 0 ∷ 0 ∷ []
+answerNumbers none = 0 ∷ 0 ∷ 0 ∷ []
+answerNumbers (number v) = 0 ∷ 1 ∷ v ∷ []
+answerNumbers (ticks45 t) = 0 ∷ 1 ∷ t .ticks ∷ []
+answerNumbers (ticks90 t) = 0 ∷ 1 ∷ t .ticks ∷ []
+answerNumbers (seconds q) = 0 ∷ 1 ∷ toBits binary64 q ∷ []
+answerNumbers noRate = 0 ∷ 0 ∷ 0 ∷ []

@@ -100,7 +100,7 @@ refusalRead f =
     (unless (mapsRead f (cpiStart f)) 7
     (unless (marksRead f (marksStart f)) 8 0)))))))))
 
--- extensions: block length, and where it is not 0 the ignored word, spare bytes, count and entries; a failed read gives none
+-- extensions: whether entries are read. Block length, and where it is not 0 the ignored word, spare bytes, count and entries; a failed read gives none
 abbrev pub extensionRead : List ℕ → ℕ → Bool
 extensionRead f p = readsIn f p (2 ∷ 2 ∷ 4 ∷ 4 ∷ [])
 

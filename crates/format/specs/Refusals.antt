@@ -1,17 +1,16 @@
 -- "Who can be refused": the numbers, in the order in which they are tested, and what a call leaves behind.
-use Prim.Native.Nat.{ℕ, suc, _+_, _*_, _%_}
-use mathlib.Core.List.{List, [], _∷_, map}
+use Prim.Native.Nat.{ℕ, _%_}
+use mathlib.Core.List.{List, [], _∷_}
 use mathlib.Core.Bool.{Bool, true, false}
-use lib.ListN.{length, getD, take, drop}
+use lib.ListN.{length, getD, take, drop, replicate}
 use lib.Dec.{leb, ltb, eqb}
 use Rattle.format.specs.Bytes.{both, pick, every, unless, fits}
 use Rattle.format.specs.ClipRecord.{Row, Scalars, Clip, Record, atcStcCount, streamCount, codingType, aspect, language, mapType, entryCount, time, entryType, lettersRight, clipInfoIn, sequencesStart, programsStart, cpiStart, marksStart, extensionsStart, sequencesEnd, marksIn}
 use Rattle.format.specs.Programs.{isVideo, programsEnd}
 use Rattle.format.specs.EntryPoints.{cpiIn, mapsIn}
-use Rattle.format.specs.Extensions.{extensionRows, dataStart, dataLength, dataOf}
+use Rattle.format.specs.Extensions.{extensionRows, dataOf, dataIn}
 use Rattle.format.specs.Reading.{recordOf}
-use Rattle.format.specs.Tables.{tableBytes, rowsLent, overwritten, Table, rowsOf, Lent, isStated, clipIn, atcCells, stcCells, programCells, streamCells, mapCells, entryCells, extensionCells}
-use Rattle.format.specs.Questions.{addUp}
+use Rattle.format.specs.Tables.{Nine, tableBytes, rowsLent, overwritten, Table, isStated, addUp, rowsOf, Lent, clipIn, atcCells, stcCells, programCells, streamCells, mapCells, entryCells, extensionCells}
 use Rattle.format.specs.Rewriting.{runs, encode}
 
 -- ---- reading a file: 20, 1 (8 bytes), 2, 1 (40 bytes), 3 to 8
@@ -33,48 +32,112 @@ refusalOf f =
 -- ---- reading into nine lent tables
 
 -- the rows of tables 1 to 9. Table 7 has each extension by its place in the file
-unfoldable pub tablesOf : List ℕ → List (List Row)
-tablesOf f =
-    let r = recordOf f in
-    let c = r .clip in
-    c .atcs ∷ c .stcs ∷ c .programs ∷ c .streams ∷ c .maps ∷ c .entries
-    ∷ extensionRows f (extensionsStart f) ∷ r .listPrograms ∷ r .listStreams ∷ []
+unfoldable pub tablesOf : List ℕ → Nine (List Row)
+tablesOf f = record {
+  atcs = recordOf f .clip .atcs;
+  stcs = recordOf f .clip .stcs;
+  programs = recordOf f .clip .programs;
+  streams = recordOf f .clip .streams;
+  maps = recordOf f .clip .maps;
+  entries = recordOf f .clip .entries;
+  extensions = extensionRows f (extensionsStart f);
+  listPrograms = recordOf f .listPrograms;
+  listStreams = recordOf f .listStreams;
+}
 
-abbrev pub tableCells : List ℕ
-tableCells =
-    atcCells ∷ stcCells ∷ programCells ∷ streamCells ∷ mapCells ∷ entryCells ∷ extensionCells ∷ programCells ∷ streamCells ∷ []
+-- what reading states of an accepted file, beside the rows that it puts into the tables
+pub record Stated : Type 0 where
+  pub scalars : Scalars
+  pub marks : ℕ
+  pub rows : Nine ℕ  -- how many rows each table has
+  pub hasList : Bool
+
+abbrev pub countsOf : Nine (List Row) → Nine ℕ
+countsOf t = record {
+  atcs = length (t .atcs);
+  stcs = length (t .stcs);
+  programs = length (t .programs);
+  streams = length (t .streams);
+  maps = length (t .maps);
+  entries = length (t .entries);
+  extensions = length (t .extensions);
+  listPrograms = length (t .listPrograms);
+  listStreams = length (t .listStreams);
+}
+
+unfoldable pub statedOf : List ℕ → Stated
+statedOf f = record {
+  scalars = recordOf f .clip .scalars;
+  marks = recordOf f .marks;
+  rows = countsOf (tablesOf f);
+  hasList = recordOf f .hasList;
+}
 
 -- a refusal's number; 21 with the table and the rows it needs; or success
 pub data ReadAnswer : Type 0 where
   refused : ℕ → ReadAnswer
   tooShort : (table rows : ℕ) → ReadAnswer
-  accepted : ReadAnswer
+  accepted : Stated → ReadAnswer
 
--- 21: the lowest table that is too short, of those from number k on, each with its cells in a row
-abbrev pub shortFrom : ℕ → List ℕ → List (List Row) → List (List ℕ) → ReadAnswer
-shortFrom k (cells ∷ later) (rows ∷ needed) (t ∷ lent) =
-    pick (leb (length rows) (rowsLent cells t)) (shortFrom (suc k) later needed lent) (tooShort k (length rows))
-shortFrom k (cells ∷ later) (rows ∷ needed) [] = accepted
-shortFrom k (cells ∷ later) [] lent = accepted
-shortFrom k [] needed lent = accepted
+-- 21 where table k has not the room, else what the later tables answer
+abbrev pub unlessShort : (k cells : ℕ) → List Row → List ℕ → ReadAnswer → ReadAnswer
+unlessShort k cells rows t later = pick (leb (length rows) (rowsLent cells t)) later (tooShort k (length rows))
 
-unfoldable pub readAnswer : List ℕ → List (List ℕ) → ReadAnswer
-readAnswer f lent = pick (eqb (refusalOf f) 0) (shortFrom 1 tableCells (tablesOf f) lent) (refused (refusalOf f))
+-- the lowest table that is too short, or success
+unfoldable pub tablesAnswer : List ℕ → Nine (List ℕ) → ReadAnswer
+tablesAnswer f lent =
+    let rows = tablesOf f in
+    unlessShort 1 atcCells (rows .atcs) (lent .atcs)
+    (unlessShort 2 stcCells (rows .stcs) (lent .stcs)
+    (unlessShort 3 programCells (rows .programs) (lent .programs)
+    (unlessShort 4 streamCells (rows .streams) (lent .streams)
+    (unlessShort 5 mapCells (rows .maps) (lent .maps)
+    (unlessShort 6 entryCells (rows .entries) (lent .entries)
+    (unlessShort 7 extensionCells (rows .extensions) (lent .extensions)
+    (unlessShort 8 programCells (rows .listPrograms) (lent .listPrograms)
+    (unlessShort 9 streamCells (rows .listStreams) (lent .listStreams) (accepted (statedOf f))))))))))
 
--- each table with its rows at its front
-abbrev pub filled : List (List Row) → List (List ℕ) → List (List ℕ)
-filled (rows ∷ needed) (t ∷ lent) = overwritten (tableBytes rows) t ∷ filled needed lent
-filled (rows ∷ needed) [] = []
-filled [] lent = lent
+unfoldable pub readAnswer : List ℕ → Nine (List ℕ) → ReadAnswer
+readAnswer f lent = pick (eqb (refusalOf f) 0) (tablesAnswer f lent) (refused (refusalOf f))
 
--- the lent tables afterwards: a refusal changes none of them
-abbrev pub tablesBy : ReadAnswer → List (List Row) → List (List ℕ) → List (List ℕ)
-tablesBy (refused n) needed lent = lent
-tablesBy (tooShort k n) needed lent = lent
-tablesBy accepted needed lent = filled needed lent
+-- a lent table afterwards: its rows at its front and beyond them what it held; a refusal changes nothing
+abbrev pub tableBy : ReadAnswer → List Row → List ℕ → List ℕ
+tableBy (refused n) rows t = t
+tableBy (tooShort k n) rows t = t
+tableBy (accepted s) rows t = overwritten (tableBytes rows) t
 
-unfoldable pub tablesAfter : List ℕ → List (List ℕ) → List (List ℕ)
-tablesAfter f lent = tablesBy (readAnswer f lent) (tablesOf f) lent
+-- all nine
+unfoldable pub tablesAfter : List ℕ → Nine (List ℕ) → Nine (List ℕ)
+tablesAfter f lent =
+    let answer = readAnswer f lent in
+    let rows = tablesOf f in
+    record {
+      atcs = tableBy answer (rows .atcs) (lent .atcs);
+      stcs = tableBy answer (rows .stcs) (lent .stcs);
+      programs = tableBy answer (rows .programs) (lent .programs);
+      streams = tableBy answer (rows .streams) (lent .streams);
+      maps = tableBy answer (rows .maps) (lent .maps);
+      entries = tableBy answer (rows .entries) (lent .entries);
+      extensions = tableBy answer (rows .extensions) (lent .extensions);
+      listPrograms = tableBy answer (rows .listPrograms) (lent .listPrograms);
+      listStreams = tableBy answer (rows .listStreams) (lent .listStreams);
+    }
+
+-- 01's numbers of an answer: the refusal, the table and the rows it needs, the scalars, the mark count, nine row counts, whether there is a list.
+-- Other numbers are 0
+abbrev pub flag : Bool → ℕ
+flag true = 1
+flag false = 0
+
+abbrev pub readNumbers : ReadAnswer → List ℕ
+readNumbers (refused n) = n ∷ replicate 20 0
+readNumbers (tooShort k n) = 21 ∷ k ∷ n ∷ replicate 18 0
+readNumbers (accepted s) =
+    0 ∷ 0 ∷ 0
+    ∷ s .scalars .version ∷ s .scalars .streamType ∷ s .scalars .applicationType ∷ s .scalars .rate ∷ s .scalars .packets
+    ∷ s .scalars .validityFlags ∷ s .scalars .formatId ∷ s .marks
+    ∷ s .rows .atcs ∷ s .rows .stcs ∷ s .rows .programs ∷ s .rows .streams ∷ s .rows .maps ∷ s .rows .entries
+    ∷ s .rows .extensions ∷ s .rows .listPrograms ∷ s .rows .listStreams ∷ flag (s .hasList) ∷ []
 
 -- ---- the data of an extension: given the lent file, table 7 with its stated rows, and a row number
 
@@ -86,7 +149,7 @@ unfoldable pub dataRefusal : List ℕ → Table → ℕ → ℕ
 dataRefusal f t k =
     unless (isStated extensionCells t) 22
     (unless (ltb k (t .rows)) 22
-    (unless (leb (dataStart (extensionRow t k) + dataLength (extensionRow t k)) (length f)) 22 0))
+    (unless (dataIn f (extensionRow t k)) 22 0))
 
 -- a part of the file; nothing where it is refused
 unfoldable pub dataAsked : List ℕ → Table → ℕ → List ℕ
@@ -94,15 +157,16 @@ dataAsked f t k = pick (eqb (dataRefusal f t k) 0) (dataOf f (extensionRow t k))
 
 -- ---- writing a record: 22, 30, 31, 23
 
--- 22: row counts that don't add up to the rows stated
+-- the row counts add up to the rows stated, else 22; a question tests the tables it is lent in the same way (Questions)
 unfoldable pub countsAdd : Clip → Bool
 countsAdd c =
     both (addUp atcStcCount (c .atcs) (c .stcs))
     (both (addUp streamCount (c .programs) (c .streams))
     (addUp entryCount (c .maps) (c .entries)))
 
--- 30, a condition a line. Widths in bits: a cell wider than its field in the file does not fit
+-- every cell fits its field in the file, else 30. The numbers are widths in bits
 
+-- the calls take scalars in their fields' own types, so these fit; a record made by hand need not
 abbrev pub scalarsFit : Scalars → Bool
 scalarsFit s =
     fits (32 ∷ 8 ∷ 8 ∷ 32 ∷ 32 ∷ 8 ∷ 32 ∷ [])
@@ -120,7 +184,7 @@ stcFits = fits (16 ∷ 32 ∷ 32 ∷ 32 ∷ [])
 abbrev pub programFits : Row → Bool
 programFits = fits (32 ∷ 16 ∷ 8 ∷ [])
 
--- PID, coding type, format; aspect at most 15; language. No language on video, no aspect on anything else
+-- PID, coding type, format; aspect at most 15; language. No nonzero language on video, no nonzero aspect on anything else
 abbrev pub streamFits : Row → Bool
 streamFits s =
     both (fits (16 ∷ 8 ∷ 8 ∷ 4 ∷ 24 ∷ []) s) (pick (isVideo (codingType s)) (eqb (language s) 0) (eqb (aspect s) 0))
@@ -138,7 +202,7 @@ abbrev pub everyMap : (Row → List Row → Bool) → List Row → List Row → 
 everyMap test [] es = true
 everyMap test (m ∷ ms) es = both (test m (take (entryCount m) es)) (everyMap test ms (drop (entryCount m) es))
 
--- 30: at most 255 ATCs, programs and maps, and every row fits
+-- at most 255 ATCs, programs and maps, and every row fits, else 30
 unfoldable pub cellsFit : Clip → Bool
 cellsFit c =
     both (scalarsFit (c .scalars))
@@ -152,7 +216,7 @@ cellsFit c =
     (both (every mapFits (c .maps))
     (everyMap (λ m es. every (entryFits (mapType m)) es) (c .maps) (c .entries))))))))))
 
--- 31: a map with over 65,535 runs
+-- no map has over 65,535 runs, else 31
 unfoldable pub runsFit : Clip → Bool
 runsFit c = everyMap (λ m es. leb (runs es) 65535) (c .maps) (c .entries)
 
@@ -162,7 +226,7 @@ writeRefusal c = unless (countsAdd c) 22 (unless (cellsFit c) 30 (unless (runsFi
 
 -- ---- writing from lent tables into a lent output
 
--- 22: more rows stated than lent
+-- not more rows are stated than lent, else 22
 unfoldable pub allStated : Lent → Bool
 allStated l =
     both (isStated atcCells (l .atcs))
@@ -187,6 +251,12 @@ unlessRefused refusal later = pick (eqb refusal 0) later (refused refusal)
 unfoldable pub writeAnswer : Lent → List ℕ → WriteAnswer
 writeAnswer l out =
     unlessRefused (unless (allStated l) 22 (writeRefusal (clipIn l))) (writtenIn (length (encode (clipIn l))) (length out))
+
+-- 01's numbers of an answer: the refusal, the length needed, the length written. Other numbers are 0
+abbrev pub writeNumbers : WriteAnswer → List ℕ
+writeNumbers (refused n) = n ∷ 0 ∷ 0 ∷ []
+writeNumbers (tooShort n) = 23 ∷ n ∷ 0 ∷ []
+writeNumbers (written n) = 0 ∷ 0 ∷ n ∷ []
 
 -- the output afterwards: a refusal changes nothing
 abbrev pub outputBy : WriteAnswer → List ℕ → List ℕ → List ℕ

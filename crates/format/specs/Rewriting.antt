@@ -5,7 +5,7 @@ use mathlib.Core.Bool.{Bool, true, false}
 use lib.ListN.{length, getD, take, drop}
 use lib.Dec.{eqb}
 use Rattle.format.specs.Bytes.{both, bytesOf, fieldBytes, packed, flat}
-use Rattle.format.specs.ClipRecord.{Row, Clip, atcStcCount, streamCount, streamPid, codingType, formatByte, aspect, language, mapPid, mapType, entryCount, angle, iEnd, time, packet}
+use Rattle.format.specs.ClipRecord.{clpi, Row, Clip, atcStcCount, streamCount, streamPid, codingType, formatByte, aspect, language, mapPid, mapType, entryCount, angle, iEnd, time, packet}
 use Rattle.format.specs.Programs.{isVideo}
 use Rattle.format.specs.EntryPoints.{coarseWidths, fineWidths, headerWidths}
 
@@ -25,14 +25,15 @@ sameRun e x = both (eqb (timeKey e) (timeKey x)) (eqb (packetKey e) (packetKey x
 abbrev pub coarseRow : ℕ → Row → Row
 coarseRow k x = k ∷ timeKey x ∷ packet x ∷ []
 
-abbrev pub startRun : Bool → Row → List Row → List Row
-startRun true c rows = rows
-startRun false c rows = c ∷ rows
+-- a coarse row stands before the later ones unless its entry is in the run before
+abbrev pub unlessSame : Bool → Row → List Row → List Row
+unlessSame true c rows = rows
+unlessSame false c rows = c ∷ rows
 
 -- the coarse rows of the entries behind entry e, of which the first is number k
 unfoldable pub coarseAfter : Row → ℕ → List Row → List Row
 coarseAfter e k [] = []
-coarseAfter e k (x ∷ xs) = startRun (sameRun e x) (coarseRow k x) (coarseAfter x (suc k) xs)
+coarseAfter e k (x ∷ xs) = unlessSame (sameRun e x) (coarseRow k x) (coarseAfter x (suc k) xs)
 
 -- the coarse rows of a map's entries, one for each run
 abbrev pub coarseRows : List Row → List Row
@@ -67,9 +68,9 @@ sequencesBytes c = sectionBytes (length (c .atcs)) (groups atcBytes atcStcCount 
 abbrev pub programBytes : Row → List ℕ
 programBytes row = fieldBytes (4 ∷ 2 ∷ 1 ∷ []) row ++ bytesOf 1 0
 
--- a video body has 3 bytes, any other 2, or 5 with a language, whose three bytes are written as they are
-abbrev pub streamBytesBy : Bool → Bool → Row → List ℕ
-streamBytesBy true none row =
+-- a video body has 3 bytes, any other 2 where there is no language, or 5 with one, whose three bytes are written as they are
+abbrev pub streamBytesBy : (video noLanguage : Bool) → Row → List ℕ
+streamBytesBy true noLanguage row =
     fieldBytes (2 ∷ 1 ∷ 1 ∷ 1 ∷ 1 ∷ []) (streamPid row ∷ 3 ∷ codingType row ∷ formatByte row ∷ aspect row * 16 ∷ [])
 streamBytesBy false true row = fieldBytes (2 ∷ 1 ∷ 1 ∷ 1 ∷ []) (streamPid row ∷ 2 ∷ codingType row ∷ formatByte row ∷ [])
 streamBytesBy false false row =
@@ -132,7 +133,7 @@ headWidths = 4 ∷ 4 ∷ 4 ∷ 4 ∷ 4 ∷ 4 ∷ 4 ∷ 12 ∷ 4 ∷ 2 ∷ 1 ∷ 
 
 abbrev pub headValues : Clip → ℕ → ℕ → ℕ → List ℕ
 headValues c programs cpi marks =
-    0x434C5049 ∷ c .scalars .version ∷ 220 ∷ programs ∷ cpi ∷ marks ∷ 0 ∷ 0
+    clpi ∷ c .scalars .version ∷ 220 ∷ programs ∷ cpi ∷ marks ∷ 0 ∷ 0
     ∷ 176 ∷ 0 ∷ c .scalars .streamType ∷ c .scalars .applicationType ∷ 0 ∷ c .scalars .rate ∷ c .scalars .packets ∷ 0
     ∷ c .scalars .validityFlags ∷ 0 ∷ c .scalars .formatId ∷ 0 ∷ []
 
@@ -143,7 +144,7 @@ headBytes c programs cpi marks = fieldBytes headWidths (headValues c programs cp
 abbrev pub marksBytes : List ℕ
 marksBytes = fieldBytes (4 ∷ 2 ∷ []) (2 ∷ 0 ∷ [])
 
--- the new file: clip, sequences, programs, CPI, empty marks; extension start 0
+-- the new file of a record that can be written: clip, sequences, programs, CPI, empty marks; extension start 0
 unfoldable pub encode : Clip → List ℕ
 encode c =
     let programs = 220 + length (sequencesBytes c) in

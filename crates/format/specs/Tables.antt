@@ -4,8 +4,8 @@ use mathlib.Core.Path.{_≡_}
 use mathlib.Core.List.{List, [], _∷_, _++_}
 use mathlib.Core.Bool.{Bool}
 use lib.ListN.{length, getD, drop}
-use lib.Dec.{leb}
-use Rattle.format.specs.Bytes.{rowsAt, flat}
+use lib.Dec.{leb, ltb, eqb}
+use Rattle.format.specs.Bytes.{rowsAt, flat, total}
 use Rattle.format.specs.ClipRecord.{Row, Scalars, Clip}
 
 -- ---- cells
@@ -73,15 +73,36 @@ entryCells = 5
 abbrev pub extensionCells : ℕ
 extensionCells = 4
 
+-- ---- nine of a kind, one for each table
+
+pub record Nine (A : Type 0) : Type 0 where
+  pub atcs : A
+  pub stcs : A
+  pub programs : A
+  pub streams : A
+  pub maps : A
+  pub entries : A
+  pub extensions : A
+  pub listPrograms : A
+  pub listStreams : A
+
 -- ---- tables that are given back, with the rows stated to be in each
 
 pub record Table : Type 0 where
   pub bytes : List ℕ
   pub rows : ℕ
 
--- not more rows stated than lent
+-- not more rows are stated than lent, else 22
 abbrev pub isStated : ℕ → Table → Bool
 isStated cells t = leb (t .rows) (rowsLent cells (t .bytes))
+
+-- the counts of the headers add up to the rows, else 22
+abbrev pub addUp : (Row → ℕ) → List Row → List Row → Bool
+addUp count heads rows = eqb (total count heads) (length rows)
+
+-- a row number within the stated rows, else 22
+abbrev pub isRow : ℕ → List Row → Bool
+isRow k rows = ltb k (length rows)
 
 abbrev pub rowsOf : ℕ → Table → List Row
 rowsOf cells t = tableRows cells (t .bytes) (t .rows)
@@ -125,8 +146,14 @@ pub record HoldsClip (l : Lent) (c : Clip) : Type 0 where
   pub maps : HoldsRows (l .maps) (c .maps)
   pub entries : HoldsRows (l .entries) (c .entries)
 
--- lent tables that have room for their rows, each row of so many cells; they may be longer and hold anything
-pub data Room : List ℕ → List (List Row) → List (List ℕ) → Type 0 where
-  none : Room [] [] []
-  more : {cells : ℕ} {rows : List Row} {t : List ℕ} {later : List ℕ} {needed : List (List Row)} {lent : List (List ℕ)}
-      → length rows ≤ rowsLent cells t → Room later needed lent → Room (cells ∷ later) (rows ∷ needed) (t ∷ lent)
+-- lent tables with room for their rows; they may be longer and hold anything
+pub record Room (rows : Nine (List Row)) (lent : Nine (List ℕ)) : Type 0 where
+  pub atcs : length (rows .atcs) ≤ rowsLent atcCells (lent .atcs)
+  pub stcs : length (rows .stcs) ≤ rowsLent stcCells (lent .stcs)
+  pub programs : length (rows .programs) ≤ rowsLent programCells (lent .programs)
+  pub streams : length (rows .streams) ≤ rowsLent streamCells (lent .streams)
+  pub maps : length (rows .maps) ≤ rowsLent mapCells (lent .maps)
+  pub entries : length (rows .entries) ≤ rowsLent entryCells (lent .entries)
+  pub extensions : length (rows .extensions) ≤ rowsLent extensionCells (lent .extensions)
+  pub listPrograms : length (rows .listPrograms) ≤ rowsLent programCells (lent .listPrograms)
+  pub listStreams : length (rows .listStreams) ≤ rowsLent streamCells (lent .listStreams)

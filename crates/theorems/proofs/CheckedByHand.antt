@@ -12,7 +12,7 @@ use borrow.Author.Tests.{ne-eqb, eq-eqb, lt-ltb, lt-leb}
 use Rattle.format.specs.Bytes.{beAt, bytesOf, both, every, unless, total}
 use Rattle.format.specs.ClipRecord.{Row, entryCount, time, lettersRight, clipInfoIn}
 use Rattle.format.specs.EntryPoints.{joinTime, joinPacket}
-use Rattle.format.specs.Questions.{entryPointAtOrBefore, spnToByte, byteToSpn, Answer, number, nothing, bestOf, atOrBefore, byteOf, spnOf, answer}
+use Rattle.format.specs.Questions.{entryPointAtOrBefore, spnToByte, byteToSpn, Answer, number, nothing, bestOf, atOrBefore, byteOf, spnOf, ofMap, answer}
 use Rattle.format.specs.Rewriting.{timeKey, coarseAfter, runs, sequencesBytes, programsBytes, bodyBytes, cpiBytes, headBytes, encode}
 use Rattle.format.specs.Refusals.{refusalOf, entryFits, countsAdd, cellsFit, runsFit, writeRefusal}
 use Rattle.format.proofs.Lists.{All, none, more}
@@ -59,7 +59,7 @@ all-later t k beats none = refl
 all-later t k beats (more {x = e} h hs) = rw (bestOf, lt-leb (time e) t h) (all-later t (suc k) beats hs)
 
 before-all : (g : BeforeAll) → answer (entryPointAtOrBefore (g .map) (g .at)) (g .clip) ≡ number 0
-unfolding answer atOrBefore
+unfolding answer ofMap atOrBefore
 before-all g =
     rw (
       eq-eqb (total entryCount (g .clip .maps)) (length (g .clip .entries)) (g .adds-up),

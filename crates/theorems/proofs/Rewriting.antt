@@ -1,26 +1,25 @@
 -- Demand 3, proved: from what a file's record looks like, what is written of it, and that questions look at the stated rows alone.
-use Prim.Native.Nat.{ℕ, _<_, _≤_}
-use mathlib.Core.Path.{_≡_, refl, sym, ap, ap₂, _∙_}
-use mathlib.Core.List.{List, [], _∷_, _++_, map}
-use mathlib.Core.Bool.{Bool, true}
-use lib.ListN.{length, getD, drop}
-use lib.Dec.{leb, lit<}
+use Prim.Native.Nat.{ℕ, _≤_}
+use mathlib.Core.Path.{_≡_, refl, sym, ap, _∙_}
+use mathlib.Core.List.{List}
+use lib.ListN.{length}
 use borrow.Author.Tests.{le-leb}
-use Rattle.format.specs.Bytes.{IsBytes, unless}
+use Rattle.format.specs.Bytes.{IsBytes}
 use Rattle.format.specs.ClipRecord.{Clip, Record, programsStart}
 use Rattle.format.specs.Reading.{clipOf, recordOf}
 use Rattle.format.specs.Programs.{loweredClip}
-use Rattle.format.specs.Tables.{Lent, tableBytes, HoldsRows, HoldsClip, Room}
-use Rattle.format.specs.Questions.{Question, ask, answer}
+use Rattle.format.specs.Tables.{Nine, Lent, HoldsClip, Room}
+use Rattle.format.specs.Questions.{Question, partsOf, ask, HoldsPart}
 use Rattle.format.specs.Rewriting.{encode}
-use Rattle.format.specs.Refusals.{refusalOf, accepted, readAnswer, tablesOf, tableCells, tablesAfter, filled, countsAdd, cellsFit, runsFit, writeRefusal, written, writeAnswer, outputAfter, writtenIn}
-use Rattle.theorems.specs.Rewriting.{Rewritable, rewritten, withoutExtensions, leftIn, handedOver, Succeeds, RewritingKeeps, FromFile, Made}
+use Rattle.format.specs.Refusals.{accepted, readAnswer, statedOf, tablesOf, tablesAfter, writeRefusal, written, writeAnswer, outputAfter}
+use Rattle.format.proofs.Lists.{All}
+use Rattle.theorems.specs.Rewriting.{Rewritable, rewritten, withoutExtensions, handedOver, Succeeds, RewritingKeeps, FromFile, Made}
 use Rattle.format.proofs.Good.{GoodClip}
 use Rattle.format.proofs.Read.{good-clip, narrow, lowered-streams}
 use Rattle.format.proofs.Write.{encode-bytes, counts, cells, runs-fit, written as not-refused}
 use Rattle.format.proofs.Whole.{is-short, is-accepted, reads-back, record-back}
 use Rattle.format.proofs.Maker.{good-made}
-use Rattle.format.proofs.Lent.{shaped, clip-held, all-stated, asked, no-short, filled-at}
+use Rattle.format.proofs.Lent.{shaped, clip-held, all-stated, asked, no-short, filled-holds}
 
 -- ---- a file's record
 
@@ -63,31 +62,24 @@ module _ (f : List ℕ) (h : Rewritable f) where
   same-clip = ap (λ (r : Record). r .clip) same-record
 
   -- 1. reading into the tables, and writing from them
-  module _ (lent : List (List ℕ)) (room : Room tableCells (tablesOf f) lent) where
-    reads : readAnswer f lent ≡ accepted
+  module _ (lent : Nine (List ℕ)) (room : Room (tablesOf f) lent) where
+    reads : readAnswer f lent ≡ accepted (statedOf f)
     unfolding readAnswer
-    reads = rw (h .accepted, no-short 1 room)
-
-    -- table k holds its rows, and beyond them what stood there
-    held : (k : ℕ) → k < 9 → HoldsRows (leftIn f lent k) (getD (tablesOf f) k [])
-    unfolding tablesAfter
-    held k b = record {
-      stated = refl;
-      beyond = drop (length (tableBytes (getD (tablesOf f) k []))) (getD lent k []);
-      bytes = rw reads (filled-at k room b);
-    }
+    reads = rw (h .accepted, no-short f lent room)
 
     holds : HoldsClip (handedOver f lent) (recordOf f .clip)
-    unfolding handedOver tablesOf
-    holds = record {
-      scalars = refl;
-      atcs = held 0 (lit< tt);
-      stcs = held 1 (lit< tt);
-      programs = held 2 (lit< tt);
-      streams = held 3 (lit< tt);
-      maps = held 4 (lit< tt);
-      entries = held 5 (lit< tt);
-    }
+    unfolding handedOver statedOf tablesAfter tablesOf
+    holds =
+        let c = recordOf f .clip in
+        rw reads (record {
+          scalars = refl;
+          atcs = filled-holds (c .atcs) (lent .atcs);
+          stcs = filled-holds (c .stcs) (lent .stcs);
+          programs = filled-holds (c .programs) (lent .programs);
+          streams = filled-holds (c .streams) (lent .streams);
+          maps = filled-holds (c .maps) (lent .maps);
+          entries = filled-holds (c .entries) (lent .entries);
+        })
 
     module _ (out : List ℕ) (long : length (rewritten f) ≤ length out) where
       writes : writeAnswer (handedOver f lent) out ≡ written (length (rewritten f))
@@ -109,12 +101,13 @@ module _ (f : List ℕ) (h : Rewritable f) where
           record { reads = reads; holds = holds; writes = writes; output = rw (writes, e) }
 
   -- 4. tables that hold the old record's rows and tables that hold the new one's
-  alike : (question : Question) (old new : Lent) → HoldsClip old (recordOf f .clip) → HoldsClip new (recordOf (rewritten f) .clip)
+  alike : (question : Question) (old new : Lent)
+      → All (HoldsPart old (recordOf f .clip)) (partsOf question) → All (HoldsPart new (recordOf (rewritten f) .clip)) (partsOf question)
       → ask question old ≡ ask question new
   alike question old new ho hn =
       let s = shaped 65535 (recordOf f .clip) good in
-      let hn′ : HoldsClip new (recordOf f .clip) = rw same-clip at hn in
-      asked old (recordOf f .clip) s ho question ∙ sym (asked new (recordOf f .clip) s hn′ question)
+      let hn′ : All (HoldsPart new (recordOf f .clip)) (partsOf question) = rw same-clip at hn in
+      asked old (recordOf f .clip) s question ho ∙ sym (asked new (recordOf f .clip) s question hn′)
 
 -- demand 3
 pub rewriting-keeps : (f : List ℕ) → Rewritable f → RewritingKeeps f

@@ -3,15 +3,16 @@ use Prim.Native.Nat.{ℕ, _≤_}
 use mathlib.Core.Path.{_≡_}
 use mathlib.Core.List.{List, [], _++_}
 use mathlib.Core.Bool.{true, false}
-use lib.ListN.{length, getD, drop}
+use lib.ListN.{length, drop}
 use Rattle.format.specs.Bytes.{IsBytes, unless}
 use Rattle.format.specs.ClipRecord.{Clip, Record}
 use Rattle.format.specs.Programs.{loweredClip}
 use Rattle.format.specs.Reading.{recordOf}
-use Rattle.format.specs.Tables.{Table, Lent, HoldsClip, Room}
-use Rattle.format.specs.Questions.{Question, ask}
+use Rattle.format.specs.Tables.{Nine, Table, Lent, HoldsClip, Room}
+use Rattle.format.specs.Questions.{Question, partsOf, ask, HoldsPart}
 use Rattle.format.specs.Rewriting.{encode}
-use Rattle.format.specs.Refusals.{refusalOf, accepted, readAnswer, tablesOf, tableCells, tablesAfter, countsAdd, cellsFit, runsFit, writeRefusal, written, writeAnswer, outputAfter}
+use Rattle.format.specs.Refusals.{refusalOf, accepted, readAnswer, Stated, statedOf, tablesOf, tablesAfter, countsAdd, cellsFit, runsFit, writeRefusal, written, writeAnswer, outputAfter}
+use Rattle.format.proofs.Lists.{All}
 
 -- ---- the files meant, and their new files
 
@@ -32,41 +33,46 @@ withoutExtensions r =
 
 -- ---- rewriting through lent tables
 
--- table k as reading left it, with the rows that reading stated
-abbrev pub leftIn : List ℕ → List (List ℕ) → ℕ → Table
-leftIn f lent k = record { bytes = getD (tablesAfter f lent) k []; rows = length (getD (tablesOf f) k []) }
+-- a table as reading left it, with the rows that reading stated
+abbrev pub stated : List ℕ → ℕ → Table
+stated bytes rows = record { bytes = bytes; rows = rows }
 
--- the very tables that reading filled, handed over for writing
-unfoldable pub handedOver : List ℕ → List (List ℕ) → Lent
-handedOver f lent = record {
-  scalars = recordOf f .clip .scalars;
-  atcs = leftIn f lent 0;
-  stcs = leftIn f lent 1;
-  programs = leftIn f lent 2;
-  streams = leftIn f lent 3;
-  maps = leftIn f lent 4;
-  entries = leftIn f lent 5;
+-- the very tables that reading filled, handed over for writing with what reading stated
+abbrev pub handOver : Stated → Nine (List ℕ) → Lent
+handOver s t = record {
+  scalars = s .scalars;
+  atcs = stated (t .atcs) (s .rows .atcs);
+  stcs = stated (t .stcs) (s .rows .stcs);
+  programs = stated (t .programs) (s .rows .programs);
+  streams = stated (t .streams) (s .rows .streams);
+  maps = stated (t .maps) (s .rows .maps);
+  entries = stated (t .entries) (s .rows .entries);
 }
+
+unfoldable pub handedOver : List ℕ → Nine (List ℕ) → Lent
+handedOver f lent = handOver (statedOf f) (tablesAfter f lent)
 
 -- ---- the promise
 
 -- rewriting, which is reading and then writing, refuses nothing, and puts the new file at the front of the output
-pub record Succeeds (f : List ℕ) (lent : List (List ℕ)) (out : List ℕ) : Type 0 where
-  pub reads : readAnswer f lent ≡ accepted
+pub record Succeeds (f : List ℕ) (lent : Nine (List ℕ)) (out : List ℕ) : Type 0 where
+  pub reads : readAnswer f lent ≡ accepted (statedOf f)
   pub holds : HoldsClip (handedOver f lent) (recordOf f .clip)
   pub writes : writeAnswer (handedOver f lent) out ≡ written (length (rewritten f))
   pub output : outputAfter (handedOver f lent) out ≡ rewritten f ++ drop (length (rewritten f)) out
 
 pub record RewritingKeeps (f : List ℕ) : Type 0 where
   -- 1. where the buffers suffice, rewriting succeeds
-  pub succeeds : (lent : List (List ℕ)) (out : List ℕ) → Room tableCells (tablesOf f) lent → length (rewritten f) ≤ length out → Succeeds f lent out
+  pub succeeds : (lent : Nine (List ℕ)) (out : List ℕ) → Room (tablesOf f) lent → length (rewritten f) ≤ length out → Succeeds f lent out
   -- 2. the new file is accepted, and well below the greatest length
   pub short : length (rewritten f) ≤ 402515706
   pub new : refusalOf (rewritten f) ≡ 0
   -- 3. it reads to the same record apart from mark count and extensions
   pub same : recordOf (rewritten f) ≡ withoutExtensions (recordOf f)
-  -- 4. every lookup, whatever it is asked, answers alike from the old file and the new, with none and refusals the same
-  pub alike : (question : Question) (old new : Lent) → HoldsClip old (recordOf f .clip) → HoldsClip new (recordOf (rewritten f) .clip)
+  -- 4. every lookup, whatever it is asked, answers alike from the old file and the new, with none and refusals the same:
+  -- from any tables that hold the old rows and any that hold the new ones, of which it is lent only those it needs
+  pub alike : (question : Question) (old new : Lent)
+      → All (HoldsPart old (recordOf f .clip)) (partsOf question) → All (HoldsPart new (recordOf (rewritten f) .clip)) (partsOf question)
       → ask question old ≡ ask question new
   -- 5. any two such files rewrite to equal bytes exactly when their records, compared in that way, are equal
   pub equal-bytes : (f₂ : List ℕ) → Rewritable f₂ → rewritten f ≡ rewritten f₂ → recordOf f .clip ≡ recordOf f₂ .clip
