@@ -14,5 +14,7 @@ pub mod Tables
 pub mod Questions
 pub mod Rewriting
 pub mod Refusals
+-- The listing of "Checked by hand"
+pub mod Listing
 -- The refusals of reading told a second time, read by read
 pub mod ReadByRead
