@@ -1,0 +1,115 @@
+-- Each turn reaches the coarse row of fine row k and stores the entry; what is left goes behind it.
+use borrow.Author.Needs.{needs}
+use Prim.Native.Nat.{_+_, _*_, _-_, _≤_}
+use mathlib.Core.Path.{_≡_, refl, _∙_}
+use native.Mathlib.Omega.{arith}
+use denote.Ref.{now}
+use lib.ListN.{length}
+use lib.Seq.{sets}
+use Rattle.format.specs.Bytes.{rowsAt}
+use Rattle.format.specs.EntryPoints.{coarseAt, fineAt, nextCoarse, nextFine, entriesFor}
+use Rattle.format.specs.Tables.{tableBytes}
+use Rattle.cpi.specs.Walks.{IsWalk}
+use Rattle.cpi.proofs.Walks.{walk-later}
+use Rattle.cpi.proofs.Joined.{leftFrom, all-left, entries-turn, entries-done}
+use Rattle.cpi.proofs.entries.put_entries.Statement.{statement}
+use Rattle.cpi.proofs.entries.put_entries.Tie as tie
+
+abbrev Inv-loop : tie.InvT-loop
+Inv-loop file coarse num-coarse fine num-fine kind table₀ at w₀ k₀ table w k =
+    (k ≤ num-fine)
+    × IsWalk file (rowsAt (coarseAt file) nextCoarse coarse num-coarse) k w
+    × (length table ≡ length table₀)
+    × (sets table (at + 20 * k) (leftFrom file kind (rowsAt (coarseAt file) nextCoarse coarse num-coarse) fine num-fine k)
+    ≡ sets table₀ at (tableBytes (entriesFor kind (rowsAt (coarseAt file) nextCoarse coarse num-coarse) 0 (rowsAt (fineAt file) nextFine fine num-fine))))
+
+abbrev μ-loop : tie.MeasureT-loop
+μ-loop file coarse num-coarse fine num-fine kind table₀ at w₀ k₀ table w k = num-fine - k
+
+start-requires : tie.Need-start-requires Inv-loop μ-loop
+start-requires c κs = search needs
+
+loop-holds : tie.Need-loop-holds Inv-loop μ-loop
+loop-holds c =
+    let a = c .before .before .before .args in
+    let f = now (a .file) in
+    let z : a .at + 20 * 0 ≡ a .at = omega arith in
+    (omega arith, c .start .ensures, refl, rw (z, all-left f (a .kind) (rowsAt (coarseAt f) nextCoarse (a .coarse) (a .num-coarse)) (a .fine) (a .num-fine)))
+
+cast-reach : tie.Need-cast-reach Inv-loop μ-loop
+cast-reach c = search needs
+
+reach-requires : tie.Need-reach-requires Inv-loop μ-loop
+reach-requires c κs = search needs
+
+mul-u32-at : tie.Need-mul-u32-at Inv-loop μ-loop
+mul-u32-at c = search needs
+
+add-u32-at : tie.Need-add-u32-at Inv-loop μ-loop
+add-u32-at c = search needs
+
+u32-at-requires : tie.Need-u32-at-requires Inv-loop μ-loop
+u32-at-requires c κs = search needs
+
+mul-put-entry : tie.Need-mul-put-entry Inv-loop μ-loop
+mul-put-entry c = search needs
+
+add-put-entry : tie.Need-add-put-entry Inv-loop μ-loop
+add-put-entry c = search needs
+
+put-entry-requires : tie.Need-put-entry-requires Inv-loop μ-loop
+put-entry-requires c κs = search needs
+
+add-k : tie.Need-add-k Inv-loop μ-loop
+add-k c = search needs
+
+loop-less : tie.Need-loop-less Inv-loop μ-loop
+loop-less c = search needs
+
+loop-again : tie.Need-loop-again Inv-loop μ-loop
+loop-again c =
+    let a = c .before .before .before .before .before .before .before .before .before .before .before .args in
+    let f = now (a .file) in
+    let cs = rowsAt (coarseAt f) nextCoarse (a .coarse) (a .num-coarse) in
+    let l = c .before .before .before .before .before .before .before .loop in
+    let w = c .before .before .before .before .before .reach in
+    let put = c .before .before .put-entry in
+    let r = w .ensures .reached cs (l .inv .1) in (
+      omega arith,
+      walk-later f cs (l .k) (w .result) (r .walk),
+      put .kept .1 .1 .1 .0 ∙ l .inv .2,
+      entries-turn f (a .kind) cs (a .fine) (a .num-fine) (l .k) (l .table) (a .at) (c .before .before .before .before .u32-at .result) (w .result) (omega arith)
+          (c .before .before .before .before .u32-at .ensures .same) r (put .ensures) (l .inv .3),
+    )
+
+same-length : tie.Need-same-length Inv-loop μ-loop
+same-length c = search needs
+
+returns : tie.Need-returns Inv-loop μ-loop
+returns c =
+    let a = c .before .before .before .before .before .args in
+    let f = now (a .file) in
+    let l = c .before .loop in
+    entries-done f (a .kind) (rowsAt (coarseAt f) nextCoarse (a .coarse) (a .num-coarse)) (a .fine) (a .num-fine) (l .k) (l .table) (a .at + 20 * l .k) (c .loop-test .left) (l .inv .3)
+
+pub put-entries-spec : {M : Type 1} → statement M
+put-entries-spec =
+    tie.close
+    (tie.spec
+    Inv-loop
+    μ-loop
+    start-requires
+    loop-holds
+    cast-reach
+    reach-requires
+    mul-u32-at
+    add-u32-at
+    u32-at-requires
+    mul-put-entry
+    add-put-entry
+    put-entry-requires
+    add-k
+    loop-less
+    loop-again
+    same-length
+    returns)
