@@ -1,3 +1,4 @@
 -- Laws that the proofs of this crate cite.
 pub mod Walks
 pub mod Joined
+pub mod Heads

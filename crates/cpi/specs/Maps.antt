@@ -1,0 +1,50 @@
+-- The maps of the entry index, measured and put into tables.
+use Prim.Native.Nat.{ℕ, _+_, _*_, _≤_}
+use mathlib.Core.Path.{_≡_}
+use mathlib.Core.List.{List}
+use mathlib.Core.Bool.{true}
+use lib.ListN.{length}
+use Rattle.format.specs.Bytes.{pick, beAt}
+use Rattle.format.specs.EntryPoints.{cpiEnd, hasMaps, mapCount, cpiIn, mapIn, mapsIn, fineCountAt, mapsFrom, entriesFrom}
+use Rattle.format.specs.Tables.{rowsLent, mapCells, entryCells}
+use Rattle.cpi.specs.declared.maps.Head.{Head}
+use Rattle.cpi.specs.declared.maps.MapRows.{MapRows}
+use Rattle.cpi.specs.declared.maps.Measured.{Measured}
+
+-- what the head of the section at c says
+unfoldable pub headOf : List ℕ → ℕ → Head
+headOf f c = pick (cpiIn f c) (pick (hasMaps f c) (Head.Maps (beAt f (c + 7) 1) (cpiEnd f c)) Head.NoMaps) Head.PastEnd
+
+-- the map whose header is at p
+unfoldable pub mapRows : List ℕ → ℕ → ℕ → MapRows
+mapRows f c p = pick (mapIn f c p) (MapRows.Entries (fineCountAt f p)) MapRows.PastEnd
+
+-- all maps
+unfoldable pub mapsMeasured : List ℕ → ℕ → Measured
+mapsMeasured f c = pick (mapsIn f c) (Measured.Counts (length (mapsFrom f c)) (length (entriesFrom f c))) Measured.MapPastEnd
+
+-- the section: 6 before 7
+unfoldable pub measured : List ℕ → ℕ → Measured
+measured f c = pick (cpiIn f c) (mapsMeasured f c) Measured.PastEnd
+
+-- the headers of the section's maps are in the file
+pub record InHeaders (f : List ℕ) (c count : ℕ) : Type 0 where
+  pub small : length f ≤ 536870912
+  pub counted : count ≡ mapCount f c
+  pub headers : c + 8 + 12 * count ≤ length f
+  pub end : cpiEnd f c ≤ length f
+
+-- a map's header and body are in the file
+pub record OneMap (f : List ℕ) (c p : ℕ) : Type 0 where
+  pub small : length f ≤ 536870912
+  pub header : p + 12 ≤ length f
+  pub body : mapIn f c p ≡ true
+
+-- the section is in the file, and both tables have room
+pub record Fill (f : List ℕ) (c count : ℕ) (maps entries : List ℕ) : Type 0 where
+  pub small : length f ≤ 536870912
+  pub counted : count ≡ mapCount f c
+  pub head-in : cpiIn f c ≡ true
+  pub maps-in : mapsIn f c ≡ true
+  pub maps-room : length (mapsFrom f c) ≤ rowsLent mapCells maps
+  pub entries-room : length (entriesFrom f c) ≤ rowsLent entryCells entries
