@@ -2,3 +2,4 @@
 pub mod Walks
 pub mod Joined
 pub mod Heads
+pub mod Sections

@@ -27,12 +27,21 @@ mapsMeasured f c = pick (mapsIn f c) (Measured.Counts (length (mapsFrom f c)) (l
 unfoldable pub measured : List ℕ → ℕ → Measured
 measured f c = pick (cpiIn f c) (mapsMeasured f c) Measured.PastEnd
 
--- the headers of the section's maps are in the file
-pub record InHeaders (f : List ℕ) (c count : ℕ) : Type 0 where
+-- a map's header is in the file, and the section ends there
+pub record HeaderIn (f : List ℕ) (c end p : ℕ) : Type 0 where
+  pub small : length f ≤ 536870912
+  pub start-in : c ≤ length f
+  pub end-is : end ≡ cpiEnd f c
+  pub end-in : end ≤ length f
+  pub header : p + 12 ≤ length f
+
+-- so are all its maps' headers
+pub record HeadersIn (f : List ℕ) (c count end : ℕ) : Type 0 where
   pub small : length f ≤ 536870912
   pub counted : count ≡ mapCount f c
+  pub end-is : end ≡ cpiEnd f c
+  pub end-in : end ≤ length f
   pub headers : c + 8 + 12 * count ≤ length f
-  pub end : cpiEnd f c ≤ length f
 
 -- a map's header and body are in the file
 pub record OneMap (f : List ℕ) (c p : ℕ) : Type 0 where

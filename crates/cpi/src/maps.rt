@@ -6,7 +6,7 @@ ghost use lib.ListN.{length};
 ghost use lib.Seq.{sets};
 ghost use Rattle.format.specs.EntryPoints.{mapAt, entriesOf, fineCountAt, mapsFrom, entriesFrom};
 ghost use Rattle.format.specs.Tables.{rowBytes, tableBytes, overwritten};
-ghost use Rattle.cpi.specs.Maps.{headOf, mapRows, mapsMeasured, measured, InHeaders, OneMap, Fill};
+ghost use Rattle.cpi.specs.Maps.{headOf, mapRows, mapsMeasured, measured, HeaderIn, HeadersIn, OneMap, Fill};
 use crate::entries::put_entries;
 use bits::map_header;
 use common::cells::put_row3;
@@ -73,5 +73,63 @@ fn read_head(file: &[u8], start: usize) -> Head
     Head::Maps {
         count,
         end: last.pos,
+    }
+}
+
+// The map whose header is at q: its address, coarse rows, fine address and fine rows, in this order.
+fn map_rows(file: &[u8], start: usize, end: usize, q: usize) -> MapRows
+    requires { ⌜ HeaderIn (now file) start end q ⌝ }
+    ensures { λ r. ⌜ r ≡ mapRows (now (file .entry)) start q ⌝ }
+{
+    let header = map_header(u48_at(file, q + 2));
+    let body = start + 6 + u32_at(file, q + 8) as usize;
+    if end <= body {
+        return MapRows::PastEnd;
+    }
+    if file.len() < body + 4 + 8 * (header.num_coarse as usize) {
+        return MapRows::PastEnd;
+    }
+    let fine = body + u32_at(file, body) as usize;
+    if end < fine {
+        return MapRows::PastEnd;
+    }
+    if file.len() < fine + 4 * (header.num_fine as usize) {
+        return MapRows::PastEnd;
+    }
+    MapRows::Entries(header.num_fine as usize)
+}
+
+// All maps, and all their entries.
+fn measure_maps(file: &[u8], start: usize, count: usize, end: usize) -> Measured
+    requires { ⌜ HeadersIn (now file) start count end ⌝ }
+    ensures { λ r. ⌜ r ≡ mapsMeasured (now (file .entry)) start ⌝ }
+{
+    let mut entries: usize = 0;
+    let mut k: usize = 0;
+    while k < count {
+        let MapRows::Entries(n) = map_rows(file, start, end, start + 8 + 12 * k) else {
+            return Measured::MapPastEnd;
+        };
+        entries += n;
+        k += 1;
+    }
+    Measured::Counts {
+        maps: count,
+        entries,
+    }
+}
+
+// The rows that the section needs of both tables, or its refusal.
+pub fn measure(file: &[u8], start: usize) -> Measured
+    requires { ⌜ length (now file) ≤ 536870912 ⌝ }
+    ensures { λ r. ⌜ r ≡ measured (now (file .entry)) start ⌝ }
+{
+    match read_head(file, start) {
+        Head::NoMaps => Measured::Counts {
+            maps: 0,
+            entries: 0,
+        },
+        Head::PastEnd => Measured::PastEnd,
+        Head::Maps { count, end } => measure_maps(file, start, count, end),
     }
 }

@@ -114,9 +114,15 @@ entries-good type ht cs hc none k = none
 entries-good type ht cs hc (more {x = x} h hs) k =
     more (entry-good type (coarseFor cs k) x ht (coarse-packet hc k) (h .angle) (h .i-end) (h .time) (h .packet)) (entries-good type ht cs hc hs (suc k))
 
-entries-length : (type : ℕ) (cs : List Row) (k : ℕ) (xs : List Row) → length (entriesFor type cs k xs) ≡ length xs
+pub entries-length : (type : ℕ) (cs : List Row) (k : ℕ) (xs : List Row) → length (entriesFor type cs k xs) ≡ length xs
 entries-length type cs k [] = refl
 entries-length type cs k (x ∷ xs) = ap suc (entries-length type cs (suc k) xs)
+
+-- a map has as many entries as fine rows
+pub own-length : (f : List ℕ) (c p : ℕ) → length (entriesOf f c p) ≡ fineCountAt f p
+own-length f c p =
+    entries-length (mapTypeAt f p) (rowsAt (coarseAt f) nextCoarse (bodyAt f c p + 4) (coarseCountAt f p)) 0 (rowsAt (fineAt f) nextFine (fineStart f c p) (fineCountAt f p))
+    ∙ rows-length (fineAt f) nextFine (fineStart f c p) (fineCountAt f p)
 
 -- ---- runs
 
@@ -233,16 +239,11 @@ module _ (f : List ℕ) (bytes : IsBytes f) where
       (rows-all (coarseAt f) nextCoarse (λ q. omega arith) (bodyAt f c p + 4) (coarseCountAt f p))
       (rows-all (fineAt f) nextFine fine-cells (fineStart f c p) (fineCountAt f p)) 0
 
-  own-length : (c p : ℕ) → length (entriesOf f c p) ≡ fineCountAt f p
-  own-length c p =
-      entries-length (mapTypeAt f p) (rowsAt (coarseAt f) nextCoarse (bodyAt f c p + 4) (coarseCountAt f p)) 0 (rowsAt (fineAt f) nextFine (fineStart f c p) (fineCountAt f p))
-      ∙ rows-length (fineAt f) nextFine (fineStart f c p) (fineCountAt f p)
-
   maps-read : (c p n : ℕ) → Maps 262143 (rowsAt (mapAt f) nextMap p n) (gather (entriesOf f c) nextMap p n)
   maps-read c p zero = Maps.none
   maps-read c p (suc n) =
       let own = entriesOf f c p in
-      let k = own-length c p in
+      let k = own-length f c p in
       let few : runs own ≤ 262143 = omega (arith, runs-few own) in
       Maps.more (map-good p) k (own-good c p) few (maps-read c (nextMap p) n)
 

@@ -1,0 +1,188 @@
+-- Maps measured one by one, and what the section's measure says.
+use Prim.Native.Nat.{ℕ, zero, suc, _+_, _*_, _-_, _<_, _≤_}
+use mathlib.Core.Path.{_≡_, refl, sym, ap, _∙_}
+use mathlib.Core.List.{List, [], _∷_}
+use mathlib.Core.Bool.{Bool, true, false}
+use native.Mathlib.Omega.{arith}
+use lib.ListN.{length}
+use lib.Dec.{eqb, leb, ltb}
+use borrow.Author.Tests.{le-leb, lt-leb, lt-ltb, le-ltb, leb-true, ltb-true}
+use Rattle.format.specs.Bytes.{pick, both, every, beAt, unpacked, rowsAt, gather, total}
+use Rattle.format.specs.ClipRecord.{Row, entryCount, present}
+use Rattle.format.specs.EntryPoints.{headerWidths, mapTypeAt, coarseCountAt, fineCountAt, mapAt, nextMap, bodyAt, fineStart, entriesOf, cpiEnd, hasMaps, mapCount, mapsFrom, entriesFrom, cpiLengthIn, mapHeadersIn, cpiIn, mapIn, mapsIn}
+use Rattle.format.proofs.Tests.{both-true, split-both}
+use Rattle.format.proofs.Rows.{rows-length, gather-adds}
+use Rattle.format.proofs.Read.{own-length}
+use Rattle.format.proofs.Loops.{one-left, none-left}
+use Rattle.bits.specs.Rows.{headerOf}
+use Rattle.bits.specs.declared.MapHeader.{MapHeader}
+use Rattle.cpi.specs.Maps.{headOf, mapRows, mapsMeasured, measured, HeadersIn}
+use Rattle.cpi.specs.declared.maps.Head.{Head}
+use Rattle.cpi.specs.declared.maps.MapRows.{MapRows}
+use Rattle.cpi.specs.declared.maps.Measured.{Measured}
+
+-- ---- a map header that was read
+
+pub header-read : (f : List ℕ) (p w : ℕ) (h : MapHeader) → w ≡ beAt f (p + 2) 6 → h ≡ headerOf (unpacked headerWidths w)
+    → (h .«ep_stream_type» ≡ mapTypeAt f p) × (h .«num_coarse» ≡ coarseCountAt f p) × (h .«num_fine» ≡ fineCountAt f p)
+header-read f p w h e r = (rw (r, e), rw (r, e), rw (r, e))
+
+pub counts-small : (f : List ℕ) (p : ℕ) → (coarseCountAt f p ≤ 65535) × (fineCountAt f p ≤ 262143)
+counts-small f p = (omega arith, omega arith)
+
+-- the fine rows start at the body's first word
+pub fine-is : (f : List ℕ) (c p body r : ℕ) → body ≡ bodyAt f c p → r ≡ beAt f body 4 → body + r ≡ fineStart f c p
+fine-is f c p body r e h = rw (h, e)
+
+-- ---- one map, test by test
+
+module _ (f : List ℕ) (c p : ℕ) where
+  pub address-past : cpiEnd f c ≤ bodyAt f c p → MapRows.PastEnd ≡ mapRows f c p
+  unfolding mapRows
+  address-past h = rw (le-ltb (bodyAt f c p) (cpiEnd f c) h)
+
+  module _ (address : bodyAt f c p < cpiEnd f c) where
+    pub coarse-past : length f < bodyAt f c p + 4 + 8 * coarseCountAt f p → MapRows.PastEnd ≡ mapRows f c p
+    unfolding mapRows
+    coarse-past h = rw (lt-ltb (bodyAt f c p) (cpiEnd f c) address, lt-leb (bodyAt f c p + 4 + 8 * coarseCountAt f p) (length f) h)
+
+    module _ (coarse : bodyAt f c p + 4 + 8 * coarseCountAt f p ≤ length f) where
+      pub fine-address-past : cpiEnd f c < fineStart f c p → MapRows.PastEnd ≡ mapRows f c p
+      unfolding mapRows
+      fine-address-past h =
+          rw (lt-ltb (bodyAt f c p) (cpiEnd f c) address, le-leb (bodyAt f c p + 4 + 8 * coarseCountAt f p) (length f) coarse, lt-leb (fineStart f c p) (cpiEnd f c) h)
+
+      module _ (fine : fineStart f c p ≤ cpiEnd f c) where
+        pub fine-past : length f < fineStart f c p + 4 * fineCountAt f p → MapRows.PastEnd ≡ mapRows f c p
+        unfolding mapRows
+        fine-past h =
+            rw (lt-ltb (bodyAt f c p) (cpiEnd f c) address, le-leb (bodyAt f c p + 4 + 8 * coarseCountAt f p) (length f) coarse,
+            le-leb (fineStart f c p) (cpiEnd f c) fine, lt-leb (fineStart f c p + 4 * fineCountAt f p) (length f) h)
+
+        pub map-fits : fineStart f c p + 4 * fineCountAt f p ≤ length f → MapRows.Entries (fineCountAt f p) ≡ mapRows f c p
+        unfolding mapRows
+        map-fits h =
+            rw (lt-ltb (bodyAt f c p) (cpiEnd f c) address, le-leb (bodyAt f c p + 4 + 8 * coarseCountAt f p) (length f) coarse,
+            le-leb (fineStart f c p) (cpiEnd f c) fine, le-leb (fineStart f c p + 4 * fineCountAt f p) (length f) h)
+
+-- what the answer of one map says
+pub map-said : (f : List ℕ) (c p n : ℕ) → mapRows f c p ≡ MapRows.Entries n → (mapIn f c p ≡ true) × (n ≡ fineCountAt f p)
+unfolding mapRows
+map-said f c p n e = go (mapIn f c p) e
+  where
+    go : (b : Bool) → pick b (MapRows.Entries (fineCountAt f p)) MapRows.PastEnd ≡ MapRows.Entries n → (b ≡ true) × (n ≡ fineCountAt f p)
+    go true e = (refl, cc)
+    go false e = let z : _≡_ {A = ℕ} 0 1 = cc in absurd (omega arith)
+
+pub map-refused : (f : List ℕ) (c p : ℕ) → mapRows f c p ≡ MapRows.PastEnd → mapIn f c p ≡ false
+unfolding mapRows
+map-refused f c p e = go (mapIn f c p) e
+  where
+    go : (b : Bool) → pick b (MapRows.Entries (fineCountAt f p)) MapRows.PastEnd ≡ MapRows.PastEnd → b ≡ false
+    go true e = let z : _≡_ {A = ℕ} 0 1 = cc in absurd (omega arith)
+    go false e = refl
+
+-- ---- all maps, one by one
+
+-- what holds before each turn: the maps that are left decide, and their entries are still to be counted
+pub record Counting (f : List ℕ) (c count entries k : ℕ) : Type 0 where
+  pub few : entries ≤ 262143 * k
+  pub decide : every (λ b. b) (rowsAt (mapIn f c) nextMap (c + 8 + 12 * k) (count - k)) ≡ mapsIn f c
+  pub still : entries + total entryCount (rowsAt (mapAt f) nextMap (c + 8 + 12 * k) (count - k)) ≡ length (entriesFrom f c)
+
+module _ (f : List ℕ) (c count : ℕ) (counted : count ≡ mapCount f c) where
+  pub counting-first : Counting f c count 0 0
+  unfolding mapsIn entriesFrom
+  counting-first =
+      let p : c + 8 + 12 * 0 ≡ c + 8 = omega arith in
+      let n : count - 0 ≡ mapCount f c = omega (arith, counted) in
+      let adds = gather-adds (mapAt f) entryCount (entriesOf f c) nextMap (own-length f c) (c + 8) (mapCount f c) in
+      record { few = omega arith; decide = rw (p, n); still = rw (p, n) (omega (arith, adds)) }
+
+  module _ (entries k : ℕ) (i : Counting f c count entries k) where
+    next-at : c + 8 + 12 * k + 12 ≡ c + 8 + 12 * (k + 1)
+    next-at = omega arith
+
+    pub counting-next : (n : ℕ) → k < count → mapRows f c (c + 8 + 12 * k) ≡ MapRows.Entries n → Counting f c count (entries + n) (k + 1)
+    counting-next n h e =
+        let m = map-said f c (c + 8 + 12 * k) n e in
+        let d = rw (one-left count k h, m .0, next-at) at (i .decide) in
+        let t = rw (one-left count k h, next-at) at (i .still) in
+        let small = counts-small f (c + 8 + 12 * k) in
+        let few = i .few in
+        let is = m .1 in
+        record { few = omega arith; decide = d; still = omega arith }
+
+    pub counting-bad : k < count → mapRows f c (c + 8 + 12 * k) ≡ MapRows.PastEnd → Measured.MapPastEnd ≡ mapsMeasured f c
+    unfolding mapsMeasured
+    counting-bad h e =
+        let d = rw (one-left count k h, map-refused f c (c + 8 + 12 * k) e) at (i .decide) in
+        rw (← d)
+
+    pub counting-done : count ≤ k → Measured.Counts count entries ≡ mapsMeasured f c
+    unfolding mapsMeasured mapsFrom
+    counting-done h =
+        let d : true ≡ mapsIn f c = rw (none-left count k h) at (i .decide) in
+        let t = rw (none-left count k h) at (i .still) in
+        let n : entries ≡ length (entriesFrom f c) = omega arith in
+        let m : count ≡ length (rowsAt (mapAt f) nextMap (c + 8) (mapCount f c)) = counted ∙ sym (rows-length (mapAt f) nextMap (c + 8) (mapCount f c)) in
+        rw (← d, n, m)
+
+-- ---- the section
+
+module _ (f : List ℕ) (c : ℕ) where
+  counted : hasMaps f c ≡ true → mapCount f c ≡ beAt f (c + 7) 1
+  unfolding mapCount
+  counted q = rw q
+
+  present-of : hasMaps f c ≡ true → present f c ≡ true
+  unfolding hasMaps
+  present-of q = split-both q .0
+
+  no-maps : hasMaps f c ≡ false → Measured.Counts 0 0 ≡ mapsMeasured f c
+  unfolding mapsMeasured mapsIn mapsFrom entriesFrom mapCount
+  no-maps h = rw h
+
+  -- what the head's answer says
+  pub head-said : (n e : ℕ) → length f ≤ 536870912 → headOf f c ≡ Head.Maps n e → (cpiIn f c ≡ true) × HeadersIn f c n e
+  unfolding headOf cpiIn
+  head-said n e small h = go (cpiLengthIn f c) (hasMaps f c) (mapHeadersIn f c) refl refl refl h
+    where
+      go : (a m b : Bool) → cpiLengthIn f c ≡ a → hasMaps f c ≡ m → mapHeadersIn f c ≡ b
+          → pick (both a b) (pick m (Head.Maps (beAt f (c + 7) 1) (cpiEnd f c)) Head.NoMaps) Head.PastEnd ≡ Head.Maps n e
+          → (both a b ≡ true) × HeadersIn f c n e
+      go false m b p q r h = let z : _≡_ {A = ℕ} 0 1 = cc in absurd (omega arith)
+      go true m false p q r h = let z : _≡_ {A = ℕ} 0 1 = cc in absurd (omega arith)
+      go true false true p q r h = let z : _≡_ {A = ℕ} 0 1 = cc in absurd (omega arith)
+      go true true true p q r h =
+          let is-n : n ≡ beAt f (c + 7) 1 = cc in
+          let is-e : e ≡ cpiEnd f c = cc in
+          let count : mapCount f c ≡ beAt f (c + 7) 1 = counted q in
+          let there : present f c ≡ true = present-of q in
+          let l : cpiEnd f c ≤ length f = leb-true (cpiEnd f c) (length f) (rw there at p) in
+          let m : c + 8 + 12 * mapCount f c ≤ length f = leb-true (c + 8 + 12 * mapCount f c) (length f) (rw q at r) in
+          (refl, record { small = small; counted = is-n ∙ sym count; end-is = is-e; end-in = omega arith; headers = omega arith })
+
+  pub head-none : headOf f c ≡ Head.NoMaps → Measured.Counts 0 0 ≡ measured f c
+  unfolding headOf measured
+  head-none h = go (cpiIn f c) (hasMaps f c) refl h
+    where
+      go : (a m : Bool) → hasMaps f c ≡ m → pick a (pick m (Head.Maps (beAt f (c + 7) 1) (cpiEnd f c)) Head.NoMaps) Head.PastEnd ≡ Head.NoMaps
+          → Measured.Counts 0 0 ≡ pick a (mapsMeasured f c) Measured.PastEnd
+      go true false q h = no-maps q
+      go true true q h = let z : _≡_ {A = ℕ} 0 1 = cc in absurd (omega arith)
+      go false m q h = let z : _≡_ {A = ℕ} 0 1 = cc in absurd (omega arith)
+
+  pub head-refused : headOf f c ≡ Head.PastEnd → Measured.PastEnd ≡ measured f c
+  unfolding headOf measured
+  head-refused h = go (cpiIn f c) (hasMaps f c) h
+    where
+      go : (a m : Bool) → pick a (pick m (Head.Maps (beAt f (c + 7) 1) (cpiEnd f c)) Head.NoMaps) Head.PastEnd ≡ Head.PastEnd
+          → Measured.PastEnd ≡ pick a (mapsMeasured f c) Measured.PastEnd
+      go true true h = let z : _≡_ {A = ℕ} 0 1 = cc in absurd (omega arith)
+      go true false h = let z : _≡_ {A = ℕ} 0 1 = cc in absurd (omega arith)
+      go false m h = refl
+
+  pub maps-then : {r : Measured} → cpiIn f c ≡ true → r ≡ mapsMeasured f c → r ≡ measured f c
+  unfolding measured
+  maps-then h e = e ∙ rw h

@@ -1,0 +1,98 @@
+-- Each turn counts a map's entries; the first map that is refused ends the loop.
+use Prim.Native.Nat.{_+_, _*_, _-_, _≤_}
+use mathlib.Core.Path.{sym, _∙_}
+use native.Mathlib.Omega.{arith}
+use denote.Ref.{now}
+use borrow.Author.Needs.{needs}
+use Rattle.cpi.proofs.Sections.{map-said, counts-small, Counting, counting-first, counting-next, counting-bad, counting-done}
+use Rattle.cpi.proofs.maps.measure_maps.Statement.{statement}
+use Rattle.cpi.proofs.maps.measure_maps.Tie as tie
+
+abbrev Inv-loop : tie.InvT-loop
+Inv-loop file start count end entries₀ k₀ entries k = (k ≤ count) × Counting file start count entries k
+
+abbrev μ-loop : tie.MeasureT-loop
+μ-loop file start count end entries₀ k₀ entries k = count - k
+
+loop-holds : tie.Need-loop-holds Inv-loop μ-loop
+loop-holds c = let s = c .before in (omega arith, counting-first (now (s .args .file)) (s .args .start) (s .args .count) (s .pre .counted))
+
+add-map-rows : tie.Need-add-map-rows Inv-loop μ-loop
+add-map-rows c = search needs
+
+mul-map-rows : tie.Need-mul-map-rows Inv-loop μ-loop
+mul-map-rows c = search needs
+
+add-map-rows-2 : tie.Need-add-map-rows-2 Inv-loop μ-loop
+add-map-rows-2 c = search needs
+
+map-rows-requires : tie.Need-map-rows-requires Inv-loop μ-loop
+map-rows-requires c κs =
+    let s = c .before .before .before in
+    let h = s .pre .headers in
+    let n = s .pre .small in
+    record { small = n; start-in = omega arith; end-is = s .pre .end-is; end-in = s .pre .end-in; header = omega arith }
+
+enum-known-n : tie.Need-enum-known-n Inv-loop μ-loop
+enum-known-n c = search needs
+
+enum-told : tie.Need-enum-told Inv-loop μ-loop
+enum-told c = search needs
+
+returns : tie.Need-returns Inv-loop μ-loop
+returns c =
+    let s = c .before .before .before .before .before .before in
+    let l = c .before .before .before .before .loop in
+    counting-bad (now (s .args .file)) (s .args .start) (s .args .count) (s .pre .counted) (l .entries) (l .k) (l .inv .1) (c .before .before .before .loop-test .taken)
+    (sym (c .before .before .map-rows .ensures) ∙ c .enum-told .given .1)
+
+add-entries : tie.Need-add-entries Inv-loop μ-loop
+add-entries c =
+    let s = c .before .before .before .before .before .before .before in
+    let l = c .before .before .before .before .before .loop in
+    let q = s .args .start + 8 + 12 * l .k in
+    let v = c .before .n .given in
+    let h = s .pre .headers in
+    let z = s .pre .small in
+    let few = l .inv .1 .few in
+    omega (arith, map-said (now (s .args .file)) (s .args .start) q (v .0 .0) (sym (c .before .before .before .map-rows .ensures) ∙ v .1) .1, counts-small (now (s .args .file)) q .1)
+
+add-k : tie.Need-add-k Inv-loop μ-loop
+add-k c = search needs
+
+loop-less : tie.Need-loop-less Inv-loop μ-loop
+loop-less c = search needs
+
+loop-again : tie.Need-loop-again Inv-loop μ-loop
+loop-again c =
+    let s = c .before .before .before .before .before .before .before in
+    let l = c .before .before .before .before .before .loop in
+    let v = c .before .n .given in
+    (omega arith, counting-next (now (s .args .file)) (s .args .start) (s .args .count) (s .pre .counted) (l .entries) (l .k) (l .inv .1) (v .0 .0) (c .before .before .before .before .loop-test .taken)
+    (sym (c .before .before .before .map-rows .ensures) ∙ v .1))
+
+returns-2 : tie.Need-returns-2 Inv-loop μ-loop
+returns-2 c =
+    let s = c .before .before .before in
+    let l = c .before .loop in
+    counting-done (now (s .args .file)) (s .args .start) (s .args .count) (s .pre .counted) (l .entries) (l .k) (l .inv .1) (c .loop-test .left)
+
+pub measure-maps-spec : {M : Type 1} → statement M
+measure-maps-spec =
+    tie.close
+    (tie.spec
+    Inv-loop
+    μ-loop
+    loop-holds
+    add-map-rows
+    mul-map-rows
+    add-map-rows-2
+    map-rows-requires
+    enum-known-n
+    enum-told
+    returns
+    add-entries
+    add-k
+    loop-less
+    loop-again
+    returns-2)
