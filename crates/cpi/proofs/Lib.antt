@@ -3,3 +3,4 @@ pub mod Walks
 pub mod Joined
 pub mod Heads
 pub mod Sections
+pub mod Filling

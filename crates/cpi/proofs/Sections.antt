@@ -56,14 +56,22 @@ module _ (f : List ℕ) (c p : ℕ) where
         pub fine-past : length f < fineStart f c p + 4 * fineCountAt f p → MapRows.PastEnd ≡ mapRows f c p
         unfolding mapRows
         fine-past h =
-            rw (lt-ltb (bodyAt f c p) (cpiEnd f c) address, le-leb (bodyAt f c p + 4 + 8 * coarseCountAt f p) (length f) coarse,
-            le-leb (fineStart f c p) (cpiEnd f c) fine, lt-leb (fineStart f c p + 4 * fineCountAt f p) (length f) h)
+            rw (
+              lt-ltb (bodyAt f c p) (cpiEnd f c) address,
+              le-leb (bodyAt f c p + 4 + 8 * coarseCountAt f p) (length f) coarse,
+              le-leb (fineStart f c p) (cpiEnd f c) fine,
+              lt-leb (fineStart f c p + 4 * fineCountAt f p) (length f) h,
+            )
 
         pub map-fits : fineStart f c p + 4 * fineCountAt f p ≤ length f → MapRows.Entries (fineCountAt f p) ≡ mapRows f c p
         unfolding mapRows
         map-fits h =
-            rw (lt-ltb (bodyAt f c p) (cpiEnd f c) address, le-leb (bodyAt f c p + 4 + 8 * coarseCountAt f p) (length f) coarse,
-            le-leb (fineStart f c p) (cpiEnd f c) fine, le-leb (fineStart f c p + 4 * fineCountAt f p) (length f) h)
+            rw (
+              lt-ltb (bodyAt f c p) (cpiEnd f c) address,
+              le-leb (bodyAt f c p + 4 + 8 * coarseCountAt f p) (length f) coarse,
+              le-leb (fineStart f c p) (cpiEnd f c) fine,
+              le-leb (fineStart f c p + 4 * fineCountAt f p) (length f) h,
+            )
 
 -- what the answer of one map says
 pub map-said : (f : List ℕ) (c p n : ℕ) → mapRows f c p ≡ MapRows.Entries n → (mapIn f c p ≡ true) × (n ≡ fineCountAt f p)

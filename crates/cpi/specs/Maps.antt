@@ -43,11 +43,13 @@ pub record HeadersIn (f : List ℕ) (c count end : ℕ) : Type 0 where
   pub end-in : end ≤ length f
   pub headers : c + 8 + 12 * count ≤ length f
 
--- a map's header and body are in the file
-pub record OneMap (f : List ℕ) (c p : ℕ) : Type 0 where
+-- a map's header and body are in the file, and the table has room for its entries
+pub record OneMap (f : List ℕ) (c p room at : ℕ) : Type 0 where
   pub small : length f ≤ 536870912
+  pub end-in : cpiEnd f c ≤ length f
   pub header : p + 12 ≤ length f
   pub body : mapIn f c p ≡ true
+  pub fits : at + 20 * fineCountAt f p ≤ room
 
 -- the section is in the file, and both tables have room
 pub record Fill (f : List ℕ) (c count : ℕ) (maps entries : List ℕ) : Type 0 where

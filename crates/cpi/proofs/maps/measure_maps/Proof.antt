@@ -67,9 +67,11 @@ loop-again : tie.Need-loop-again Inv-loop μ-loop
 loop-again c =
     let s = c .before .before .before .before .before .before .before in
     let l = c .before .before .before .before .before .loop in
-    let v = c .before .n .given in
-    (omega arith, counting-next (now (s .args .file)) (s .args .start) (s .args .count) (s .pre .counted) (l .entries) (l .k) (l .inv .1) (v .0 .0) (c .before .before .before .before .loop-test .taken)
-    (sym (c .before .before .before .map-rows .ensures) ∙ v .1))
+    let v = c .before .n .given in (
+      omega arith,
+      counting-next (now (s .args .file)) (s .args .start) (s .args .count) (s .pre .counted) (l .entries) (l .k) (l .inv .1) (v .0 .0) (c .before .before .before .before .loop-test .taken)
+          (sym (c .before .before .before .map-rows .ensures) ∙ v .1),
+    )
 
 returns-2 : tie.Need-returns-2 Inv-loop μ-loop
 returns-2 c =
