@@ -7,7 +7,9 @@ pub mod Stores
 pub mod Cells
 pub mod Rows
 pub mod Loops
+pub mod Sweep
 pub mod Tables
+pub mod Cell
 pub mod ReadByRead
 pub mod Join
 pub mod Good

@@ -1,0 +1,449 @@
+-- The head and an entry by their tests, a turn of each pass over the entries, and the data of a row.
+use Prim.Native.Nat.{ℕ, _+_, _*_, _-_, _<_, _≤_, min}
+use mathlib.Core.Path.{_≡_, refl, sym, ap, _∙_}
+use mathlib.Core.Logic.{_⊎_, inl, inr, ⊎-elim}
+use mathlib.Core.List.{List, [], _∷_, _++_, append-nil}
+use mathlib.Core.Bool.{Bool, true, false, not}
+use native.Mathlib.Nat.{sub-zero}
+use native.Mathlib.Omega.{arith}
+use lib.ListN.{length, take, drop, length-append}
+use lib.Seq.{sets}
+use lib.Dec.{leb, ltb, eqb, lit<}
+use borrow.Author.Tests.{eq-eqb, ne-eqb, le-leb, lt-leb, lt-ltb, le-ltb, leb-true}
+use Rattle.format.specs.Bytes.{IsBytes, both, pick, unless, beAt, gather}
+use Rattle.format.specs.ClipRecord.{Row}
+use Rattle.format.specs.Extensions.{blockLength, blockEnd, extensionCount, addressAt, dataLengthAt, nextExtension, extensionAt, isKept, keptAt, hasExtensions, extensionRows, extensionsFrom, dataIn, dataStart, dataLength, Found, nothing, found, listData}
+use Rattle.format.specs.Tables.{cellBytes, rowBytes, tableBytes, rowsLent, overwritten, Table, isStated, extensionCells}
+use Rattle.format.specs.Refusals.{extensionRow, dataRefusal, dataAsked}
+use Rattle.format.proofs.Tests.{both-true}
+use Rattle.format.proofs.Lists.{All, none, more}
+use Rattle.format.proofs.Stores.{be-below}
+use Rattle.format.proofs.Cell.{cell-of}
+use Rattle.format.proofs.Cells.{low-length}
+use Rattle.format.proofs.Rows.{all-rows, gather-all, flat-length}
+use Rattle.format.proofs.Loops.{one-left, none-left, flat-append, put-more, gather-done, sets-front}
+use Rattle.common.specs.Reads.{ReadIs, CellIs}
+use Rattle.extension.specs.Block.{headOf, Block, InBlock, rowsIn, extensionsIn, entryRows, entryEnd, EntryIs, entryList, orList, foundIn, listEnd, MeasuredIs, PutIs}
+use Rattle.extension.specs.Part.{partOf, PartIs}
+use Rattle.extension.specs.declared.Head.{Head}
+use Rattle.extension.specs.declared.ExtensionDataEntry.{ExtensionDataEntry}
+use Rattle.extension.specs.declared.ExtensionDataEntry.the-variants.{Kept, LeftOut}
+use Rattle.extension.specs.declared.ListData.{ListData}
+use Rattle.extension.specs.declared.ListData.the-variants.{At, Absent}
+use Rattle.extension.specs.declared.Measured.{Measured}
+use Rattle.extension.specs.declared.Part.{Part}
+
+-- a test that fails fails both
+left-fails : {a : Bool} (b : Bool) → a ≡ false → both a b ≡ false
+left-fails b h = rw h
+
+right-fails : (a : Bool) {b : Bool} → b ≡ false → both a b ≡ false
+right-fails true h = h
+right-fails false h = refl
+
+-- ---- the head
+
+-- seven bytes behind the length stands the count
+pub seven : (start : ℕ) → start + 4 + 7 ≡ start + 11
+seven start = omega arith
+
+module _ (f : List ℕ) (start : ℕ) where
+  -- the tests of the block: it is present, its length is not 0, its entries do not pass the end
+  abbrev some : Bool
+  some = not (eqb start 0)
+
+  abbrev before : Bool
+  before = ltb start (length f)
+
+  abbrev long : Bool
+  long = not (eqb (blockLength f start) 0)
+
+  abbrev whole : Bool
+  whole = leb (start + 12 + 12 * extensionCount f start) (length f)
+
+  empty : hasExtensions f start ≡ false → Head.Empty ≡ headOf f start
+  unfolding headOf
+  empty h = rw h
+
+  -- no block starts at 0
+  pub at-zero : start ≡ 0 → Head.Empty ≡ headOf f start
+  at-zero h = empty (left-fails (both long whole) (left-fails before (ap not (eq-eqb start 0 h))))
+
+  -- nor at or past the end
+  pub at-end : length f ≤ start → Head.Empty ≡ headOf f start
+  at-end h = empty (left-fails (both long whole) (right-fails some (le-ltb start (length f) h)))
+
+  -- a block of length 0 has no entries
+  pub no-length : {v : ℕ} → v ≡ blockLength f start → v ≡ 0 → Head.Empty ≡ headOf f start
+  no-length e h = empty (right-fails (both some before) (left-fails whole (ap not (eq-eqb (blockLength f start) 0 (sym e ∙ h)))))
+
+  -- nor has one whose entries pass the end
+  pub too-short : length f < start + 12 + 12 * extensionCount f start → Head.Empty ≡ headOf f start
+  too-short h = empty (right-fails (both some before) (right-fails long (lt-leb (start + 12 + 12 * extensionCount f start) (length f) h)))
+
+  -- else there are entries
+  pub entries : {v n end : ℕ} → (start ≡ 0 → ⊥) → start < length f → v ≡ blockLength f start → (v ≡ 0 → ⊥) → n ≡ extensionCount f start
+      → start + 12 + 12 * n ≤ length f → end ≡ min (start + 4 + v) (length f) → Head.Entries n end ≡ headOf f start
+  unfolding headOf
+  entries {v} {n} {end} not-zero inside length-is not-empty n-is room stop =
+      let bl : eqb (blockLength f start) 0 ≡ false = ne-eqb (blockLength f start) 0 (λ h. not-empty (length-is ∙ h)) in
+      let all : whole ≡ true = le-leb (start + 12 + 12 * extensionCount f start) (length f) (rw n-is at room) in
+      rw (ne-eqb start 0 not-zero, lt-ltb start (length f) inside, bl, all, stop, n-is, length-is)
+
+  -- the rows of a block with no entries
+  pub no-rows : Head.Empty ≡ headOf f start → extensionRows f start ≡ []
+  unfolding headOf extensionRows
+  no-rows e = by-test (hasExtensions f start) refl
+    where
+      by-test : (t : Bool) → hasExtensions f start ≡ t → extensionRows f start ≡ []
+      by-test true h = let is = rw h at e in let z : _≡_ {A = ℕ} 0 1 = cc in absurd (omega arith)
+      by-test false h = rw h
+
+  -- what a head with entries says
+  record Has (n end : ℕ) : Type 0 where
+    is : hasExtensions f start ≡ true
+    count : n ≡ extensionCount f start
+    stop : end ≡ min (blockEnd f start) (length f)
+
+  has : {n end : ℕ} → Head.Entries n end ≡ headOf f start → Has n end
+  unfolding headOf
+  has {n} {end} e = by-test (hasExtensions f start) refl
+    where
+      by-test : (t : Bool) → hasExtensions f start ≡ t → Has n end
+      by-test true h = let is = rw h at e in record { is = h; count = cc; stop = cc }
+      by-test false h = let is = rw h at e in let z : _≡_ {A = ℕ} 0 1 = cc in absurd (omega arith)
+
+  pub rows-are : {n end : ℕ} → Head.Entries n end ≡ headOf f start → extensionRows f start ≡ rowsIn f start n
+  unfolding extensionRows
+  rows-are e = let h = has e in rw (h .is, h .count)
+
+  pub block : {n end : ℕ} → IsBytes f → length f ≤ 536870912 → Head.Entries n end ≡ headOf f start → Block f start n end
+  block bytes small e =
+      let h = has e in
+      let t = both-true long whole (both-true (both some before) (both long whole) (h .is) .1) .1 in
+      let room = leb-true (start + 12 + 12 * extensionCount f start) (length f) t in
+      record { short = small; room = rw (h .count) room; few = omega (arith, h .count, be-below f bytes (start + 11) 1); stop = h .stop }
+
+-- ---- an entry
+
+module _ (f : List ℕ) (start p : ℕ) where
+  left-out : isKept f start p ≡ false → EntryIs f start p LeftOut
+  left-out h = record { rows = rw h; inside = omega arith }
+
+  -- an address of 0 is left out
+  pub no-address : {addr : ℕ} → ReadIs f (p + 4) 4 addr → addr ≡ 0 → EntryIs f start p LeftOut
+  no-address r h =
+      left-out
+      (left-fails (leb (start + addressAt f p + dataLengthAt f p) (min (blockEnd f start) (length f)))
+      (ap not (eq-eqb (addressAt f p) 0 (sym (r .same) ∙ h))))
+
+  module _ {end addr len : ℕ} (b : InBlock f start end p) (a : ReadIs f (p + 4) 4 addr) (l : ReadIs f (p + 8) 4 len) where
+    end-is : start + addr + len ≡ start + addressAt f p + dataLengthAt f p
+    end-is = rw (a .same, l .same)
+
+    -- so is data that passes the end
+    pub data-past : end < start + addr + len → EntryIs f start p LeftOut
+    data-past h =
+        left-out
+        (right-fails (not (eqb (addressAt f p) 0))
+        (lt-leb (start + addressAt f p + dataLengthAt f p) (min (blockEnd f start) (length f)) (omega (arith, end-is, b .stop))))
+
+    -- other data is kept
+    pub data-kept : {id1 id2 : ℕ} → (addr ≡ 0 → ⊥) → start + addr + len ≤ end → ReadIs f p 2 id1 → ReadIs f (p + 2) 2 id2
+        → EntryIs f start p (Kept id1 id2 (start + addr) len)
+    data-kept some h i j =
+        let fits : leb (start + addressAt f p + dataLengthAt f p) (min (blockEnd f start) (length f)) ≡ true =
+        le-leb (start + addressAt f p + dataLengthAt f p) (min (blockEnd f start) (length f)) (omega (arith, end-is, b .stop)) in
+        let not-zero : eqb (addressAt f p) 0 ≡ false = ne-eqb (addressAt f p) 0 (λ z. some (a .same ∙ z)) in
+        record { rows = rw (fits, not-zero, a .same, l .same, i .same, j .same); inside = omega (arith, b .stop) }
+
+-- ---- the list
+
+-- the first of two finds
+abbrev pub orFound : Found → Found → Found
+orFound nothing later = later
+orFound (found d) later = found d
+
+-- the list of rows
+abbrev pub listFrom : List ℕ → List Row → Found
+listFrom f rows = listData (extensionsIn f rows)
+
+or-nothing : (x : Found) → orFound x nothing ≡ x
+or-nothing nothing = refl
+or-nothing (found d) = refl
+
+-- an entry before the rows that are left
+listed-first : (f : List ℕ) (list : ListData) (e : ExtensionDataEntry) (rest : List Row)
+    → orFound (foundIn f (orList list (entryList e))) (listFrom f rest) ≡ orFound (foundIn f list) (listFrom f (entryRows e ++ rest))
+unfolding listData
+listed-first f (At start len) e rest = refl
+listed-first f Absent LeftOut rest = refl
+listed-first f Absent (Kept id1 id2 start len) rest = by-test (both (eqb id1 2) (eqb id2 5))
+  where
+    by-test : (t : Bool) → orFound (foundIn f (pick t (At start len) Absent)) (listFrom f rest) ≡ pick t (found (take len (drop start f))) (listFrom f rest)
+    by-test true = refl
+    by-test false = refl
+
+listed-inside : (f : List ℕ) (list : ListData) (e : ExtensionDataEntry) → listEnd list ≤ length f → entryEnd e ≤ length f
+    → listEnd (orList list (entryList e)) ≤ length f
+listed-inside f (At start len) e h k = h
+listed-inside f Absent LeftOut h k = h
+listed-inside f Absent (Kept id1 id2 start len) h k = by-test (both (eqb id1 2) (eqb id2 5))
+  where
+    by-test : (t : Bool) → listEnd (pick t (At start len) Absent) ≤ length f
+    by-test true = k
+    by-test false = h
+
+-- the ids decide
+pub first-id : (list : ListData) (e : ExtensionDataEntry) {id1 id2 start len : ℕ} → list ≡ Absent → e ≡ Kept id1 id2 start len → (id1 ≡ 2 → ⊥)
+    → Absent ≡ orList list (entryList e)
+first-id list e {id1} absent is h = rw (absent, is, ne-eqb id1 2 h)
+
+pub second-id : (list : ListData) (e : ExtensionDataEntry) {id1 id2 start len : ℕ} → list ≡ Absent → e ≡ Kept id1 id2 start len → id1 ≡ 2 → (id2 ≡ 5 → ⊥)
+    → Absent ≡ orList list (entryList e)
+second-id list e {id1} {id2} absent is h k = rw (absent, is, eq-eqb id1 2 h, ne-eqb id2 5 k)
+
+pub both-ids : (list : ListData) (e : ExtensionDataEntry) {id1 id2 start len : ℕ} → list ≡ Absent → e ≡ Kept id1 id2 start len → id1 ≡ 2 → id2 ≡ 5
+    → At start len ≡ orList list (entryList e)
+both-ids list e {id1} {id2} absent is h k = rw (absent, is, eq-eqb id1 2 h, eq-eqb id2 5 k)
+
+-- ---- the passes over n entries
+
+pub one-row : (e : ExtensionDataEntry) → length (entryRows e) ≤ 1
+one-row LeftOut = omega arith
+one-row (Kept id1 id2 start len) = omega arith
+
+-- the bytes of a row of four cells
+row-bytes : (id1 id2 start len : ℕ) → length (rowBytes (id1 ∷ id2 ∷ start ∷ len ∷ [])) ≡ 16
+row-bytes id1 id2 start len = flat-length 4 cellBytes (all-rows (λ v. low-length 4 v) (id1 ∷ id2 ∷ start ∷ len ∷ []))
+
+-- what an entry stores: nothing where it is left out
+pub none-put : (e : ExtensionDataEntry) (at : ℕ) (t : List ℕ) → e ≡ LeftOut
+    → PutIs (entryRows e) at t t at
+none-put e at t is = record { next = rw is (omega arith); stored = rw is }
+
+-- else one row
+module _ (e : ExtensionDataEntry) {id1 id2 start len : ℕ} (is : e ≡ Kept id1 id2 start len) where
+  abbrev row : List ℕ
+  row = rowBytes (id1 ∷ id2 ∷ start ∷ len ∷ [])
+
+  entry-bytes : tableBytes (entryRows e) ≡ row
+  entry-bytes = rw is (append-nil row)
+
+  pub entry-size : length (tableBytes (entryRows e)) ≡ 16
+  entry-size = rw entry-bytes (row-bytes id1 id2 start len)
+
+  pub one-put : (at : ℕ) (t : List ℕ) {t′ : List ℕ} → t′ ≡ sets t at row → PutIs (entryRows e) at t t′ (at + 16)
+  one-put at t h = record { next = rw entry-size; stored = rw entry-bytes h }
+
+module _ (f : List ℕ) (start n : ℕ) where
+  -- the rows that are left after k of n turns
+  abbrev pub left : ℕ → ℕ → List Row
+  left p k = gather (keptAt f start) nextExtension p (n - k)
+
+  -- of the measuring pass: what is counted and found, with what is left, is the whole
+  pub record Counted (p k rows : ℕ) (list : ListData) : Type 0 where
+    pub turns : k ≤ n
+    pub place : p ≡ start + 12 + 12 * k
+    pub few : rows ≤ k
+    pub inside : listEnd list ≤ length f
+    pub count : rows + length (left p k) ≡ length (rowsIn f start n)
+    pub first : orFound (foundIn f list) (listFrom f (left p k)) ≡ listFrom f (rowsIn f start n)
+
+  pub none-counted : Counted (start + 12) 0 0 Absent
+  none-counted = record {
+    turns = omega arith;
+    place = omega arith;
+    few = omega arith;
+    inside = omega arith;
+    count = rw sub-zero (omega arith);
+    first = rw sub-zero;
+  }
+
+  pub one-counted : {p k rows : ℕ} {list : ListData} (e : ExtensionDataEntry) {more : ℕ} {list′ : ListData} → k < n → EntryIs f start p e
+      → more ≡ length (entryRows e) → list′ ≡ orList list (entryList e) → Counted p k rows list → Counted (p + 12) (k + 1) (rows + more) list′
+  one-counted {p} {k} {rows} {list} e {more} {list′} h is one two c =
+      let rest = gather (keptAt f start) nextExtension (p + 12) (n - (k + 1)) in
+      let whole : left p k ≡ entryRows e ++ rest = rw (one-left n k h, is .rows) in
+      record {
+        turns = omega arith;
+        place = omega (arith, c .place);
+        few = omega (arith, c .few, one-row e);
+        inside = rw two (listed-inside f list e (c .inside) (is .inside));
+        count = omega (arith, rw (whole, length-append) at (c .count));
+        first = rw two (listed-first f list e rest ∙ rw whole at (c .first));
+      }
+
+  pub all-counted : {p k rows : ℕ} {list : ListData} → n ≤ k → n ≤ 255 → Counted p k rows list
+      → MeasuredIs f (rowsIn f start n) (extensionsIn f (rowsIn f start n)) (record { rows = rows; list = list })
+  unfolding listData
+  all-counted {p} {k} {rows} {list} h small c =
+      let all : left p k ≡ [] = rw (none-left n k h) in
+      record {
+        rows = omega (arith, rw all at (c .count));
+        few = omega (arith, c .few, c .turns);
+        list = sym (or-nothing (foundIn f list)) ∙ rw all at (c .first);
+        inside = c .inside;
+      }
+
+  -- of the storing pass: what is left, put from here, gives the whole, and there is room
+  pub record Stored (p k at : ℕ) (t₀ t : List ℕ) : Type 0 where
+    pub turns : k ≤ n
+    pub place : p ≡ start + 12 + 12 * k
+    pub size : length t ≡ length t₀
+    pub room : at + length (tableBytes (left p k)) ≤ length t₀
+    pub puts : sets t at (tableBytes (left p k)) ≡ sets t₀ 0 (tableBytes (rowsIn f start n))
+
+  pub none-stored : (t : List ℕ) → length (tableBytes (rowsIn f start n)) ≤ length t → Stored (start + 12) 0 0 t t
+  none-stored t h = record {
+    turns = omega arith;
+    place = omega arith;
+    size = refl;
+    room = rw sub-zero (omega arith);
+    puts = rw sub-zero;
+  }
+
+  module _ {p k at : ℕ} {t₀ t : List ℕ} (e : ExtensionDataEntry) (h : k < n) (is : EntryIs f start p e) (c : Stored p k at t₀ t) where
+    abbrev rest : List Row
+    rest = gather (keptAt f start) nextExtension (p + 12) (n - (k + 1))
+
+    parts : tableBytes (left p k) ≡ tableBytes (entryRows e) ++ tableBytes rest
+    parts = rw (one-left n k h, ← is .rows) (flat-append rowBytes (entryRows e) rest)
+
+    room-parts : at + (length (tableBytes (entryRows e)) + length (tableBytes rest)) ≤ length t₀
+    room-parts = rw (parts, length-append) at (c .room)
+
+    -- the next row has room
+    pub room-stored : at + length (tableBytes (entryRows e)) ≤ length t
+    room-stored = omega (arith, room-parts, c .size)
+
+    pub one-stored : {at′ : ℕ} {t′ : List ℕ} → PutIs (entryRows e) at t t′ at′ → length t′ ≡ length t → Stored (p + 12) (k + 1) at′ t₀ t′
+    one-stored {at′} {t′} put same = record {
+      turns = omega arith;
+      place = omega (arith, c .place);
+      size = same ∙ c .size;
+      room = rw (put .next) (omega (arith, room-parts));
+      puts = rw (put .next) (put-more t at (length (tableBytes (entryRows e))) (tableBytes (entryRows e)) (tableBytes rest) refl (put .stored) (rw parts at (c .puts)));
+    }
+
+  pub all-stored : {p k at : ℕ} {t₀ t : List ℕ} → n ≤ k → Stored p k at t₀ t → t ≡ sets t₀ 0 (tableBytes (rowsIn f start n))
+  all-stored {p} {k} {at} {t₀} {t} h c = gather-done (keptAt f start) nextExtension rowBytes t at p n k h (c .puts)
+
+-- ---- the measuring pass
+
+module _ (f : List ℕ) (start : ℕ) where
+  -- no rows
+  pub nothing-measured : extensionRows f start ≡ []
+      → MeasuredIs f (extensionRows f start) (extensionsFrom f start) (record { rows = 0; list = Absent })
+  unfolding extensionsFrom listData
+  nothing-measured is = record { rows = rw is; few = omega arith; list = rw is; inside = omega arith }
+
+  -- the rows of the entries
+  pub all-measured : (n : ℕ) {r : Measured} → extensionRows f start ≡ rowsIn f start n → MeasuredIs f (rowsIn f start n) (extensionsIn f (rowsIn f start n)) r
+      → MeasuredIs f (extensionRows f start) (extensionsFrom f start) r
+  unfolding extensionsFrom
+  all-measured n is m = rw is m
+
+-- ---- table 7
+
+module _ (f : List ℕ) (start n : ℕ) where
+  kept-bytes : (p : ℕ) → All (λ row. length (rowBytes row) ≡ 16) (keptAt f start p)
+  kept-bytes p = by-test (isKept f start p)
+    where
+      by-test : (t : Bool) → All (λ row. length (rowBytes row) ≡ 16) (pick t (extensionAt f start p ∷ []) [])
+      by-test true = more (row-bytes (beAt f p 2) (beAt f (p + 2) 2) (start + addressAt f p) (dataLengthAt f p)) none
+      by-test false = none
+
+  table-bytes : length (tableBytes (rowsIn f start n)) ≡ 16 * length (rowsIn f start n)
+  table-bytes = flat-length 16 rowBytes (gather-all (keptAt f start) nextExtension kept-bytes (start + 12) n)
+
+  module _ (t : List ℕ) (is : extensionRows f start ≡ rowsIn f start n) (h : length (extensionRows f start) ≤ rowsLent extensionCells t) where
+    -- a table with room for the rows has room for their bytes
+    pub table-room : length (tableBytes (rowsIn f start n)) ≤ length t
+    table-room = omega (arith, table-bytes, rw is at h)
+
+    pub table-filled : {t′ : List ℕ} → t′ ≡ sets t 0 (tableBytes (rowsIn f start n)) → t′ ≡ overwritten (tableBytes (extensionRows f start)) t
+    table-filled e = rw is (sets-front t (tableBytes (rowsIn f start n)) table-room e)
+
+-- a table that gets no rows
+pub table-kept : (f : List ℕ) (start : ℕ) (t : List ℕ) → extensionRows f start ≡ [] → t ≡ overwritten (tableBytes (extensionRows f start)) t
+table-kept f start t is = rw is
+
+-- ---- the data of a row
+
+module _ (f : List ℕ) (t : Table) (k : ℕ) where
+  refused : dataRefusal f t k ≡ 22 → PartIs f t k Part.Refused
+  unfolding partOf
+  refused h = record { same = rw h; inside = omega arith }
+
+  -- more rows are stated than lent
+  pub not-stated : rowsLent extensionCells (t .bytes) < t .rows → PartIs f t k Part.Refused
+  unfolding dataRefusal
+  not-stated h = refused (rw (lt-leb (t .rows) (rowsLent extensionCells (t .bytes)) h))
+
+  module _ (stated : t .rows ≤ rowsLent extensionCells (t .bytes)) where
+    -- the row is not one of them
+    pub no-row : t .rows ≤ k → PartIs f t k Part.Refused
+    unfolding dataRefusal
+    no-row h = refused (rw (le-leb (t .rows) (rowsLent extensionCells (t .bytes)) stated, le-ltb k (t .rows) h))
+
+    module _ {start len : ℕ} (row : k < t .rows) (s : CellIs (t .bytes) (16 * k + 8) start) (l : CellIs (t .bytes) (16 * k + 12) len) where
+      start-is : start ≡ dataStart (extensionRow t k)
+      start-is = cell-of 4 (t .bytes) (t .rows) k 2 row (lit< tt) (omega arith) (s .same)
+
+      len-is : len ≡ dataLength (extensionRow t k)
+      len-is = cell-of 4 (t .bytes) (t .rows) k 3 row (lit< tt) (omega arith) (l .same)
+
+      -- its data passes the end
+      pub outside : length f < start + len → PartIs f t k Part.Refused
+      unfolding dataRefusal
+      outside h =
+          refused
+          (rw (
+            le-leb (t .rows) (rowsLent extensionCells (t .bytes)) stated,
+            lt-ltb k (t .rows) row,
+            lt-leb (dataStart (extensionRow t k) + dataLength (extensionRow t k)) (length f) (rw (start-is, len-is) at h),
+          ))
+
+      -- its data lies inside
+      pub within : start + len ≤ length f → PartIs f t k (Part.At start len)
+      unfolding dataRefusal partOf
+      within h = record {
+        same =
+            rw (
+              le-leb (t .rows) (rowsLent extensionCells (t .bytes)) stated,
+              lt-ltb k (t .rows) row,
+              le-leb (dataStart (extensionRow t k) + dataLength (extensionRow t k)) (length f) (rw (start-is, len-is) at h),
+              start-is,
+              len-is,
+            );
+        inside = h;
+      }
+
+  -- there are two answers
+  two-ways : (dataRefusal f t k ≡ 0) ⊎ (dataRefusal f t k ≡ 22)
+  unfolding dataRefusal
+  two-ways = by-tests (isStated extensionCells t) (ltb k (t .rows)) (dataIn f (extensionRow t k))
+    where
+      by-tests : (a b c : Bool) → (unless a 22 (unless b 22 (unless c 22 0)) ≡ 0) ⊎ (unless a 22 (unless b 22 (unless c 22 0)) ≡ 22)
+      by-tests false b c = inr refl
+      by-tests true false c = inr refl
+      by-tests true true false = inr refl
+      by-tests true true true = inl refl
+
+  -- what a place says of the call
+  pub given : {start len : ℕ} → Part.At start len ≡ partOf f t k → (0 ≡ dataRefusal f t k) × (take len (drop start f) ≡ dataAsked f t k)
+  unfolding partOf dataAsked
+  given e =
+      ⊎-elim
+      (λ h. let is = rw h at e in (sym h, rw h (cc)))
+      (λ h. let is = rw h at e in let z : _≡_ {A = ℕ} 0 1 = cc in absurd (omega arith))
+      two-ways
+
+  pub not-given : Part.Refused ≡ partOf f t k → (22 ≡ dataRefusal f t k) × ([] ≡ dataAsked f t k)
+  unfolding partOf dataAsked
+  not-given e =
+      ⊎-elim
+      (λ h. let is = rw h at e in let z : _≡_ {A = ℕ} 0 1 = cc in absurd (omega arith))
+      (λ h. (sym h, rw h))
+      two-ways

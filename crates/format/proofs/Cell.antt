@@ -1,0 +1,38 @@
+-- Cell j of row k of a lent table: where it stands, that it lies inside the table, and that it is what the row says.
+use Prim.Native.Nat.{ℕ, zero, suc, _+_, _*_, _<_, _≤_}
+use mathlib.Core.Path.{_≡_, sym, ap, _∙_}
+use mathlib.Core.List.{List, []}
+use native.Mathlib.Nat.{add-zero, mul-zero, mul-suc, suc-mul, mul-assoc, mul-comm, le-trans, le-div-iff-mul-le, mul-le-mul-right}
+use native.Mathlib.Omega.{arith}
+use lib.ListN.{length, getD}
+use Rattle.format.specs.Bytes.{rowsAt}
+use Rattle.format.specs.Tables.{cellAt, cellsAt, tableRows, rowsLent}
+
+-- item k of items that stand w apart from p
+item-at : {A : Type 0} (row : ℕ → A) (none : A) (w p n k : ℕ) → k < n → getD (rowsAt row (λ q. q + w) p n) k none ≡ row (p + w * k)
+item-at row none w p zero k h = absurd (omega arith)
+item-at row none w p (suc n) zero h = rw (mul-zero w, add-zero p)
+item-at row none w p (suc n) (suc k) h =
+    let e : p + w + w * k ≡ p + w * suc k = rw mul-suc (omega arith) in
+    item-at row none w (p + w) n k (omega arith) ∙ ap row e
+
+module _ (cells : ℕ) (t : List ℕ) (n k j : ℕ) (row : k < n) (cell : j < cells) where
+  place : 0 + 4 * cells * k + 4 * j ≡ 4 * (cells * k + j)
+  place = rw (mul-assoc 4 cells k) (omega arith)
+
+  -- what is read at the cell's place is the cell of the row
+  pub cell-of : {at r : ℕ} → at ≡ 4 * (cells * k + j) → r ≡ cellAt t at → r ≡ getD (getD (tableRows cells t n) k []) j 0
+  unfolding tableRows
+  cell-of e is =
+      is
+      ∙ ap (cellAt t) (e ∙ sym place)
+      ∙ sym (item-at (cellAt t) 0 4 (0 + 4 * cells * k) cells j cell)
+      ∙ sym (ap (λ (cs : List ℕ). getD cs j 0) (item-at (cellsAt t cells) [] (4 * cells) 0 n k row))
+
+  -- the cell's four bytes lie inside a table that has room for the rows
+  pub cell-room : n ≤ rowsLent cells t → 4 * (cells * k + j) + 4 ≤ length t
+  cell-room h =
+      let some : 0 < 4 * cells = omega arith in
+      let upto : suc k * (4 * cells) ≤ length t = le-trans (mul-le-mul-right (4 * cells) row) (le-div-iff-mul-le some .0 h) in
+      let e : k * (4 * cells) ≡ 4 * (cells * k) = mul-comm k (4 * cells) ∙ mul-assoc 4 cells k in
+      omega (arith, rw (suc-mul k (4 * cells), e) at upto)

@@ -1,0 +1,28 @@
+-- The programs section measured, what filling its tables asks, and a byte of a stream's body.
+use Prim.Native.Nat.{ℕ, _+_, _<_, _≤_}
+use mathlib.Core.Path.{_≡_}
+use mathlib.Core.List.{List}
+use lib.ListN.{length}
+use lib.Dec.{leb}
+use Rattle.format.specs.Bytes.{pick, beAt}
+use Rattle.format.specs.Programs.{programsFrom, streamsFrom, programsEnd}
+use Rattle.format.specs.Tables.{rowsLent, programCells, streamCells}
+use Rattle.program_info.specs.declared.Measured.{Measured}
+
+-- the counts and the end of the section that starts at `start`, where it ends within the file
+unfoldable pub measured : List ℕ → ℕ → Measured
+measured f start =
+    pick (leb (programsEnd f start) (length f))
+    (Measured.Counts (length (programsFrom f start)) (length (streamsFrom f start)) (programsEnd f start))
+    Measured.PastEnd
+
+-- the section ends within the file, and each table has room for its rows
+pub record Fillable (f : List ℕ) (start : ℕ) (programs streams : List ℕ) : Type 0 where
+  pub ends : programsEnd f start ≤ length f
+  pub programs-room : length (programsFrom f start) ≤ rowsLent programCells programs
+  pub streams-room : length (streamsFrom f start) ≤ rowsLent streamCells streams
+
+-- byte i of a body of `size` bytes from p, 0 where it is absent
+pub record BodyByte (f : List ℕ) (p size i r : ℕ) : Type 0 where
+  pub same : r ≡ pick (leb (i + 1) size) (beAt f (p + i) 1) 0
+  pub below : r < 256

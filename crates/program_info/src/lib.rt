@@ -1,0 +1,229 @@
+// The programs section: a length that is ignored, a spare byte, a count of programs, and each program with its streams behind it.
+ghost use mathlib.Core.Path.{_≡_};
+ghost use Prim.Native.Nat.{_+_, _*_, _^_, _<_, _≤_};
+ghost use lib.ListN.{length};
+ghost use lib.Seq.{sets};
+ghost use Rattle.format.specs.Bytes.{rowsAt, endOf};
+ghost use Rattle.format.specs.Programs.{lower, lowered, aspectAt, languageAt, streamAt, nextStream, programAt, nextProgram, programsFrom, streamsFrom};
+ghost use Rattle.format.specs.Tables.{rowBytes, tableBytes, overwritten};
+ghost use Rattle.common.specs.Reader.{movedTo, NumberIs};
+ghost use Rattle.program_info.specs.Programs.{measured, Fillable, BodyByte};
+use common::cells::put_row3;
+use common::cells::put_row5;
+use common::numbers::u8_at;
+use common::numbers::u16_at;
+use common::numbers::u32_at;
+use common::reader::Moved;
+use common::reader::Number;
+use common::reader::Reader;
+use stream_coding::is_video;
+
+// How many programs and streams the section has and where it ends, or that it passes the file's end.
+pub enum Measured {
+    Counts {
+        programs: usize,
+        streams: usize,
+        end: usize,
+    },
+    PastEnd,
+}
+
+// The count of one byte that stands n bytes behind the reader.
+fn read_count(file: &[u8], r: Reader, n: usize) -> Number
+    ensures { λ c. ⌜ NumberIs (now (file .entry)) (r .pos + n) 1 c ⌝ }
+{
+    let Moved::At(count) = r.skip(file, n) else {
+        return Number::PastEnd;
+    };
+    count.read_u8(file)
+}
+
+// Past the stream at the reader and its body.
+fn skip_stream(file: &[u8], r: Reader) -> Moved
+    ensures { λ m. ⌜ m ≡ movedTo (now (file .entry)) (nextStream (now (file .entry)) (r .pos)) ⌝ }
+{
+    let Number::Read(size, body) = read_count(file, r, 2) else {
+        return Moved::PastEnd;
+    };
+    body.skip(file, size as usize)
+}
+
+// Past the n streams at the reader.
+fn skip_streams(file: &[u8], r: Reader, n: usize) -> Moved
+    requires { ⌜ r .pos ≤ length (now file) ⌝ }
+    ensures { λ m. ⌜ m ≡ movedTo (now (file .entry)) (endOf (nextStream (now (file .entry))) (r .pos) n) ⌝ }
+{
+    let mut pos = r.pos;
+    let mut k: usize = 0;
+    while k < n {
+        let Moved::At(next) = skip_stream(file, Reader { pos }) else {
+            return Moved::PastEnd;
+        };
+        pos = next.pos;
+        k += 1;
+    }
+    Moved::At(Reader { pos })
+}
+
+// Past the program at the reader and its streams.
+fn skip_program(file: &[u8], r: Reader) -> Moved
+    ensures { λ m. ⌜ m ≡ movedTo (now (file .entry)) (nextProgram (now (file .entry)) (r .pos)) ⌝ }
+{
+    let Number::Read(num_streams, spare) = read_count(file, r, 6) else {
+        return Moved::PastEnd;
+    };
+    let Moved::At(first) = spare.skip(file, 1) else {
+        return Moved::PastEnd;
+    };
+    skip_streams(file, first, num_streams as usize)
+}
+
+// Pass 1: the section's counts, for every file and every start.
+pub fn measure(file: &[u8], start: usize) -> Measured
+    ensures { λ r. ⌜ r ≡ measured (now (file .entry)) start ⌝ }
+{
+    let Number::Read(num_programs, first) = read_count(file, Reader { pos: start }, 5) else {
+        return Measured::PastEnd;
+    };
+    let programs = num_programs as usize;
+    let mut pos = first.pos;
+    let mut streams: usize = 0;
+    let mut k: usize = 0;
+    while k < programs {
+        let Moved::At(next) = skip_program(file, Reader { pos }) else {
+            return Measured::PastEnd;
+        };
+        streams += u8_at(file, pos + 6) as usize;
+        pos = next.pos;
+        k += 1;
+    }
+    Measured::Counts {
+        programs,
+        streams,
+        end: pos,
+    }
+}
+
+// A letter from A to Z as lower case, every other number as it is.
+fn lower(b: u32) -> u32
+    ensures { λ r. ⌜ r ≡ lower b ⌝ }
+{
+    if b < 65 {
+        return b;
+    }
+    if b > 90 {
+        return b;
+    }
+    b + 32
+}
+
+// The three letters of a language, each lowered.
+fn lower_language(x: u32) -> u32
+    requires { ⌜ x < 2 ^ 24 ⌝ }
+    ensures { λ r. ⌜ r ≡ lowered x ⌝ }
+{
+    lower(x / 65536) * 65536 + lower(x / 256 % 256) * 256 + lower(x % 256)
+}
+
+// Byte i of the body of `size` bytes from p, 0 where it is absent.
+fn body_byte(file: &[u8], p: usize, size: usize, i: usize) -> u32
+    requires { ⌜ p + size ≤ length (now file) ⌝ }
+    ensures { λ r. ⌜ BodyByte (now (file .entry)) p size i r ⌝ }
+{
+    if i < size { u8_at(file, p + i) } else { 0 }
+}
+
+// The aspect of a body: the high four bits of a video body's byte 2.
+fn aspect(file: &[u8], p: usize, size: usize, video: bool) -> u32
+    requires { ⌜ p + size ≤ length (now file) ⌝ }
+    ensures { λ r. ⌜ r ≡ aspectAt video (now (file .entry)) p size ⌝ }
+{
+    if video {
+        body_byte(file, p, size, 2) / 16
+    } else {
+        0
+    }
+}
+
+// The language of a body: bytes 2 to 4 of one that is not video.
+fn language(file: &[u8], p: usize, size: usize, video: bool) -> u32
+    requires { ⌜ p + size ≤ length (now file) ⌝ }
+    ensures { λ r. ⌜ r ≡ languageAt video (now (file .entry)) p size ⌝ }
+{
+    if video {
+        return 0;
+    }
+    if size < 5 {
+        return 0;
+    }
+    lower_language(u8_at(file, p + 2) * 65536 + u16_at(file, p + 3))
+}
+
+// The row of the program at p, from byte `at` of the table.
+fn put_program(file: &[u8], p: usize, table: &mut [u8], at: usize)
+    requires { ⌜ (p + 8 ≤ length (now file)) × (at + 12 ≤ length (now table)) ⌝ }
+    ensures { λ _. ⌜ now (table .exit) ≡ sets (now (table .entry)) at (rowBytes (programAt (now (file .entry)) p)) ⌝ }
+{
+    put_row3(
+        table,
+        at,
+        u32_at(file, p),
+        u16_at(file, p + 4),
+        u8_at(file, p + 6),
+    );
+}
+
+// The row of the stream at p, from byte `at` of the table. Nothing is read past the body's end.
+fn put_stream(file: &[u8], p: usize, table: &mut [u8], at: usize)
+    requires { ⌜ (nextStream (now file) p ≤ length (now file)) × (at + 20 ≤ length (now table)) ⌝ }
+    ensures { λ _. ⌜ now (table .exit) ≡ sets (now (table .entry)) at (rowBytes (streamAt (now (file .entry)) p)) ⌝ }
+{
+    let pid = u16_at(file, p);
+    let size = u8_at(file, p + 2) as usize;
+    let body = p + 3;
+    let coding = body_byte(file, body, size, 0);
+    let format = body_byte(file, body, size, 1);
+    let video = is_video(coding);
+    let ratio = aspect(file, body, size, video);
+    let tag = language(file, body, size, video);
+    put_row5(table, at, pid, coding, format, ratio, tag);
+}
+
+// The rows of the n streams at p, from byte `at` of the table; answers where the streams end.
+fn put_streams(file: &[u8], p: usize, n: usize, table: &mut [u8], at: usize) -> usize
+    requires { ⌜ (endOf (nextStream (now file)) p n ≤ length (now file)) × (at + 20 * n ≤ length (now table)) ⌝ }
+    ensures { λ r. ⌜ r ≡ endOf (nextStream (now (file .entry))) p n ⌝ }
+    ensures { λ _. ⌜ now (table .exit) ≡ sets (now (table .entry)) at (tableBytes (rowsAt (streamAt (now (file .entry))) (nextStream (now (file .entry))) p n)) ⌝ }
+{
+    let mut q = p;
+    let mut cell = at;
+    let mut k: usize = 0;
+    while k < n {
+        put_stream(file, q, table, cell);
+        q = q + 3 + u8_at(file, q + 2) as usize;
+        cell += 20;
+        k += 1;
+    }
+    q
+}
+
+// Pass 2: the rows of the section that starts at `start`, which ends within the file, at the front of both tables.
+pub fn fill(file: &[u8], start: usize, programs: &mut [u8], streams: &mut [u8])
+    requires { ⌜ Fillable (now file) start (now programs) (now streams) ⌝ }
+    ensures { λ _. ⌜ now (programs .exit) ≡ overwritten (tableBytes (programsFrom (now (file .entry)) start)) (now (programs .entry)) ⌝ }
+    ensures { λ _. ⌜ now (streams .exit) ≡ overwritten (tableBytes (streamsFrom (now (file .entry)) start)) (now (streams .entry)) ⌝ }
+{
+    let num_programs = u8_at(file, start + 5) as usize;
+    let mut p = start + 6;
+    let mut program: usize = 0;
+    let mut stream: usize = 0;
+    let mut k: usize = 0;
+    while k < num_programs {
+        put_program(file, p, programs, program);
+        let num_streams = u8_at(file, p + 6) as usize;
+        p = put_streams(file, p + 8, num_streams, streams, stream);
+        program += 12;
+        stream += 20 * num_streams;
+        k += 1;
+    }
+}
