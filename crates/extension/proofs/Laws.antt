@@ -37,6 +37,7 @@ use Rattle.extension.specs.declared.Part.{Part}
 left-fails : {a : Bool} (b : Bool) → a ≡ false → both a b ≡ false
 left-fails b h = rw h
 
+-- whatever the other says
 right-fails : (a : Bool) {b : Bool} → b ≡ false → both a b ≡ false
 right-fails true h = h
 right-fails false h = refl
@@ -61,6 +62,7 @@ module _ (f : List ℕ) (start : ℕ) where
   abbrev whole : Bool
   whole = leb (start + 12 + 12 * extensionCount f start) (length f)
 
+  -- a test of the block that fails leaves no entries
   empty : hasExtensions f start ≡ false → Head.Empty ≡ headOf f start
   unfolding headOf
   empty h = rw h
@@ -105,6 +107,7 @@ module _ (f : List ℕ) (start : ℕ) where
     count : n ≡ extensionCount f start
     stop : end ≡ min (blockEnd f start) (length f)
 
+  -- it says so
   has : {n end : ℕ} → Head.Entries n end ≡ headOf f start → Has n end
   unfolding headOf
   has {n} {end} e = by-test (hasExtensions f start) refl
@@ -113,10 +116,12 @@ module _ (f : List ℕ) (start : ℕ) where
       by-test true h = let is = rw h at e in record { is = h; count = cc; stop = cc }
       by-test false h = let is = rw h at e in let z : _≡_ {A = ℕ} 0 1 = cc in absurd (omega arith)
 
+  -- its rows are those of the n entries
   pub rows-are : {n end : ℕ} → Head.Entries n end ≡ headOf f start → extensionRows f start ≡ rowsIn f start n
   unfolding extensionRows
   rows-are e = let h = has e in rw (h .is, h .count)
 
+  -- what the passes over the entries rely on holds
   pub block : {n end : ℕ} → IsBytes f → length f ≤ 536870912 → Head.Entries n end ≡ headOf f start → Block f start n end
   block bytes small e =
       let h = has e in
@@ -127,6 +132,7 @@ module _ (f : List ℕ) (start : ℕ) where
 -- ---- an entry
 
 module _ (f : List ℕ) (start p : ℕ) where
+  -- an entry that the rule does not keep gives no row
   left-out : isKept f start p ≡ false → EntryIs f start p LeftOut
   left-out h = record { rows = rw h; inside = omega arith }
 
@@ -138,6 +144,7 @@ module _ (f : List ℕ) (start p : ℕ) where
       (ap not (eq-eqb (addressAt f p) 0 (sym (r .same) ∙ h))))
 
   module _ {end addr len : ℕ} (b : InBlock f start end p) (a : ReadIs f (p + 4) 4 addr) (l : ReadIs f (p + 8) 4 len) where
+    -- where the data ends
     end-is : start + addr + len ≡ start + addressAt f p + dataLengthAt f p
     end-is = rw (a .same, l .same)
 
@@ -168,6 +175,7 @@ orFound (found d) later = found d
 abbrev pub listFrom : List ℕ → List Row → Found
 listFrom f rows = listData (extensionsIn f rows)
 
+-- nothing behind a find leaves it
 or-nothing : (x : Found) → orFound x nothing ≡ x
 or-nothing nothing = refl
 or-nothing (found d) = refl
@@ -184,6 +192,7 @@ listed-first f Absent (Kept id1 id2 start len) rest = by-test (both (eqb id1 2) 
     by-test true = refl
     by-test false = refl
 
+-- the place lies inside the file, as each entry's data does
 listed-inside : (f : List ℕ) (list : ListData) (e : ExtensionDataEntry) → listEnd list ≤ length f → entryEnd e ≤ length f
     → listEnd (orList list (entryList e)) ≤ length f
 listed-inside f (At start len) e h k = h
@@ -194,21 +203,24 @@ listed-inside f Absent (Kept id1 id2 start len) h k = by-test (both (eqb id1 2) 
     by-test true = k
     by-test false = h
 
--- the ids decide
+-- the first id is not the list's
 pub first-id : (list : ListData) (e : ExtensionDataEntry) {id1 id2 start len : ℕ} → list ≡ Absent → e ≡ Kept id1 id2 start len → (id1 ≡ 2 → ⊥)
     → Absent ≡ orList list (entryList e)
 first-id list e {id1} absent is h = rw (absent, is, ne-eqb id1 2 h)
 
+-- the first is the list's and the second is not
 pub second-id : (list : ListData) (e : ExtensionDataEntry) {id1 id2 start len : ℕ} → list ≡ Absent → e ≡ Kept id1 id2 start len → id1 ≡ 2 → (id2 ≡ 5 → ⊥)
     → Absent ≡ orList list (entryList e)
 second-id list e {id1} {id2} absent is h k = rw (absent, is, eq-eqb id1 2 h, ne-eqb id2 5 k)
 
+-- both are the list's
 pub both-ids : (list : ListData) (e : ExtensionDataEntry) {id1 id2 start len : ℕ} → list ≡ Absent → e ≡ Kept id1 id2 start len → id1 ≡ 2 → id2 ≡ 5
     → At start len ≡ orList list (entryList e)
 both-ids list e {id1} {id2} absent is h k = rw (absent, is, eq-eqb id1 2 h, eq-eqb id2 5 k)
 
 -- ---- the passes over n entries
 
+-- an entry gives at most one row
 pub one-row : (e : ExtensionDataEntry) → length (entryRows e) ≤ 1
 one-row LeftOut = omega arith
 one-row (Kept id1 id2 start len) = omega arith
@@ -224,15 +236,19 @@ none-put e at t is = record { next = rw is (omega arith); stored = rw is }
 
 -- else one row
 module _ (e : ExtensionDataEntry) {id1 id2 start len : ℕ} (is : e ≡ Kept id1 id2 start len) where
+  -- its bytes
   abbrev row : List ℕ
   row = rowBytes (id1 ∷ id2 ∷ start ∷ len ∷ [])
 
+  -- they are all that it stores
   entry-bytes : tableBytes (entryRows e) ≡ row
   entry-bytes = rw is (append-nil row)
 
+  -- how many they are
   pub entry-size : length (tableBytes (entryRows e)) ≡ 16
   entry-size = rw entry-bytes (row-bytes id1 id2 start len)
 
+  -- they are stored
   pub one-put : (at : ℕ) (t : List ℕ) {t′ : List ℕ} → t′ ≡ sets t at row → PutIs (entryRows e) at t t′ (at + 16)
   one-put at t h = record { next = rw entry-size; stored = rw entry-bytes h }
 
@@ -250,6 +266,7 @@ module _ (f : List ℕ) (start n : ℕ) where
     pub count : rows + length (left p k) ≡ length (rowsIn f start n)
     pub first : orFound (foundIn f list) (listFrom f (left p k)) ≡ listFrom f (rowsIn f start n)
 
+  -- before the first turn
   pub none-counted : Counted (start + 12) 0 0 Absent
   none-counted = record {
     turns = omega arith;
@@ -260,6 +277,7 @@ module _ (f : List ℕ) (start n : ℕ) where
     first = rw sub-zero;
   }
 
+  -- a turn
   pub one-counted : {p k rows : ℕ} {list : ListData} (e : ExtensionDataEntry) {more : ℕ} {list′ : ListData} → k < n → EntryIs f start p e
       → more ≡ length (entryRows e) → list′ ≡ orList list (entryList e) → Counted p k rows list → Counted (p + 12) (k + 1) (rows + more) list′
   one-counted {p} {k} {rows} {list} e {more} {list′} h is one two c =
@@ -274,6 +292,7 @@ module _ (f : List ℕ) (start n : ℕ) where
         first = rw two (listed-first f list e rest ∙ rw whole at (c .first));
       }
 
+  -- after the last turn
   pub all-counted : {p k rows : ℕ} {list : ListData} → n ≤ k → n ≤ 255 → Counted p k rows list
       → MeasuredIs f (rowsIn f start n) (extensionsIn f (rowsIn f start n)) (record { rows = rows; list = list })
   unfolding listData
@@ -294,6 +313,7 @@ module _ (f : List ℕ) (start n : ℕ) where
     pub room : at + length (tableBytes (left p k)) ≤ length t₀
     pub puts : sets t at (tableBytes (left p k)) ≡ sets t₀ 0 (tableBytes (rowsIn f start n))
 
+  -- before the first turn
   pub none-stored : (t : List ℕ) → length (tableBytes (rowsIn f start n)) ≤ length t → Stored (start + 12) 0 0 t t
   none-stored t h = record {
     turns = omega arith;
@@ -304,12 +324,15 @@ module _ (f : List ℕ) (start n : ℕ) where
   }
 
   module _ {p k at : ℕ} {t₀ t : List ℕ} (e : ExtensionDataEntry) (h : k < n) (is : EntryIs f start p e) (c : Stored p k at t₀ t) where
+    -- what is left after this turn
     abbrev rest : List Row
     rest = gather (keptAt f start) nextExtension (p + 12) (n - (k + 1))
 
+    -- the bytes that were left are the entry's and these
     parts : tableBytes (left p k) ≡ tableBytes (entryRows e) ++ tableBytes rest
     parts = rw (one-left n k h, ← is .rows) (flat-append rowBytes (entryRows e) rest)
 
+    -- so is the room
     room-parts : at + (length (tableBytes (entryRows e)) + length (tableBytes rest)) ≤ length t₀
     room-parts = rw (parts, length-append) at (c .room)
 
@@ -317,6 +340,7 @@ module _ (f : List ℕ) (start n : ℕ) where
     pub room-stored : at + length (tableBytes (entryRows e)) ≤ length t
     room-stored = omega (arith, room-parts, c .size)
 
+    -- a turn
     pub one-stored : {at′ : ℕ} {t′ : List ℕ} → PutIs (entryRows e) at t t′ at′ → length t′ ≡ length t → Stored (p + 12) (k + 1) at′ t₀ t′
     one-stored {at′} {t′} put same = record {
       turns = omega arith;
@@ -326,6 +350,7 @@ module _ (f : List ℕ) (start n : ℕ) where
       puts = rw (put .next) (put-more t at (length (tableBytes (entryRows e))) (tableBytes (entryRows e)) (tableBytes rest) refl (put .stored) (rw parts at (c .puts)));
     }
 
+  -- after the last turn
   pub all-stored : {p k at : ℕ} {t₀ t : List ℕ} → n ≤ k → Stored p k at t₀ t → t ≡ sets t₀ 0 (tableBytes (rowsIn f start n))
   all-stored {p} {k} {at} {t₀} {t} h c = gather-done (keptAt f start) nextExtension rowBytes t at p n k h (c .puts)
 
@@ -347,6 +372,7 @@ module _ (f : List ℕ) (start : ℕ) where
 -- ---- table 7
 
 module _ (f : List ℕ) (start n : ℕ) where
+  -- an entry's row takes 16 bytes
   kept-bytes : (p : ℕ) → All (λ row. length (rowBytes row) ≡ 16) (keptAt f start p)
   kept-bytes p = by-test (isKept f start p)
     where
@@ -354,6 +380,7 @@ module _ (f : List ℕ) (start n : ℕ) where
       by-test true = more (row-bytes (beAt f p 2) (beAt f (p + 2) 2) (start + addressAt f p) (dataLengthAt f p)) none
       by-test false = none
 
+  -- so does each row of the table
   table-bytes : length (tableBytes (rowsIn f start n)) ≡ 16 * length (rowsIn f start n)
   table-bytes = flat-length 16 rowBytes (gather-all (keptAt f start) nextExtension kept-bytes (start + 12) n)
 
@@ -362,6 +389,7 @@ module _ (f : List ℕ) (start n : ℕ) where
     pub table-room : length (tableBytes (rowsIn f start n)) ≤ length t
     table-room = omega (arith, table-bytes, rw is at h)
 
+    -- stored from its front they leave what stands beyond them
     pub table-filled : {t′ : List ℕ} → t′ ≡ sets t 0 (tableBytes (rowsIn f start n)) → t′ ≡ overwritten (tableBytes (extensionRows f start)) t
     table-filled e = rw is (sets-front t (tableBytes (rowsIn f start n)) table-room e)
 
@@ -372,6 +400,7 @@ table-kept f start t is = rw is
 -- ---- the data of a row
 
 module _ (f : List ℕ) (t : Table) (k : ℕ) where
+  -- 22 is no place
   refused : dataRefusal f t k ≡ 22 → PartIs f t k Part.Refused
   unfolding partOf
   refused h = record { same = rw h; inside = omega arith }
@@ -388,9 +417,11 @@ module _ (f : List ℕ) (t : Table) (k : ℕ) where
     no-row h = refused (rw (le-leb (t .rows) (rowsLent extensionCells (t .bytes)) stated, le-ltb k (t .rows) h))
 
     module _ {start len : ℕ} (row : k < t .rows) (s : CellIs (t .bytes) (16 * k + 8) start) (l : CellIs (t .bytes) (16 * k + 12) len) where
+      -- the two cells say where the data stands
       start-is : start ≡ dataStart (extensionRow t k)
       start-is = cell-of 4 (t .bytes) (t .rows) k 2 row (lit< tt) (omega arith) (s .same)
 
+      -- and how long it is
       len-is : len ≡ dataLength (extensionRow t k)
       len-is = cell-of 4 (t .bytes) (t .rows) k 3 row (lit< tt) (omega arith) (l .same)
 
@@ -440,6 +471,7 @@ module _ (f : List ℕ) (t : Table) (k : ℕ) where
       (λ h. let is = rw h at e in let z : _≡_ {A = ℕ} 0 1 = cc in absurd (omega arith))
       two-ways
 
+  -- and what a refusal says
   pub not-given : Part.Refused ≡ partOf f t k → (22 ≡ dataRefusal f t k) × ([] ≡ dataAsked f t k)
   unfolding partOf dataAsked
   not-given e =

@@ -36,10 +36,11 @@ pub record InBlock (f : List ℕ) (start end p : ℕ) : Type 0 where
   pub room : p + 12 ≤ length f
   pub stop : end ≡ min (blockEnd f start) (length f)
 
--- the rows of the first n entries, and these rows with their data
+-- the rows of the first n entries
 abbrev pub rowsIn : List ℕ → ℕ → ℕ → List Row
 rowsIn f start n = gather (keptAt f start) nextExtension (start + 12) n
 
+-- rows with their data
 abbrev pub extensionsIn : List ℕ → List Row → List Extension
 extensionsIn f rows = map (extensionOf f) rows
 

@@ -22,9 +22,10 @@ const SIZE: usize = 12;
 // A row of table 7, in bytes.
 const ROW: usize = 16;
 
-// The ids of the entry that holds a list of programs.
+// The first id of the entry that holds a list of programs.
 const EXT_ID1_PROGRAM_INFO_SS: u32 = 2;
 
+// And the second.
 const EXT_ID2_PROGRAM_INFO_SS: u32 = 5;
 
 // Where the data of the first kept entry with the list's ids stands in the file.

@@ -17,6 +17,7 @@ item-at row none w p (suc n) (suc k) h =
     item-at row none w (p + w) n k (omega arith) ∙ ap row e
 
 module _ (cells : ℕ) (t : List ℕ) (n k j : ℕ) (row : k < n) (cell : j < cells) where
+  -- where the cell stands
   place : 0 + 4 * cells * k + 4 * j ≡ 4 * (cells * k + j)
   place = rw (mul-assoc 4 cells k) (omega arith)
 

@@ -20,7 +20,7 @@ use Rattle.format.proofs.Loops.{one-left, none-left, flat-append, put-m
 
 -- ---- the place
 
--- items of one width
+-- where n items of w bytes each end
 pub end-steps : (w p n : ℕ) → endOf (λ q. q + w) p n ≡ p + w * n
 end-steps w p zero = omega arith
 end-steps w p (suc n) = end-steps w (p + w) n ∙ omega arith
@@ -75,7 +75,7 @@ module _ {rows : ℕ → List Row} {next : ℕ → ℕ} {p₀ n p k m : ℕ} (a 
   pub counted-done : n ≤ k → m ≡ length (gather rows next p₀ n)
   counted-done h = omega (arith, rw (none-left n k h) at (a .rest))
 
--- ---- a section: six bytes, the last of them the count, and then items; what a measure C of its rows and its end is
+-- ---- a section: six bytes, the last of them the count, and then items; C tells its heads, the rows behind them and its end
 
 module _ {A : Type 0} (C : ℕ → ℕ → ℕ → A) (past : A) (head : ℕ → Row) (rows : ℕ → List Row) (next : ℕ → ℕ) (f : List ℕ) (start : ℕ) where
   -- the measure, where the section ends within the file
@@ -116,11 +116,11 @@ either-way {A} m l a b {x} e = by-test (leb m l) refl
 
 -- ---- tables
 
--- the bytes of a row, and of rows of so many cells each
+-- the bytes of a row
 pub row-bytes : (row : Row) → length (rowBytes row) ≡ 4 * length row
 row-bytes row = flat-length 4 cellBytes (all-rows (λ v. low-length 4 v) row)
 
--- rows of so many cells
+-- rows of so many cells each, and the bytes of them all
 abbrev pub HaveCells : ℕ → List Row → Type 0
 HaveCells cells rows = All (λ row. length row ≡ cells) rows
 
@@ -132,7 +132,7 @@ pub rows-bytes : (cells : ℕ) (row : ℕ → Row) (next : ℕ → ℕ) → ((p 
     → length (tableBytes (rowsAt row next p n)) ≡ 4 * cells * n
 rows-bytes cells row next h p n = table-bytes cells (rows-all row next h p n) ∙ ap (λ (k : ℕ). 4 * cells * k) (rows-length row next p n)
 
--- a table while it is filled, after k of n items from p₀, at q: what `items` reads of those that are left has room from `at` on, and put there gives the whole
+-- a table while it is filled, after k of n items, at q: what `items` reads of those that are left has room from `at` on, and put there gives the whole
 pub record Filling (items : ℕ → ℕ → List Row) (t₀ whole t : List ℕ) (at q n k : ℕ) : Type 0 where
   pub long : length t ≡ length t₀
   pub room : at + length (tableBytes (items q (n - k))) ≤ length t

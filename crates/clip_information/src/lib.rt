@@ -1,0 +1,2 @@
+// A clip file read whole: every section is measured, then the lent tables, and only then are rows put into them.
+pub mod sections;

@@ -1,0 +1,250 @@
+-- Text put part by part, digits, lines of rows, and what a caller learns of the text.
+use Prim.Native.Nat.{ℕ, zero, suc, _+_, _*_, _-_, _/_, _%_, _^_, _<_, _≤_}
+use mathlib.Core.Path.{_≡_, refl, sym, ap, ap₂, subst, _∙_}
+use mathlib.Core.List.{List, [], _∷_, _++_}
+use mathlib.Core.Bool.{Bool, true, false}
+use native.Mathlib.Nat.{add-zero, suc-mul, pow-suc, div-lt-iff-lt-mul}
+use native.Mathlib.Numerals.{add-one}
+use native.Mathlib.Omega.{arith}
+use lib.ListN.{length, getD, take, drop, length-append}
+use lib.Seq.{drop-cons, take-at}
+use lib.Dec.{ltb, lit<}
+use borrow.Author.Tests.{lt-ltb, le-ltb, eq-eqb, ne-eqb}
+use Rattle.format.specs.Bytes.{pick, flat, rowsAt, total}
+use Rattle.format.specs.ClipRecord.{Row, Record, entryCount}
+use Rattle.format.specs.Tables.{cellAt, cellsAt, mapCells, entryCells}
+use Rattle.format.specs.Listing.{digits, line, mapWord, epWord, refusedWord, epLine, mapLine, mapLines, recordLines}
+use Rattle.format.proofs.Loops.{one-left, none-left, total-turn, sets-front}
+use Rattle.format.proofs.Stores.{sets-append}
+use Rattle.common.specs.Reads.{CellIs}
+use Rattle.listing.specs.Text.{Wrote, WroteIn, Still, Shows, Numbers, mapsFrom, entriesFrom, recordRoom, numbersOf, recordText, refusalText}
+
+-- ---- text part by part
+
+-- no text leaves all as it is
+pub wrote-none : (d : List ℕ) (at : ℕ) → Wrote d at [] at d
+wrote-none d at = record { place = sym (add-zero at); bytes = refl; size = refl }
+
+-- one text behind another
+pub wrote-then : {d e f : List ℕ} {at p r : ℕ} {s t : List ℕ} → Wrote d at s p e → Wrote e p t r f → Wrote d at (s ++ t) r f
+wrote-then {d} {e} {f} {at} {p} {r} {s} {t} a b = record {
+  place = simp length-append (omega arith);
+  bytes = b .bytes ∙ rw (a .bytes, a .place) (sym (sets-append d at s t));
+  size = b .size ∙ a .size;
+}
+
+-- two texts in the room of both
+pub in-then : {d e f : List ℕ} {at p r a b : ℕ} {s t : List ℕ} → WroteIn a d at s p e → WroteIn b e p t r f → WroteIn (a + b) d at (s ++ t) r f
+in-then x y = record { text = wrote-then (x .text) (y .text); short = omega (arith, x .short, y .short) }
+
+-- the same text in other words
+pub wrote-as : {d e : List ℕ} {at r : ℕ} {s t : List ℕ} → s ≡ t → Wrote d at s r e → Wrote d at t r e
+wrote-as {d} {e} {at} {r} q a = subst (λ (x : List ℕ). Wrote d at x r e) q a
+
+-- and in its room
+pub in-as : {d e : List ℕ} {at r a : ℕ} {s t : List ℕ} → s ≡ t → WroteIn a d at s r e → WroteIn a d at t r e
+in-as q x = record { text = wrote-as q (x .text); short = x .short }
+
+-- room for both parts is room for the first
+pub room-first : (at : ℕ) (s t : List ℕ) {n : ℕ} → at + length (s ++ t) ≤ n → at + length s ≤ n
+room-first at s t h = omega (arith, length-append s t)
+
+-- and behind it for the second
+pub room-then : {d e : List ℕ} {at p : ℕ} {s : List ℕ} (t : List ℕ) → Wrote d at s p e → at + length (s ++ t) ≤ length d → p + length t ≤ length e
+room-then {d} {e} {at} {p} {s} t a h = omega (arith, length-append s t, a .place, a .size)
+
+-- ---- loops: what is left to put
+
+-- before the first turn all is left
+pub still-all : (d : List ℕ) (at : ℕ) (whole : List ℕ) → Still d at whole whole at d
+still-all d at whole = record { place = refl; bytes = refl; size = refl }
+
+-- a turn puts the first of what is left
+pub still-turn : {d e f : List ℕ} {at p r : ℕ} {whole s : List ℕ} (rest : List ℕ) → Wrote e p s r f → Still d at whole (s ++ rest) p e → Still d at whole rest r f
+still-turn {d} {e} {f} {at} {p} {r} {whole} {s} rest w i = record {
+  place = omega (arith, length-append s rest, w .place, i .place);
+  bytes = rw (w .bytes, w .place) (sym (sets-append e p s rest) ∙ i .bytes);
+  size = w .size ∙ i .size;
+}
+
+-- what is left in other words
+pub still-as : {d e : List ℕ} {at p : ℕ} {whole s t : List ℕ} → s ≡ t → Still d at whole s p e → Still d at whole t p e
+still-as {d} {e} {at} {p} {whole} q a = subst (λ (x : List ℕ). Still d at whole x p e) q a
+
+-- with nothing left the whole stands there
+pub still-none : {d e : List ℕ} {at p : ℕ} {whole : List ℕ} → Still d at whole [] p e → Wrote d at whole p e
+still-none {p} i = record { place = sym (add-zero p) ∙ i .place; bytes = i .bytes; size = i .size }
+
+-- room for the whole is room for what comes next
+pub still-room : {d e : List ℕ} {at p : ℕ} {whole : List ℕ} (s rest : List ℕ) → Still d at whole (s ++ rest) p e → at + length whole ≤ length d
+    → p + length s ≤ length e
+still-room s rest i h = omega (arith, length-append s rest, i .place, i .size)
+
+-- what is left of a list from i: its element there, and what is left behind it
+pub drop-first : (xs : List ℕ) (i : ℕ) → i < length xs → drop i xs ≡ getD xs i 0 ∷ drop (i + 1) xs
+drop-first xs i h = rw (add-one, drop-cons xs i 0)
+
+-- ---- digits
+
+-- none where none may be put
+pub digits-none : (k n : ℕ) → k ≡ 0 → digits k n ≡ []
+unfolding digits
+digits-none k n e = rw e
+
+-- a number below ten is one digit
+pub digits-last : (k n : ℕ) → (k ≡ 0 → ⊥) → n < 10 → {b : ℕ} → b ≡ 48 + n % 10 → digits k n ≡ b ∷ []
+unfolding digits
+digits-last zero n p h e = absurd (p refl)
+digits-last (suc k) n p h e = rw (e, lt-ltb n 10 h)
+
+-- a larger one has the last digit behind those of its tenth
+pub digits-more : (k n : ℕ) → (k ≡ 0 → ⊥) → 10 ≤ n → {b : ℕ} → b ≡ 48 + n % 10 → digits k n ≡ digits (k - 1) (n / 10) ++ (b ∷ [])
+unfolding digits
+digits-more zero n p h e = absurd (p refl)
+digits-more (suc k) n p h e = let q : suc k - 1 ≡ k = omega arith in rw (q, e, le-ltb n 10 h)
+
+-- below the next power of ten there are no more digits
+digits-few : (j k n : ℕ) → n < 10 ^ suc k → length (digits j n) ≤ suc k
+unfolding digits
+digits-few zero k n h = omega arith
+digits-few (suc j) zero n h = rw (lt-ltb n 10 h) (omega arith)
+digits-few (suc j) (suc k) n h = by-test (ltb n 10) (digits-few j k (n / 10) (div-lt-iff-lt-mul (lit< tt) .1 (rw pow-suc at h)))
+  where
+    by-test : (b : Bool) → length (digits j (n / 10)) ≤ suc k
+        → length (pick b ((48 + n % 10) ∷ []) (digits j (n / 10) ++ ((48 + n % 10) ∷ []))) ≤ suc (suc k)
+    by-test true f = omega arith
+    by-test false f = rw length-append (omega arith)
+
+-- a number of 32 bits has at most ten
+pub decimal-few : (n : ℕ) → n < 2 ^ 32 → length (digits 20 n) ≤ 10
+decimal-few n h = digits-few 20 9 n (omega arith)
+
+-- ---- rows of a table
+
+-- cell j of the row at q stands 4 * j behind it
+row-cell : (t : List ℕ) (cells q j : ℕ) → j < cells → cellAt t (q + 4 * j) ≡ getD (cellsAt t cells q) j 0
+row-cell t zero q j h = absurd (omega arith)
+row-cell t (suc cells) q zero h = let e : q + 4 * 0 ≡ q = omega arith in ap (cellAt t) e
+row-cell t (suc cells) q (suc j) h =
+    let e : q + 4 * suc j ≡ q + 4 + 4 * j = omega arith in
+    ap (cellAt t) e ∙ row-cell t cells (q + 4) j (omega arith)
+
+-- so a cell that was read is that of the row
+pub cell-is : (t : List ℕ) (cells q j : ℕ) {v : ℕ} → j < cells → CellIs t (q + 4 * j) v → v ≡ getD (cellsAt t cells q) j 0
+cell-is t cells q j h c = c .same ∙ row-cell t cells q j h
+
+-- the line of an entry from its two cells
+pub entry-line : (t : List ℕ) (q : ℕ) {v w : ℕ} → CellIs t (q + 8) v → CellIs t (q + 12) w
+    → line epWord (v ∷ w ∷ []) ≡ epLine (cellsAt t entryCells q)
+entry-line t q a b =
+    ap₂ (λ (v w : ℕ). line epWord (v ∷ w ∷ [])) (cell-is t entryCells q 2 (lit< tt) a) (cell-is t entryCells q 3 (lit< tt) b)
+
+-- the line of a map from its three cells
+pub map-line : (t : List ℕ) (q : ℕ) {u v w : ℕ} → CellIs t q u → CellIs t (q + 4) v → CellIs t (q + 8) w
+    → line mapWord (u ∷ v ∷ w ∷ []) ≡ mapLine (cellsAt t mapCells q)
+map-line t q {u} {v} {w} a b c =
+    ap₂ (λ (v w : ℕ). line mapWord (u ∷ v ∷ w ∷ [])) (cell-is t mapCells q 1 (lit< tt) b) (cell-is t mapCells q 2 (lit< tt) c)
+    ∙ ap (λ (u : ℕ). line mapWord (u ∷ getD (cellsAt t mapCells q) 1 0 ∷ getD (cellsAt t mapCells q) 2 0 ∷ [])) (a .same)
+
+-- ---- entries: what is left after i of n
+
+-- before the first all are left
+pub entries-all : (t : List ℕ) (q n : ℕ) → flat epLine (entriesFrom t q n) ≡ flat epLine (entriesFrom t q (n - 0))
+entries-all t q n = let e : n - 0 ≡ n = omega arith in rw e
+
+-- the next entry's line, then those of the later ones
+pub entries-turn : (t : List ℕ) (q n i : ℕ) → i < n
+    → flat epLine (entriesFrom t q (n - i)) ≡ epLine (cellsAt t entryCells q) ++ flat epLine (entriesFrom t (q + 20) (n - (i + 1)))
+entries-turn t q n i h = rw (one-left n i h)
+
+-- behind the last nothing is left
+pub entries-done : (t : List ℕ) (q n i : ℕ) → n ≤ i → flat epLine (entriesFrom t q (n - i)) ≡ []
+entries-done t q n i h = rw (none-left n i h)
+
+-- ---- maps: what is left after i of n maps and k of m entries
+
+-- the first c rows
+take-rows : {A : Type 0} (row : ℕ → A) (next : ℕ → ℕ) (p n c : ℕ) → c ≤ n → take c (rowsAt row next p n) ≡ rowsAt row next p c
+take-rows row next p n zero h = refl
+take-rows row next p zero (suc c) h = absurd (omega arith)
+take-rows {A} row next p (suc n) (suc c) h = ap (λ (l : List A). row p ∷ l) (take-rows row next (next p) n c (omega arith))
+
+-- the rows behind the first c
+drop-rows : {A : Type 0} (row : ℕ → A) (w p n c : ℕ) → c ≤ n → drop c (rowsAt row (λ q. q + w) p n) ≡ rowsAt row (λ q. q + w) (p + c * w) (n - c)
+drop-rows row w p n zero h =
+    let e : p + 0 * w ≡ p = omega arith in
+    let f : n - 0 ≡ n = omega arith in
+    rw (e, f)
+drop-rows row w p zero (suc c) h = absurd (omega arith)
+drop-rows row w p (suc n) (suc c) h =
+    let e : p + suc c * w ≡ p + w + c * w = rw (suc-mul c w) (omega arith) in
+    let f : suc n - suc c ≡ n - c = omega arith in
+    rw (e, f) (drop-rows row w (p + w) n c (omega arith))
+
+module _ (maps : List ℕ) (q n i k m c : ℕ) (h : i < n) (count : c ≡ entryCount (cellsAt maps mapCells q))
+    (all : k + total entryCount (mapsFrom maps q (n - i)) ≤ m) where
+  -- the entries of this map and of the later ones are there
+  pub counts-turn : k + c + total entryCount (mapsFrom maps (q + 12) (n - (i + 1))) ≤ m
+  counts-turn = omega (arith, total-turn (cellsAt maps mapCells) (λ p. p + 12) entryCount q n i h)
+
+  -- the next map's line and its own entries, then the later maps with the later entries
+  pub maps-turn : (entries : List ℕ) → mapLines (mapsFrom maps q (n - i)) (entriesFrom entries (k * 20) (m - k))
+      ≡ (mapLine (cellsAt maps mapCells q) ++ flat epLine (entriesFrom entries (k * 20) c))
+      ++ mapLines (mapsFrom maps (q + 12) (n - (i + 1))) (entriesFrom entries ((k + c) * 20) (m - (k + c)))
+  unfolding mapLines
+  maps-turn entries =
+      let row = cellsAt entries entryCells in
+      let fits : c ≤ m - k = omega (arith, counts-turn) in
+      let place : k * 20 + c * 20 ≡ (k + c) * 20 = omega arith in
+      let left : m - k - c ≡ m - (k + c) = omega arith in
+      rw (one-left n i h, ← count, take-rows row (λ p. p + 20) (k * 20) (m - k) c fits, drop-rows row 20 (k * 20) (m - k) c fits, place, left)
+
+-- before the first map all counts are left
+pub counts-all : (maps : List ℕ) (n m : ℕ) → total entryCount (mapsFrom maps 0 n) ≤ m → 0 + total entryCount (mapsFrom maps 0 (n - 0)) ≤ m
+counts-all maps n m h = let e : n - 0 ≡ n = omega arith in rw e (omega arith)
+
+-- and all maps and entries
+pub maps-all : (maps entries : List ℕ) (n m : ℕ) → mapLines (mapsFrom maps 0 n) (entriesFrom entries 0 m) ≡ mapLines (mapsFrom maps 0 (n - 0)) (entriesFrom entries (0 * 20) (m - 0))
+maps-all maps entries n m =
+    let e : n - 0 ≡ n = omega arith in
+    let f : m - 0 ≡ m = omega arith in
+    rw (e, f)
+
+-- behind the last map nothing is left
+pub maps-done : (maps entries : List ℕ) (q n i k m : ℕ) → n ≤ i → mapLines (mapsFrom maps q (n - i)) (entriesFrom entries (k * 20) (m - k)) ≡ []
+unfolding mapLines
+maps-done maps entries q n i k m h = rw (none-left n i h)
+
+-- ---- what a caller learns
+
+-- a text from the front of the output
+pub shows : {d e : List ℕ} {r most : ℕ} {s : List ℕ} → WroteIn most d 0 s r e → most ≤ length d → Shows d s r e
+shows {d} {e} {r} {most} {s} w h =
+    let text = w .text in record {
+      count = omega (arith, text .place);
+      within = omega (arith, w .short, text .size);
+      bytes = sets-front d s (omega (arith, w .short, text .place)) (text .bytes);
+    }
+
+-- 262,144 bytes are enough for 4,096 rows in each table
+pub room-4096 : (n m : ℕ) → n ≤ 4096 → m ≤ 4096 → recordRoom n m ≤ 262144
+room-4096 n m h g = omega arith
+
+-- the first r bytes are the text
+pub shown : {d s e : List ℕ} {r : ℕ} → Shows d s r e → take r e ≡ s
+shown {d} {s} h = rw (h .bytes, h .count) (take-at s (drop (length s) d) (length s) refl)
+
+-- the text is that of the record with these numbers, maps and entries
+pub record-text : (r : Record) {n : Numbers} {ms es : List Row} → n ≡ numbersOf r → ms ≡ r .clip .maps → es ≡ r .clip .entries → recordText n ms es ≡ recordLines r
+unfolding recordText recordLines
+record-text r a b c = rw (a, b, c)
+
+-- 21 has the table behind it
+pub refusal-21 : (number table : ℕ) → number ≡ 21 → refusalText number table ≡ line refusedWord (number ∷ table ∷ [])
+unfolding refusalText
+refusal-21 number table e = rw (eq-eqb number 21 e)
+
+-- any other number stands alone
+pub refusal-other : (number table : ℕ) → (number ≡ 21 → ⊥) → refusalText number table ≡ line refusedWord (number ∷ [])
+unfolding refusalText
+refusal-other number table h = rw (ne-eqb number 21 h)

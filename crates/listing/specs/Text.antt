@@ -1,0 +1,108 @@
+-- Text stored into a lent output, and the text of a record in its numbers and rows.
+use Prim.Native.Nat.{ℕ, _+_, _*_, _≤_}
+use mathlib.Core.Path.{_≡_}
+use mathlib.Core.List.{List, [], _∷_, _++_}
+use lib.ListN.{length}
+use lib.Seq.{sets}
+use lib.Dec.{eqb}
+use Rattle.format.specs.ClipRecord.{Row, Record, entryCount}
+use Rattle.format.specs.Bytes.{pick, rowsAt, total}
+use Rattle.format.specs.Tables.{cellsAt, tableRows, rowsLent, overwritten, mapCells, entryCells}
+use Rattle.format.specs.Listing.{line, clipWord, seqWord, progWord, markWord, refusedWord, mapLines}
+
+-- s was stored into d from place `at`, which gives e, and r is the place behind it
+pub record Wrote (d : List ℕ) (at : ℕ) (s : List ℕ) (r : ℕ) (e : List ℕ) : Type 0 where
+  pub place : r ≡ at + length s
+  pub bytes : e ≡ sets d at s
+  pub size : length e ≡ length d
+
+-- the same with room for the text: at most so many bytes
+pub record WroteIn (most : ℕ) (d : List ℕ) (at : ℕ) (s : List ℕ) (r : ℕ) (e : List ℕ) : Type 0 where
+  pub text : Wrote d at s r e
+  pub short : r ≤ at + most
+
+-- in a loop: `rest`, stored into e from place p, gives what the whole gives from place `at` of d
+pub record Still (d : List ℕ) (at : ℕ) (whole rest : List ℕ) (p : ℕ) (e : List ℕ) : Type 0 where
+  pub place : p + length rest ≡ at + length whole
+  pub bytes : sets e p rest ≡ sets d at whole
+  pub size : length e ≡ length d
+
+-- the first r bytes of e are the text s, and what stands beyond them is what d had
+pub record Shows (d s : List ℕ) (r : ℕ) (e : List ℕ) : Type 0 where
+  pub count : r ≡ length s
+  pub within : r ≤ length e
+  pub bytes : e ≡ overwritten s d
+
+-- n rows of the table of maps, and of the table of entries, from place p
+abbrev pub mapsFrom : List ℕ → ℕ → ℕ → List Row
+mapsFrom t p n = rowsAt (cellsAt t mapCells) (λ q. q + 4 * mapCells) p n
+
+abbrev pub entriesFrom : List ℕ → ℕ → ℕ → List Row
+entriesFrom t p n = rowsAt (cellsAt t entryCells) (λ q. q + 4 * entryCells) p n
+
+-- the numbers of a record that its text shows beside its maps and entries
+pub record Numbers : Type 0 where
+  pub streamType : ℕ
+  pub applicationType : ℕ
+  pub rate : ℕ
+  pub packets : ℕ
+  pub atcs : ℕ
+  pub stcs : ℕ
+  pub programs : ℕ
+  pub streams : ℕ
+  pub marks : ℕ
+
+-- the same, one behind the other
+abbrev pub numbers : ℕ → ℕ → ℕ → ℕ → ℕ → ℕ → ℕ → ℕ → ℕ → Numbers
+numbers streamType applicationType rate packets atcs stcs programs streams marks = record {
+  streamType = streamType;
+  applicationType = applicationType;
+  rate = rate;
+  packets = packets;
+  atcs = atcs;
+  stcs = stcs;
+  programs = programs;
+  streams = streams;
+  marks = marks;
+}
+
+-- those of a record
+abbrev pub numbersOf : Record → Numbers
+numbersOf r =
+    let c = r .clip in
+    let s = c .scalars in
+    numbers (s .streamType) (s .applicationType) (s .rate) (s .packets) (length (c .atcs)) (length (c .stcs)) (length (c .programs)) (length (c .streams)) (r .marks)
+
+-- the lines of a record with these numbers, maps and entries
+unfoldable pub recordText : Numbers → List Row → List Row → List ℕ
+recordText n maps entries =
+    line clipWord (n .streamType ∷ n .applicationType ∷ n .rate ∷ n .packets ∷ [])
+    ++ (line seqWord (n .atcs ∷ n .stcs ∷ [])
+    ++ (line progWord (n .programs ∷ n .streams ∷ [])
+    ++ (mapLines maps entries
+    ++ line markWord (n .marks ∷ []))))
+
+-- the line of a refusal; 21 tells the table too
+unfoldable pub refusalText : ℕ → ℕ → List ℕ
+refusalText number table = pick (eqb number 21) (line refusedWord (number ∷ table ∷ [])) (line refusedWord (number ∷ []))
+
+-- ---- room
+
+-- bytes for a line: a space and at most ten digits for a number of 32 bits
+abbrev pub lineRoom : List ℕ → List ℕ → ℕ
+lineRoom word numbers = length word + 11 * length numbers + 1
+
+-- bytes for the text of a record with n maps and m entries
+abbrev pub recordRoom : ℕ → ℕ → ℕ
+recordRoom n m = 118 + 37 * n + 25 * m
+
+-- bytes for the line of a refusal
+abbrev pub refusalRoom : ℕ
+refusalRoom = 30
+
+-- what a caller shows: the stated rows are lent, the maps have no more entries than stated, and the output is long enough
+pub record Listable (maps : List ℕ) (n : ℕ) (entries : List ℕ) (m : ℕ) (out : List ℕ) : Type 0 where
+  pub mapRows : n ≤ rowsLent mapCells maps
+  pub entryRows : m ≤ rowsLent entryCells entries
+  pub counts : total entryCount (tableRows mapCells maps n) ≤ m
+  pub room : recordRoom n m ≤ length out

@@ -1,0 +1,192 @@
+// The listing's text, into an output that the caller lends: numbers, words, lines, and the lines of a record.
+ghost use mathlib.Core.Path.{_≡_};
+ghost use mathlib.Core.List.{[], _∷_};
+ghost use Prim.Native.Nat.{_+_, _*_, _%_, _≤_};
+ghost use lib.ListN.{length};
+ghost use Rattle.format.specs.Bytes.{flat, total};
+ghost use Rattle.format.specs.ClipRecord.{entryCount};
+ghost use Rattle.format.specs.Tables.{tableRows, cellsAt, rowsLent, mapCells, entryCells};
+ghost use Rattle.format.specs.Listing.{digits, spaced, line, epLine, mapLine, mapLines};
+ghost use Rattle.listing.specs.Text.{Wrote, WroteIn, Shows, Listable, lineRoom, mapsFrom, entriesFrom, numbers, recordText, refusalText, refusalRoom};
+use common::cells::cell_at;
+
+// Stores one byte at `at`.
+fn put_byte(out: &mut [u8], at: usize, b: u8) -> usize
+    requires { ⌜ at + 1 ≤ length (now out) ⌝ }
+    ensures { λ r. ⌜ Wrote (now (out .entry)) at (b ∷ []) r (now (out .exit)) ⌝ }
+{
+    out[at] = b;
+    at + 1
+}
+
+// The last decimal digit of `n`.
+fn digit(n: u32) -> u8
+    ensures { λ r. ⌜ r ≡ 48 + n % 10 ⌝ }
+{
+    48 + (n % 10) as u8
+}
+
+// Stores the decimal digits of `n`, at most `k` of them.
+fn put_digits(out: &mut [u8], at: usize, n: u32, k: u32) -> usize
+    requires { ⌜ at + length (digits k n) ≤ length (now out) ⌝ }
+    ensures { λ r. ⌜ Wrote (now (out .entry)) at (digits k n) r (now (out .exit)) ⌝ }
+{
+    if k == 0 {
+        return at;
+    }
+    if n < 10 {
+        return put_byte(out, at, digit(n));
+    }
+    let p = put_digits(out, at, n / 10, k - 1);
+    put_byte(out, p, digit(n))
+}
+
+// Stores a number behind a single space.
+fn put_number(out: &mut [u8], at: usize, n: u32) -> usize
+    requires { ⌜ at + 11 ≤ length (now out) ⌝ }
+    ensures { λ r. ⌜ WroteIn 11 (now (out .entry)) at (spaced n) r (now (out .exit)) ⌝ }
+{
+    let p = put_byte(out, at, b' ');
+    put_digits(out, p, n, 20)
+}
+
+// Stores the bytes of a word.
+fn put_word(out: &mut [u8], at: usize, word: &[u8]) -> usize
+    requires { ⌜ at + length (now word) ≤ length (now out) ⌝ }
+    ensures { λ r. ⌜ Wrote (now (out .entry)) at (now (word .entry)) r (now (out .exit)) ⌝ }
+{
+    let mut p = at;
+    let mut i = 0;
+    while i < word.len() {
+        p = put_byte(out, p, word[i]);
+        i += 1;
+    }
+    p
+}
+
+// Stores numbers, each behind a single space.
+fn put_numbers(out: &mut [u8], at: usize, numbers: &[u32]) -> usize
+    requires { ⌜ at + 11 * length (now numbers) ≤ length (now out) ⌝ }
+    ensures { λ r. ⌜ WroteIn (11 * length (now (numbers .entry))) (now (out .entry)) at (flat spaced (now (numbers .entry))) r (now (out .exit)) ⌝ }
+{
+    let mut p = at;
+    let mut i = 0;
+    while i < numbers.len() {
+        p = put_number(out, p, numbers[i]);
+        i += 1;
+    }
+    p
+}
+
+// Stores a line: a word, its numbers and a newline.
+fn put_line(out: &mut [u8], at: usize, word: &[u8], numbers: &[u32]) -> usize
+    requires { ⌜ at + lineRoom (now word) (now numbers) ≤ length (now out) ⌝ }
+    ensures { λ r. ⌜ WroteIn (lineRoom (now (word .entry)) (now (numbers .entry))) (now (out .entry)) at (line (now (word .entry)) (now (numbers .entry))) r (now (out .exit)) ⌝ }
+{
+    let p = put_word(out, at, word);
+    let q = put_numbers(out, p, numbers);
+    put_byte(out, q, b'\n')
+}
+
+// Stores the line of the entry whose row stands at `row`.
+fn put_entry(out: &mut [u8], at: usize, entries: &[u8], row: usize) -> usize
+    requires { ⌜ (row + 20 ≤ length (now entries)) × (at + 25 ≤ length (now out)) ⌝ }
+    ensures { λ r. ⌜ WroteIn 25 (now (out .entry)) at (epLine (cellsAt (now (entries .entry)) entryCells row)) r (now (out .exit)) ⌝ }
+{
+    let time = cell_at(entries, row + 8);
+    let packet = cell_at(entries, row + 12);
+    let numbers = [time, packet];
+    put_line(out, at, b"ep", &numbers)
+}
+
+// Stores the lines of `count` entries from the row at `row`.
+fn put_entries(out: &mut [u8], at: usize, entries: &[u8], row: usize, count: u32) -> usize
+    requires { ⌜ (row + 20 * count ≤ length (now entries)) × (at + 25 * count ≤ length (now out)) ⌝ }
+    ensures { λ r. ⌜ WroteIn (25 * count) (now (out .entry)) at (flat epLine (entriesFrom (now (entries .entry)) row count)) r (now (out .exit)) ⌝ }
+{
+    let mut p = at;
+    let mut q = row;
+    let mut i = 0;
+    while i < count {
+        p = put_entry(out, p, entries, q);
+        q += 20;
+        i += 1;
+    }
+    p
+}
+
+// Stores the line of the map whose row stands at `row`.
+fn put_map(out: &mut [u8], at: usize, maps: &[u8], row: usize) -> usize
+    requires { ⌜ (row + 12 ≤ length (now maps)) × (at + 37 ≤ length (now out)) ⌝ }
+    ensures { λ r. ⌜ WroteIn 37 (now (out .entry)) at (mapLine (cellsAt (now (maps .entry)) mapCells row)) r (now (out .exit)) ⌝ }
+{
+    let pid = cell_at(maps, row);
+    let kind = cell_at(maps, row + 4);
+    let count = cell_at(maps, row + 8);
+    let numbers = [pid, kind, count];
+    put_line(out, at, b"map", &numbers)
+}
+
+// Stores each map's line with those of its own entries behind it.
+fn put_maps(out: &mut [u8], at: usize, maps: &[u8], n: u32, entries: &[u8], m: u32) -> usize
+    requires { ⌜ (n ≤ rowsLent mapCells (now maps)) × (m ≤ rowsLent entryCells (now entries)) × (total entryCount (mapsFrom (now maps) 0 n) ≤ m) × (at + (37 * n + 25 * m) ≤ length (now out)) ⌝ }
+    ensures { λ r. ⌜ WroteIn (37 * n + 25 * m) (now (out .entry)) at (mapLines (mapsFrom (now (maps .entry)) 0 n) (entriesFrom (now (entries .entry)) 0 m)) r (now (out .exit)) ⌝ }
+{
+    let mut p = at;
+    let mut q = 0;
+    let mut k = 0;
+    let mut i = 0;
+    while i < n {
+        let count = cell_at(maps, q + 8);
+        let behind = put_map(out, p, maps, q);
+        p = put_entries(out, behind, entries, k * 20, count);
+        k += count as usize;
+        q += 12;
+        i += 1;
+    }
+    p
+}
+
+// Stores the text of a record with these numbers, maps and entries from the front, and answers its length.
+pub fn put_record(
+    stream_type: u32,
+    application_type: u32,
+    rate: u32,
+    packets: u32,
+    atcs: u32,
+    stcs: u32,
+    programs: u32,
+    streams: u32,
+    marks: u32,
+    maps: &[u8],
+    map_rows: u32,
+    entries: &[u8],
+    entry_rows: u32,
+    out: &mut [u8],
+) -> usize
+    requires { ⌜ Listable (now maps) «map_rows» (now entries) «entry_rows» (now out) ⌝ }
+    ensures { λ r. ⌜ Shows (now (out .entry)) (recordText (numbers «stream_type» «application_type» rate packets atcs stcs programs streams marks) (tableRows mapCells (now (maps .entry)) «map_rows») (tableRows entryCells (now (entries .entry)) «entry_rows»)) r (now (out .exit)) ⌝ }
+{
+    let clip = [stream_type, application_type, rate, packets];
+    let a = put_line(out, 0, b"clip", &clip);
+    let seq = [atcs, stcs];
+    let b = put_line(out, a, b"seq", &seq);
+    let prog = [programs, streams];
+    let c = put_line(out, b, b"prog", &prog);
+    let d = put_maps(out, c, maps, map_rows, entries, entry_rows);
+    let mark = [marks];
+    put_line(out, d, b"mark", &mark)
+}
+
+// Stores the line of a refusal from the front, with the table after 21, and answers its length.
+pub fn put_refusal(number: u32, table: u32, out: &mut [u8]) -> usize
+    requires { ⌜ refusalRoom ≤ length (now out) ⌝ }
+    ensures { λ r. ⌜ Shows (now (out .entry)) (refusalText number table) r (now (out .exit)) ⌝ }
+{
+    if number == 21 {
+        let both = [number, table];
+        return put_line(out, 0, b"refused", &both);
+    }
+    let one = [number];
+    put_line(out, 0, b"refused", &one)
+}
