@@ -37,7 +37,7 @@ pub enum Sections {
 const MOST: usize = 536870912;
 
 // The scalars of a file with ClipInfo.
-pub fn clip_info(file: &[u8]) -> ClipInfo
+pub(crate) fn clip_info(file: &[u8]) -> ClipInfo
     requires { ⌜ 194 ≤ length (now file) ⌝ }
     ensures { λ r. ⌜ r ≡ clipInfoOf (now (file .entry)) ⌝ }
 {
