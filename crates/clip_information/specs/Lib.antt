@@ -1,3 +1,4 @@
 -- What the functions of this crate promise.
 pub mod Clips
 pub mod Room
+pub mod Lists

@@ -1,3 +1,4 @@
 // A clip file read whole: every section is measured, then the lent tables, and only then are rows put into them.
+pub mod list;
 pub mod sections;
 pub mod tables;
