@@ -132,7 +132,7 @@ laterOf f =
     (unless (mapsIn f (cpiStart f)) 7
     (unless (marksIn f (marksStart f)) 8 0))))
 
-front-then : (f : List ℕ) → refusalOf f ≡ pick (eqb (frontOf f) 0) (laterOf f) (frontOf f)
+pub front-then : (f : List ℕ) → refusalOf f ≡ pick (eqb (frontOf f) 0) (laterOf f) (frontOf f)
 unfolding refusalOf frontOf
 front-then f = go (leb (length f) 536870912) (leb 8 (length f)) (lettersRight f) (leb 40 (length f)) (clipInfoIn f) (laterOf f)
   where

@@ -2,3 +2,4 @@
 pub mod Clips
 pub mod Room
 pub mod Lists
+pub mod Prepare
