@@ -2,3 +2,4 @@
 pub mod Laws
 pub mod ListLaws
 pub mod PrepareLaws
+pub mod FillLaws

@@ -2,4 +2,5 @@
 pub mod Clips
 pub mod Room
 pub mod Lists
+pub mod Fill
 pub mod Prepare

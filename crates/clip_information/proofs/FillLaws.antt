@@ -1,0 +1,184 @@
+-- What an accepted file and tables with room give to the passes that fill.
+use Prim.Native.Nat.{ℕ, zero, suc, _+_, _-_, _<_, _≤_}
+use mathlib.Core.Path.{_≡_, refl, sym, ap, _∙_}
+use mathlib.Core.List.{List, []}
+use mathlib.Core.Bool.{Bool, true, false, not}
+use native.Mathlib.Omega.{arith}
+use lib.ListN.{length, take, drop}
+use lib.Dec.{leb, eqb, eqb·suc-zero}
+use borrow.Author.Tests.{eq-eqb, ne-eqb, le-ltb, lt-ltb, leb-true}
+use Rattle.format.specs.Bytes.{pick, unless, beAt, rowsAt}
+use Rattle.format.specs.ClipRecord.{Row, sequencesStart, programsStart, cpiStart, marksStart, extensionsStart, sequencesEnd, marksFrom, marksIn}
+use Rattle.format.specs.Programs.{programsFrom, streamsFrom, programsEnd}
+use Rattle.format.specs.EntryPoints.{cpiIn, mapsIn, mapsFrom, mapCount, mapAt, nextMap}
+use Rattle.format.specs.Extensions.{Found, nothing, found, extensionsFrom, listData, listIn, listProgramsOf, listStreamsOf}
+use Rattle.format.specs.Reading.{clipOf, recordOf}
+use Rattle.format.specs.Refusals.{refusalOf}
+use Rattle.format.specs.Tables.{tableBytes, overwritten, rowsLent, programCells, streamCells}
+use Rattle.format.proofs.Rows.{rows-length}
+use Rattle.extension.specs.Block.{foundIn, listEnd}
+use Rattle.extension.specs.declared.ListData.{ListData}
+use Rattle.sequence_info.specs.Sequences as Sequences
+use Rattle.program_info.specs.Programs.{Fillable}
+use Rattle.cpi.specs.Maps as Maps
+use Rattle.clip_information.specs.Clips.{frontOf}
+use Rattle.clip_information.specs.Fill.{SectionsFit, ListFits, MarksThere}
+use Rattle.clip_information.proofs.Laws.{front-then, laterOf}
+use Rattle.clip_information.proofs.PrepareLaws.{accepted-bounds}
+
+-- ---- the sections
+
+-- every section of an accepted file is in it
+pub record Sound (f : List ℕ) : Type 0 where
+  pub sequences-in : sequencesEnd f (sequencesStart f) ≤ length f
+  pub programs-in : programsEnd f (programsStart f) ≤ length f
+  pub cpi-in : cpiIn f (cpiStart f) ≡ true
+  pub maps-in : mapsIn f (cpiStart f) ≡ true
+  pub marks-in : marksIn f (marksStart f) ≡ true
+
+module _ (f : List ℕ) where
+  later-passes : refusalOf f ≡ 0 → laterOf f ≡ 0
+  later-passes h = go (frontOf f) (laterOf f) (sym (front-then f) ∙ h)
+    where
+      go : (r x : ℕ) → pick (eqb r 0) x r ≡ 0 → x ≡ 0
+      go zero x h = h
+      go (suc r) x h = let g = rw (eqb·suc-zero r) at h in absurd (omega arith)
+
+  pub sound : refusalOf f ≡ 0 → Sound f
+  sound h =
+      go (leb (sequencesEnd f (sequencesStart f)) (length f)) (leb (programsEnd f (programsStart f)) (length f)) (cpiIn f (cpiStart f)) (mapsIn f (cpiStart f)) (marksIn f (marksStart f)) refl refl refl refl refl (later-passes h)
+    where
+      go : (a b c d e : Bool) → leb (sequencesEnd f (sequencesStart f)) (length f) ≡ a → leb (programsEnd f (programsStart f)) (length f) ≡ b → cpiIn f (cpiStart f) ≡ c → mapsIn f (cpiStart f) ≡ d → marksIn f (marksStart f) ≡ e
+          → unless a 4 (unless b 5 (unless c 6 (unless d 7 (unless e 8 0)))) ≡ 0 → Sound f
+      go true true true true true pa pb pc pd pe h = record {
+        sequences-in = leb-true (sequencesEnd f (sequencesStart f)) (length f) pa;
+        programs-in = leb-true (programsEnd f (programsStart f)) (length f) pb;
+        cpi-in = pc;
+        maps-in = pd;
+        marks-in = pe;
+      }
+      go true true true true false pa pb pc pd pe h = absurd (omega arith)
+      go true true true false e pa pb pc pd pe h = absurd (omega arith)
+      go true true false d e pa pb pc pd pe h = absurd (omega arith)
+      go true false c d e pa pb pc pd pe h = absurd (omega arith)
+      go false b c d e pa pb pc pd pe h = absurd (omega arith)
+
+-- the maps counted are those that the section says
+pub maps-counted : (f : List ℕ) {count : ℕ} → count ≡ length (clipOf f .maps) → count ≡ mapCount f (cpiStart f)
+unfolding clipOf mapsFrom
+maps-counted f h = h ∙ rows-length (mapAt f) nextMap (cpiStart f + 8) (mapCount f (cpiStart f))
+
+module _ (f : List ℕ) {count : ℕ} {atcs stcs programs streams maps entries : List ℕ} (fits : SectionsFit f count atcs stcs programs streams maps entries) where
+  pub sequences-fillable : {start : ℕ} → start ≡ sequencesStart f → Sequences.Fillable f start atcs stcs
+  unfolding clipOf
+  sequences-fillable e = record {
+    ends = rw e (sound f (fits .accepts) .sequences-in);
+    atcs-room = rw e (fits .atcs-room);
+    stcs-room = rw e (fits .stcs-room);
+  }
+
+  pub programs-fillable : {start : ℕ} → start ≡ programsStart f → Fillable f start programs streams
+  unfolding clipOf
+  programs-fillable e = record {
+    ends = rw e (sound f (fits .accepts) .programs-in);
+    programs-room = rw e (fits .programs-room);
+    streams-room = rw e (fits .streams-room);
+  }
+
+  pub maps-fillable : {start : ℕ} → start ≡ cpiStart f → Maps.Fill f start count maps entries
+  unfolding clipOf
+  maps-fillable e = record {
+    small = accepted-bounds f (fits .accepts) .0;
+    counted = rw e (maps-counted f (fits .counted));
+    head-in = rw e (sound f (fits .accepts) .cpi-in);
+    maps-in = rw e (sound f (fits .accepts) .maps-in);
+    maps-room = rw e (fits .maps-room);
+    entries-room = rw e (fits .entries-room);
+  }
+
+-- a table filled with rows that are the record's
+pub filled-as : {rows own : List Row} (old : List ℕ) {new : List ℕ} → own ≡ rows → new ≡ overwritten (tableBytes rows) old → new ≡ overwritten (tableBytes own) old
+filled-as old e h = h ∙ ap (λ q. overwritten (tableBytes q) old) (sym e)
+
+-- a table filled from a place that was read in the file
+pub filled-from : (rows : ℕ → List Row) (old : List ℕ) {start place : ℕ} {new : List ℕ} → start ≡ place → new ≡ overwritten (tableBytes (rows start)) old → new ≡ overwritten (tableBytes (rows place)) old
+filled-from rows old e h = filled-as old (ap rows (sym e)) h
+
+-- ---- marks
+
+module _ (f : List ℕ) (start : ℕ) where
+  pub no-marks : start ≡ 0 → 0 ≡ marksFrom f start
+  unfolding marksFrom
+  no-marks h = rw (eq-eqb start 0 h)
+
+  pub marks-past : (start ≡ 0 → ⊥) → length f ≤ start → 0 ≡ marksFrom f start
+  unfolding marksFrom
+  marks-past n h = rw (ne-eqb start 0 n, le-ltb start (length f) h)
+
+  pub marks-counted : (start ≡ 0 → ⊥) → start < length f → beAt f (start + 4) 2 ≡ marksFrom f start
+  unfolding marksFrom
+  marks-counted n h = rw (ne-eqb start 0 n, lt-ltb start (length f) h)
+
+  pub count-in : MarksThere f start → (start ≡ 0 → ⊥) → start < length f → start + 6 ≤ length f
+  unfolding marksIn
+  count-in m n h = leb-true (start + 6) (length f) (rw (ne-eqb start 0 n, lt-ltb start (length f) h) at (m .inside))
+
+-- ---- the list
+
+-- a test that was turned round
+not-so : (b : Bool) → not b ≡ true → b ≡ false
+not-so false h = refl
+not-so true h = let z : _≡_ {A = ℕ} 0 1 = cc in absurd (omega arith)
+
+so : (b : Bool) → not b ≡ false → b ≡ true
+so true h = refl
+so false h = let z : _≡_ {A = ℕ} 0 1 = cc in absurd (omega arith)
+
+module _ (f : List ℕ) (list : ListData) {has : Bool} {programs streams : List ℕ} (fits : ListFits f list has programs streams) where
+  abbrev D : Found
+  D = listData (extensionsFrom f (extensionsStart f))
+
+  has-in : has ≡ listIn D
+  unfolding recordOf
+  has-in = fits .has-is
+
+  -- nothing is put where there is no list
+  left : listIn D ≡ false → (programs ≡ overwritten (tableBytes (recordOf f .listPrograms)) programs) × (streams ≡ overwritten (tableBytes (recordOf f .listStreams)) streams)
+  unfolding recordOf
+  left h = rw h (refl, refl)
+
+  pub not-listed : not has ≡ true → (programs ≡ overwritten (tableBytes (recordOf f .listPrograms)) programs) × (streams ≡ overwritten (tableBytes (recordOf f .listStreams)) streams)
+  not-listed h = left (sym has-in ∙ not-so has h)
+
+  pub no-list : list ≡ ListData.Absent → (programs ≡ overwritten (tableBytes (recordOf f .listPrograms)) programs) × (streams ≡ overwritten (tableBytes (recordOf f .listStreams)) streams)
+  unfolding listIn
+  no-list h = let e : D ≡ nothing = sym (fits .list-is) ∙ ap (foundIn f) h in left (ap listIn e)
+
+  module _ (s n : ℕ) (at : list ≡ ListData.At s n) (there : not has ≡ false) where
+    abbrev P : List ℕ
+    P = take (s + n - s) (drop s f)
+
+    data-is : D ≡ found P
+    data-is = let e : s + n - s ≡ n = omega arith in sym (fits .list-is) ∙ ap (foundIn f) at ∙ rw e
+
+    listed : listIn D ≡ true
+    listed = sym has-in ∙ so has there
+
+    pub list-ends : programsEnd P 0 ≤ length P
+    unfolding listIn
+    list-ends = leb-true (programsEnd P 0) (length P) (rw data-is at listed)
+
+    pub programs-put : recordOf f .listPrograms ≡ programsFrom P 0
+    unfolding recordOf
+    programs-put = rw (listed, data-is)
+
+    pub streams-put : recordOf f .listStreams ≡ streamsFrom P 0
+    unfolding recordOf
+    streams-put = rw (listed, data-is)
+
+    pub list-fillable : Fillable P 0 programs streams
+    list-fillable = record {
+      ends = list-ends;
+      programs-room = rw programs-put at (fits .programs-room);
+      streams-room = rw streams-put at (fits .streams-room);
+    }
