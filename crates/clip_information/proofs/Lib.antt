@@ -3,3 +3,4 @@ pub mod Laws
 pub mod ListLaws
 pub mod PrepareLaws
 pub mod FillLaws
+pub mod ReadLaws

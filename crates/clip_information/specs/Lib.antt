@@ -4,3 +4,4 @@ pub mod Room
 pub mod Lists
 pub mod Fill
 pub mod Prepare
+pub mod Read

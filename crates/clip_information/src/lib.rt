@@ -2,5 +2,6 @@
 pub mod fill;
 pub mod list;
 pub mod prepare;
+pub mod read;
 pub mod sections;
 pub mod tables;

@@ -1,0 +1,153 @@
+-- The answer of reading, and what the passes that fill may rely on once all is ready.
+use Prim.Native.Nat.{ℕ, _≤_, _/_}
+use mathlib.Core.Path.{_≡_, refl, sym, ap, _∙_}
+use mathlib.Core.List.{List}
+use mathlib.Core.Bool.{Bool, true, false}
+use native.Mathlib.Omega.{arith}
+use lib.ListN.{length}
+use lib.Dec.{leb, eqb}
+use borrow.Author.Tests.{leb-true}
+use Rattle.format.specs.Bytes.{pick}
+use Rattle.format.specs.ClipRecord.{Row, extensionsStart, marksStart, marksFrom}
+use Rattle.format.specs.Extensions.{extensionRows}
+use Rattle.format.specs.Reading.{clipOf, recordOf}
+use Rattle.format.specs.Refusals.{ReadAnswer, refused, tooShort, accepted, refusalOf, tablesOf, statedOf, tablesAnswer, readAnswer}
+use Rattle.format.specs.Tables.{Nine, rowsLent, atcCells, stcCells, programCells, streamCells, mapCells, entryCells, extensionCells}
+use Rattle.extension.specs.declared.ListData.{ListData}
+use Rattle.clip_information.specs.Clips.{clipInfoOf}
+use Rattle.clip_information.specs.Room.{roomOf, roomBehind}
+use Rattle.clip_information.specs.Prepare.{neededRows, roomAnswer, answerFor, preparedAnswer, ReadyIs, PreparedIs}
+use Rattle.clip_information.specs.Fill.{SectionsFit, ListFits, MarksThere}
+use Rattle.clip_information.specs.Read.{lengthsOf, nineBy, scalarsBy, answerOf}
+use Rattle.clip_information.specs.declared.sections.ClipInfo.{ClipInfo}
+use Rattle.clip_information.specs.declared.tables.Rows.{Rows}
+use Rattle.clip_information.specs.declared.tables.Room.{Room}
+use Rattle.clip_information.specs.declared.prepare.Prepared.{Prepared}
+use Rattle.clip_information.specs.declared.read.Answer.{Answer}
+use Rattle.clip_information.proofs.PrepareLaws.{accepted-bounds}
+use Rattle.clip_information.proofs.FillLaws.{sound}
+
+-- ---- the answer
+
+-- the lowest table that is too short gives the answer
+pub answer-lent : (f : List ℕ) (lent : Nine (List ℕ)) → answerFor f (lengthsOf lent) ≡ readAnswer f lent
+unfolding answerFor readAnswer tablesAnswer roomOf roomBehind
+answer-lent f lent =
+    let rows = tablesOf f in
+    ap (λ a. pick (eqb (refusalOf f) 0) a (refused (refusalOf f)))
+    (go (length (rows .atcs)) (length (rows .stcs)) (length (rows .programs)) (length (rows .streams)) (length (rows .maps)) (length (rows .entries)) (length (rows .extensions)) (length (rows .listPrograms)) (length (rows .listStreams))
+    (leb (length (rows .atcs)) (rowsLent atcCells (lent .atcs))) (leb (length (rows .stcs)) (rowsLent stcCells (lent .stcs))) (leb (length (rows .programs)) (rowsLent programCells (lent .programs)))
+    (leb (length (rows .streams)) (rowsLent streamCells (lent .streams))) (leb (length (rows .maps)) (rowsLent mapCells (lent .maps))) (leb (length (rows .entries)) (rowsLent entryCells (lent .entries)))
+    (leb (length (rows .extensions)) (rowsLent extensionCells (lent .extensions))) (leb (length (rows .listPrograms)) (rowsLent programCells (lent .listPrograms))) (leb (length (rows .listStreams)) (rowsLent streamCells (lent .listStreams))))
+  where
+    go : (m n o p q r s t u : ℕ) (a b c d e g h i j : Bool)
+        → roomAnswer f (pick a (pick b (pick c (pick d (pick e (pick g (pick h (pick i (pick j Room.Enough (Room.Short 9 u)) (Room.Short 8 t)) (Room.Short 7 s)) (Room.Short 6 r)) (Room.Short 5 q)) (Room.Short 4 p)) (Room.Short 3 o)) (Room.Short 2 n)) (Room.Short 1 m))
+        ≡ pick a (pick b (pick c (pick d (pick e (pick g (pick h (pick i (pick j (accepted (statedOf f)) (tooShort 9 u)) (tooShort 8 t)) (tooShort 7 s)) (tooShort 6 r)) (tooShort 5 q)) (tooShort 4 p)) (tooShort 3 o)) (tooShort 2 n)) (tooShort 1 m)
+    go m n o p q r s t u true true true true true true true true true = refl
+    go m n o p q r s t u true true true true true true true true false = refl
+    go m n o p q r s t u true true true true true true true false j = refl
+    go m n o p q r s t u true true true true true true false i j = refl
+    go m n o p q r s t u true true true true true false h i j = refl
+    go m n o p q r s t u true true true true false g h i j = refl
+    go m n o p q r s t u true true true false e g h i j = refl
+    go m n o p q r s t u true true false d e g h i j = refl
+    go m n o p q r s t u true false c d e g h i j = refl
+    go m n o p q r s t u false b c d e g h i j = refl
+
+-- ---- room
+
+-- room enough is room in each table
+pub record Room-in-each (rows bytes : Rows) : Type 0 where
+  pub atcs-room : rows .atcs ≤ bytes .atcs / 12
+  pub stcs-room : rows .stcs ≤ bytes .stcs / 16
+  pub programs-room : rows .programs ≤ bytes .programs / 12
+  pub streams-room : rows .streams ≤ bytes .streams / 20
+  pub maps-room : rows .maps ≤ bytes .maps / 12
+  pub entries-room : rows .entries ≤ bytes .entries / 20
+  pub extensions-room : rows .extensions ≤ bytes .extensions / 16
+  pub list-programs-room : rows .«list_programs» ≤ bytes .«list_programs» / 12
+  pub list-streams-room : rows .«list_streams» ≤ bytes .«list_streams» / 20
+
+-- the first of two tests that both passed, and the rest
+passed : (b : Bool) {later : Room} (k n : ℕ) → pick b later (Room.Short k n) ≡ Room.Enough → (b ≡ true) × (later ≡ Room.Enough)
+passed true k n h = (refl, h)
+passed false k n h = let z : _≡_ {A = ℕ} 0 1 = cc in absurd (omega arith)
+
+pub room-in-each : (rows bytes : Rows) → roomOf rows bytes ≡ Room.Enough → Room-in-each rows bytes
+unfolding roomOf roomBehind
+room-in-each rows bytes h =
+    let p1 = passed (leb (rows .atcs) (bytes .atcs / 12)) 1 (rows .atcs) h in
+    let p2 = passed (leb (rows .stcs) (bytes .stcs / 16)) 2 (rows .stcs) (p1 .1) in
+    let p3 = passed (leb (rows .programs) (bytes .programs / 12)) 3 (rows .programs) (p2 .1) in
+    let p4 = passed (leb (rows .streams) (bytes .streams / 20)) 4 (rows .streams) (p3 .1) in
+    let p5 = passed (leb (rows .maps) (bytes .maps / 12)) 5 (rows .maps) (p4 .1) in
+    let p6 = passed (leb (rows .entries) (bytes .entries / 20)) 6 (rows .entries) (p5 .1) in
+    let p7 = passed (leb (rows .extensions) (bytes .extensions / 16)) 7 (rows .extensions) (p6 .1) in
+    let p8 = passed (leb (rows .«list_programs») (bytes .«list_programs» / 12)) 8 (rows .«list_programs») (p7 .1) in
+    let p9 = passed (leb (rows .«list_streams») (bytes .«list_streams» / 20)) 9 (rows .«list_streams») (p8 .1) in
+    record {
+      atcs-room = leb-true _ _ (p1 .0);
+      stcs-room = leb-true _ _ (p2 .0);
+      programs-room = leb-true _ _ (p3 .0);
+      streams-room = leb-true _ _ (p4 .0);
+      maps-room = leb-true _ _ (p5 .0);
+      entries-room = leb-true _ _ (p6 .0);
+      extensions-room = leb-true _ _ (p7 .0);
+      list-programs-room = leb-true _ _ (p8 .0);
+      list-streams-room = leb-true _ _ (p9 .0);
+    }
+
+-- ---- what was prepared
+
+module _ (f : List ℕ) (lent : Nine (List ℕ)) {r : Prepared} (p : PreparedIs f (lengthsOf lent) r) where
+  pub prepared-answer : {q : Prepared} → r ≡ q → preparedAnswer f q ≡ readAnswer f lent
+  prepared-answer e = ap (preparedAnswer f) (sym e) ∙ p .answer ∙ answer-lent f lent
+
+  pub prepared-ready : {rows : Rows} {list : ListData} {has : Bool} → r ≡ Prepared.Ready rows list has → ReadyIs f (lengthsOf lent) rows list has
+  prepared-ready e = rw e at (p .ready)
+
+-- ---- once all is ready
+
+module _ (f : List ℕ) (lent : Nine (List ℕ)) {rows : Rows} {list : ListData} {has : Bool} (ready : ReadyIs f (lengthsOf lent) rows list has) where
+  each : Room-in-each (neededRows f) (lengthsOf lent)
+  each = room-in-each (neededRows f) (lengthsOf lent) (ready .room)
+
+  pub sections-fit : SectionsFit f (rows .maps) (lent .atcs) (lent .stcs) (lent .programs) (lent .streams) (lent .maps) (lent .entries)
+  unfolding tablesOf recordOf
+  sections-fit = record {
+    accepts = ready .accepts;
+    counted = ap (λ r. r .maps) (ready .rows-are);
+    atcs-room = each .atcs-room;
+    stcs-room = each .stcs-room;
+    programs-room = each .programs-room;
+    streams-room = each .streams-room;
+    maps-room = each .maps-room;
+    entries-room = each .entries-room;
+  }
+
+  pub extensions-fit : {start : ℕ} → start ≡ extensionsStart f → (length f ≤ 536870912) × (length (extensionRows f start) ≤ rowsLent extensionCells (lent .extensions))
+  unfolding tablesOf
+  extensions-fit e = (accepted-bounds f (ready .accepts) .0, rw e (each .extensions-room))
+
+  pub list-fits : ListFits f list has (lent .listPrograms) (lent .listStreams)
+  unfolding tablesOf
+  list-fits = record {
+    list-is = ready .list-is;
+    list-in = ready .list-in;
+    has-is = ready .has-is;
+    programs-room = each .list-programs-room;
+    streams-room = each .list-streams-room;
+  }
+
+  pub marks-there : {start : ℕ} → start ≡ marksStart f → MarksThere f start
+  marks-there e = record {
+    short = accepted-bounds f (ready .accepts) .0;
+    inside = rw e (sound f (ready .accepts) .marks-in);
+  }
+
+  -- what the code states is what reading states
+  pub stated : {info : ClipInfo} {marks start : ℕ} → info ≡ clipInfoOf f → start ≡ marksStart f → marks ≡ marksFrom f start → answerOf (Answer.Accepted info marks rows has) ≡ accepted (statedOf f)
+  unfolding statedOf recordOf clipOf
+  stated {info} {marks} {start} i s m =
+      let marks-are : marks ≡ marksFrom f (marksStart f) = m ∙ ap (marksFrom f) s in
+      λ k. accepted (record { scalars = scalarsBy (i k); marks = marks-are k; rows = nineBy (ready .rows-are k); hasList = ready .has-is k })

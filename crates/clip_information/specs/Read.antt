@@ -1,0 +1,68 @@
+-- The answer of reading, as the code holds it.
+use Prim.Native.Nat.{ℕ}
+use mathlib.Core.List.{List}
+use lib.ListN.{length}
+use Rattle.format.specs.ClipRecord.{Scalars}
+use Rattle.format.specs.Tables.{Nine}
+use Rattle.format.specs.Refusals.{ReadAnswer, refused, tooShort, accepted}
+use Rattle.clip_information.specs.declared.sections.ClipInfo.{ClipInfo}
+use Rattle.clip_information.specs.declared.tables.Rows.{Rows}
+use Rattle.clip_information.specs.declared.read.Answer.{Answer}
+
+-- the nine lent tables
+abbrev pub lentBy : (atcs stcs programs streams maps entries extensions listPrograms listStreams : List ℕ) → Nine (List ℕ)
+lentBy t1 t2 t3 t4 t5 t6 t7 t8 t9 = record {
+  atcs = t1;
+  stcs = t2;
+  programs = t3;
+  streams = t4;
+  maps = t5;
+  entries = t6;
+  extensions = t7;
+  listPrograms = t8;
+  listStreams = t9;
+}
+
+-- their lengths in bytes
+abbrev pub lengthsOf : Nine (List ℕ) → Rows
+lengthsOf lent = record {
+  atcs = length (lent .atcs);
+  stcs = length (lent .stcs);
+  programs = length (lent .programs);
+  streams = length (lent .streams);
+  maps = length (lent .maps);
+  entries = length (lent .entries);
+  extensions = length (lent .extensions);
+  «list_programs» = length (lent .listPrograms);
+  «list_streams» = length (lent .listStreams);
+}
+
+-- the scalars and the nine numbers
+abbrev pub scalarsBy : ClipInfo → Scalars
+scalarsBy c = record {
+  version = c .version;
+  streamType = c .«clip_stream_type»;
+  applicationType = c .«application_type»;
+  rate = c .«ts_recording_rate»;
+  packets = c .«number_of_source_packets»;
+  validityFlags = c .«validity_flags»;
+  formatId = c .«format_id»;
+}
+
+abbrev pub nineBy : Rows → Nine ℕ
+nineBy r = record {
+  atcs = r .atcs;
+  stcs = r .stcs;
+  programs = r .programs;
+  streams = r .streams;
+  maps = r .maps;
+  entries = r .entries;
+  extensions = r .extensions;
+  listPrograms = r .«list_programs»;
+  listStreams = r .«list_streams»;
+}
+
+abbrev pub answerOf : Answer → ReadAnswer
+answerOf (Answer.Refused n) = refused n
+answerOf (Answer.TooShort k n) = tooShort k n
+answerOf (Answer.Accepted info marks rows has) = accepted (record { scalars = scalarsBy info; marks = marks; rows = nineBy rows; hasList = has })

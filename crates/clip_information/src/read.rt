@@ -1,0 +1,93 @@
+// A clip file read into nine lent tables.
+ghost use mathlib.Core.Path.{_≡_};
+ghost use Rattle.format.specs.Refusals.{readAnswer, tablesOf, tableBy};
+ghost use Rattle.clip_information.specs.Read.{answerOf, lentBy};
+use crate::fill::fill_list;
+use crate::fill::fill_sections;
+use crate::fill::mark_count;
+use crate::prepare::Prepared;
+use crate::prepare::prepare;
+use crate::sections::ClipInfo;
+use crate::sections::clip_info;
+use crate::tables::Rows;
+use common::numbers::u32_at;
+
+// What is stated of an accepted file beside its rows: the scalars, the number of marks, the rows of each table, and whether it has a (2, 5) list.
+pub enum Answer {
+    Accepted {
+        info: ClipInfo,
+        marks: u32,
+        rows: Rows,
+        has_list: bool,
+    },
+    Refused(u32),
+    TooShort {
+        table: u32,
+        rows: usize,
+    },
+}
+
+// Reads a file; a refusal leaves every table as it was.
+pub fn read(
+    file: &[u8],
+    atcs: &mut [u8],
+    stcs: &mut [u8],
+    programs: &mut [u8],
+    streams: &mut [u8],
+    maps: &mut [u8],
+    entries: &mut [u8],
+    extensions: &mut [u8],
+    programs2: &mut [u8],
+    streams2: &mut [u8],
+) -> Answer
+    ensures { λ r. ⌜ answerOf r ≡ readAnswer (now (file .entry)) (lentBy (now (atcs .entry)) (now (stcs .entry)) (now (programs .entry)) (now (streams .entry)) (now (maps .entry)) (now (entries .entry)) (now (extensions .entry)) (now (programs2 .entry)) (now (streams2 .entry))) ⌝ }
+    ensures { λ r. ⌜ now (atcs .exit) ≡ tableBy (answerOf r) (tablesOf (now (file .entry)) .atcs) (now (atcs .entry)) ⌝ }
+    ensures { λ r. ⌜ now (stcs .exit) ≡ tableBy (answerOf r) (tablesOf (now (file .entry)) .stcs) (now (stcs .entry)) ⌝ }
+    ensures { λ r. ⌜ now (programs .exit) ≡ tableBy (answerOf r) (tablesOf (now (file .entry)) .programs) (now (programs .entry)) ⌝ }
+    ensures { λ r. ⌜ now (streams .exit) ≡ tableBy (answerOf r) (tablesOf (now (file .entry)) .streams) (now (streams .entry)) ⌝ }
+    ensures { λ r. ⌜ now (maps .exit) ≡ tableBy (answerOf r) (tablesOf (now (file .entry)) .maps) (now (maps .entry)) ⌝ }
+    ensures { λ r. ⌜ now (entries .exit) ≡ tableBy (answerOf r) (tablesOf (now (file .entry)) .entries) (now (entries .entry)) ⌝ }
+    ensures { λ r. ⌜ now (extensions .exit) ≡ tableBy (answerOf r) (tablesOf (now (file .entry)) .extensions) (now (extensions .entry)) ⌝ }
+    ensures { λ r. ⌜ now (programs2 .exit) ≡ tableBy (answerOf r) (tablesOf (now (file .entry)) .listPrograms) (now (programs2 .entry)) ⌝ }
+    ensures { λ r. ⌜ now (streams2 .exit) ≡ tableBy (answerOf r) (tablesOf (now (file .entry)) .listStreams) (now (streams2 .entry)) ⌝ }
+{
+    let bytes = Rows {
+        atcs: atcs.len(),
+        stcs: stcs.len(),
+        programs: programs.len(),
+        streams: streams.len(),
+        maps: maps.len(),
+        entries: entries.len(),
+        extensions: extensions.len(),
+        list_programs: programs2.len(),
+        list_streams: streams2.len(),
+    };
+    match prepare(file, bytes) {
+        Prepared::Refused(n) => Answer::Refused(n),
+        Prepared::TooShort { table, rows } => Answer::TooShort { table, rows },
+        Prepared::Ready {
+            rows,
+            list,
+            has_list,
+        } => {
+            fill_sections(
+                file,
+                rows.maps,
+                atcs,
+                stcs,
+                programs,
+                streams,
+                maps,
+                entries,
+            );
+            extension::fill(file, u32_at(file, 24) as usize, extensions);
+            fill_list(file, list, has_list, programs2, streams2);
+            Answer::Accepted {
+                info: clip_info(file),
+                marks: mark_count(file, u32_at(file, 20) as usize),
+                rows,
+                has_list,
+            }
+        }
+    }
+}
