@@ -37,6 +37,7 @@ pub record Sound (f : List ℕ) : Type 0 where
   pub marks-in : marksIn f (marksStart f) ≡ true
 
 module _ (f : List ℕ) where
+  -- where the front and all behind it pass, all behind it passes
   later-passes : refusalOf f ≡ 0 → laterOf f ≡ 0
   later-passes h = go (frontOf f) (laterOf f) (sym (front-then f) ∙ h)
     where
@@ -44,6 +45,7 @@ module _ (f : List ℕ) where
       go zero x h = h
       go (suc r) x h = let g = rw (eqb·suc-zero r) at h in absurd (omega arith)
 
+  -- an accepted file is sound
   pub sound : refusalOf f ≡ 0 → Sound f
   sound h =
       go (leb (sequencesEnd f (sequencesStart f)) (length f)) (leb (programsEnd f (programsStart f)) (length f)) (cpiIn f (cpiStart f)) (mapsIn f (cpiStart f)) (marksIn f (marksStart f)) refl refl refl refl refl (later-passes h)
@@ -69,6 +71,7 @@ unfolding clipOf mapsFrom
 maps-counted f h = h ∙ rows-length (mapAt f) nextMap (cpiStart f + 8) (mapCount f (cpiStart f))
 
 module _ (f : List ℕ) {count : ℕ} {atcs stcs programs streams maps entries : List ℕ} (fits : SectionsFit f count atcs stcs programs streams maps entries) where
+  -- tables 1 and 2 can be filled
   pub sequences-fillable : {start : ℕ} → start ≡ sequencesStart f → Sequences.Fillable f start atcs stcs
   unfolding clipOf
   sequences-fillable e = record {
@@ -77,6 +80,7 @@ module _ (f : List ℕ) {count : ℕ} {atcs stcs programs streams maps entries :
     stcs-room = rw e (fits .stcs-room);
   }
 
+  -- tables 3 and 4 can be filled
   pub programs-fillable : {start : ℕ} → start ≡ programsStart f → Fillable f start programs streams
   unfolding clipOf
   programs-fillable e = record {
@@ -85,6 +89,7 @@ module _ (f : List ℕ) {count : ℕ} {atcs stcs programs streams maps entries :
     streams-room = rw e (fits .streams-room);
   }
 
+  -- tables 5 and 6 can be filled
   pub maps-fillable : {start : ℕ} → start ≡ cpiStart f → Maps.Fill f start count maps entries
   unfolding clipOf
   maps-fillable e = record {
@@ -107,18 +112,22 @@ filled-from rows old e h = filled-as old (ap rows (sym e)) h
 -- ---- marks
 
 module _ (f : List ℕ) (start : ℕ) where
+  -- a start of 0 is no marks
   pub no-marks : start ≡ 0 → 0 ≡ marksFrom f start
   unfolding marksFrom
   no-marks h = rw (eq-eqb start 0 h)
 
+  -- a start at or past the end is no marks
   pub marks-past : (start ≡ 0 → ⊥) → length f ≤ start → 0 ≡ marksFrom f start
   unfolding marksFrom
   marks-past n h = rw (ne-eqb start 0 n, le-ltb start (length f) h)
 
+  -- else the count stands four bytes behind the start
   pub marks-counted : (start ≡ 0 → ⊥) → start < length f → beAt f (start + 4) 2 ≡ marksFrom f start
   unfolding marksFrom
   marks-counted n h = rw (ne-eqb start 0 n, lt-ltb start (length f) h)
 
+  -- and it is in the file
   pub count-in : MarksThere f start → (start ≡ 0 → ⊥) → start < length f → start + 6 ≤ length f
   unfolding marksIn
   count-in m n h = leb-true (start + 6) (length f) (rw (ne-eqb start 0 n, lt-ltb start (length f) h) at (m .inside))
@@ -130,6 +139,7 @@ not-so : (b : Bool) → not b ≡ true → b ≡ false
 not-so false h = refl
 not-so true h = let z : _≡_ {A = ℕ} 0 1 = cc in absurd (omega arith)
 
+-- and the other way
 so : (b : Bool) → not b ≡ false → b ≡ true
 so true h = refl
 so false h = let z : _≡_ {A = ℕ} 0 1 = cc in absurd (omega arith)
@@ -138,6 +148,7 @@ module _ (f : List ℕ) (list : ListData) {has : Bool} {programs streams : List 
   abbrev D : Found
   D = listData (extensionsFrom f (extensionsStart f))
 
+  -- the flag says whether there is a list
   has-in : has ≡ listIn D
   unfolding recordOf
   has-in = fits .has-is
@@ -147,9 +158,11 @@ module _ (f : List ℕ) (list : ListData) {has : Bool} {programs streams : List 
   unfolding recordOf
   left h = rw h (refl, refl)
 
+  -- so where the flag says that there is none
   pub not-listed : not has ≡ true → (programs ≡ overwritten (tableBytes (recordOf f .listPrograms)) programs) × (streams ≡ overwritten (tableBytes (recordOf f .listStreams)) streams)
   not-listed h = left (sym has-in ∙ not-so has h)
 
+  -- and where no data was found
   pub no-list : list ≡ ListData.Absent → (programs ≡ overwritten (tableBytes (recordOf f .listPrograms)) programs) × (streams ≡ overwritten (tableBytes (recordOf f .listStreams)) streams)
   unfolding listIn
   no-list h = let e : D ≡ nothing = sym (fits .list-is) ∙ ap (foundIn f) h in left (ap listIn e)
@@ -158,24 +171,30 @@ module _ (f : List ℕ) (list : ListData) {has : Bool} {programs streams : List 
     abbrev P : List ℕ
     P = take (s + n - s) (drop s f)
 
+    -- the data found is the part that is read
     data-is : D ≡ found P
     data-is = let e : s + n - s ≡ n = omega arith in sym (fits .list-is) ∙ ap (foundIn f) at ∙ rw e
 
+    -- the flag says that it is a list
     listed : listIn D ≡ true
     listed = sym has-in ∙ so has there
 
+    -- the list ends within its data
     pub list-ends : programsEnd P 0 ≤ length P
     unfolding listIn
     list-ends = leb-true (programsEnd P 0) (length P) (rw data-is at listed)
 
+    -- its programs are the record's
     pub programs-put : recordOf f .listPrograms ≡ programsFrom P 0
     unfolding recordOf
     programs-put = rw (listed, data-is)
 
+    -- its streams are the record's
     pub streams-put : recordOf f .listStreams ≡ streamsFrom P 0
     unfolding recordOf
     streams-put = rw (listed, data-is)
 
+    -- tables 8 and 9 can be filled
     pub list-fillable : Fillable P 0 programs streams
     list-fillable = record {
       ends = list-ends;

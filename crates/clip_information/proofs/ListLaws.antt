@@ -17,6 +17,7 @@ use Rattle.clip_information.specs.Lists.{listRowsOf}
 use Rattle.clip_information.specs.declared.list.ListRows.{ListRows}
 
 module _ (f : List ℕ) (list : ListData) where
+  -- no data is no list
   pub list-none : list ≡ ListData.Absent → ListRows.Absent ≡ listRowsOf (foundIn f list)
   unfolding listRowsOf
   list-none e = rw e
@@ -30,10 +31,12 @@ module _ (f : List ℕ) (list : ListData) where
     part-is : take (s + n - s) (drop s f) ≡ take n (drop s f)
     part-is = let e : s + n - s ≡ n = omega arith in rw e
 
+    -- data that ends within a program is no list
     pub list-past : measured (take (s + n - s) (drop s f)) 0 ≡ Measured.PastEnd → ListRows.Absent ≡ listRowsOf (foundIn f list)
     unfolding listRowsOf listIn
     list-past h = let p = past-end (take n (drop s f)) 0 (rw part-is at h) in rw (at, p)
 
+    -- else its rows are counted
     pub list-rows : (p t e : ℕ) → measured (take (s + n - s) (drop s f)) 0 ≡ Measured.Counts p t e → ListRows.Rows p t ≡ listRowsOf (foundIn f list)
     unfolding listRowsOf listIn
     list-rows p t e h =

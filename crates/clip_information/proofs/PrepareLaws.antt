@@ -39,6 +39,7 @@ pub record SectionsAre (f : List ℕ) (a s p t m e : ℕ) : Type 0 where
   pub entries-are : e ≡ length (clipOf f .entries)
 
 module _ (f : List ℕ) where
+  -- counts are answered for an accepted file
   pub sections-are : (a s p t m e : ℕ) → sectionsOf f ≡ Sections.Counts a s p t m e → SectionsAre f a s p t m e
   unfolding sectionsOf
   sections-are a s p t m e h = go (refusalOf f) refl h
@@ -58,6 +59,7 @@ module _ (f : List ℕ) where
       }
       go (suc r) q h = let g = rw (eqb·suc-zero r) at h in let z : _≡_ {A = ℕ} 0 1 = cc in absurd (omega arith)
 
+  -- a refused section is the answer, whatever is lent
   pub sections-refused : (bytes : Rows) (n : ℕ) → sectionsOf f ≡ Sections.Refused n → refused n ≡ answerFor f bytes
   unfolding sectionsOf answerFor
   sections-refused bytes n h = go (refusalOf f) h
@@ -79,6 +81,7 @@ module _ (f : List ℕ) where
 
 -- ---- the list
 
+-- the programs measured are those of the record
 pub programs-listed : (d : Found) → listPrograms (listRowsOf d) ≡ length (pick (listIn d) (listProgramsOf d) [])
 unfolding listRowsOf listIn
 programs-listed nothing = refl
@@ -88,6 +91,7 @@ programs-listed (found d) = go (listIn (found d))
     go true = refl
     go false = refl
 
+-- and so the streams
 pub streams-listed : (d : Found) → listStreams (listRowsOf d) ≡ length (pick (listIn d) (listStreamsOf d) [])
 unfolding listRowsOf listIn
 streams-listed nothing = refl
@@ -97,6 +101,7 @@ streams-listed (found d) = go (listIn (found d))
     go true = refl
     go false = refl
 
+-- and whether there is a list
 pub list-is-there : (d : Found) → isList (listRowsOf d) ≡ listIn d
 unfolding listRowsOf listIn
 list-is-there nothing = refl
@@ -118,6 +123,7 @@ pub record Passed (f : List ℕ) (a s p t m e start : ℕ) (r : Measured) (secon
   pub ls-is : ls ≡ listStreams second
 
 module _ (f : List ℕ) (bytes : Rows) {a s p t m e start : ℕ} {r : Measured} {second : ListRows} {lp ls : ℕ} (c : Passed f a s p t m e start r second lp ls) where
+  -- the rows measured
   abbrev pub measuredRows : Rows
   measuredRows = record {
     atcs = a;
@@ -131,12 +137,15 @@ module _ (f : List ℕ) (bytes : Rows) {a s p t m e start : ℕ} {r : Measured} 
     «list_streams» = ls;
   }
 
+  -- the data found is that of the list
   list-data : foundIn f (r .list) ≡ listData (extensionsFrom f (extensionsStart f))
   list-data = c .block .list ∙ ap (λ q. listData (extensionsFrom f q)) (c .start-is)
 
+  -- the list measured is that of the file
   list-found : second ≡ listRowsOf (listData (extensionsFrom f (extensionsStart f)))
   list-found = c .second-is ∙ ap listRowsOf list-data
 
+  -- the rows measured are the rows needed
   rows-needed : measuredRows ≡ neededRows f
   unfolding tablesOf recordOf
   rows-needed =
@@ -156,17 +165,21 @@ module _ (f : List ℕ) (bytes : Rows) {a s p t m e start : ℕ} {r : Measured} 
         «list_streams» = lss i;
       }
 
+  -- so the room looked at is the room needed
   room-needed : {q : Room} → q ≡ roomOf measuredRows bytes → roomOf (neededRows f) bytes ≡ q
   room-needed h = ap (λ n. roomOf n bytes) (sym rows-needed) ∙ sym h
 
+  -- a table too short is the answer
   pub room-short : {q : Room} (k n : ℕ) → q ≡ roomOf measuredRows bytes → q ≡ Room.Short k n → tooShort k n ≡ answerFor f bytes
   unfolding answerFor
   room-short k n h g = rw (c .sections .accepts, room-needed h, g)
 
+  -- with room enough the file is accepted
   pub room-enough : {q : Room} → q ≡ roomOf measuredRows bytes → q ≡ Room.Enough → accepted (statedOf f) ≡ answerFor f bytes
   unfolding answerFor
   room-enough h g = rw (c .sections .accepts, room-needed h, g)
 
+  -- and all is ready
   pub made-ready : {q : Room} {has : Bool} → q ≡ roomOf measuredRows bytes → q ≡ Room.Enough → has ≡ isList second → ReadyIs f bytes measuredRows (r .list) has
   unfolding recordOf
   made-ready h g i = record {

@@ -73,6 +73,7 @@ passed : (b : Bool) {later : Room} (k n : ℕ) → pick b later (Room.Short k n)
 passed true k n h = (refl, h)
 passed false k n h = let z : _≡_ {A = ℕ} 0 1 = cc in absurd (omega arith)
 
+-- each test of room passed
 pub room-in-each : (rows bytes : Rows) → roomOf rows bytes ≡ Room.Enough → Room-in-each rows bytes
 unfolding roomOf roomBehind
 room-in-each rows bytes h =
@@ -100,18 +101,22 @@ room-in-each rows bytes h =
 -- ---- what was prepared
 
 module _ (f : List ℕ) (lent : Nine (List ℕ)) {r : Prepared} (p : PreparedIs f (lengthsOf lent) r) where
+  -- the answer that was prepared is the answer of reading
   pub prepared-answer : {q : Prepared} → r ≡ q → preparedAnswer f q ≡ readAnswer f lent
   prepared-answer e = ap (preparedAnswer f) (sym e) ∙ p .answer ∙ answer-lent f lent
 
+  -- what is said to be ready is
   pub prepared-ready : {rows : Rows} {list : ListData} {has : Bool} → r ≡ Prepared.Ready rows list has → ReadyIs f (lengthsOf lent) rows list has
   prepared-ready e = rw e at (p .ready)
 
 -- ---- once all is ready
 
 module _ (f : List ℕ) (lent : Nine (List ℕ)) {rows : Rows} {list : ListData} {has : Bool} (ready : ReadyIs f (lengthsOf lent) rows list has) where
+  -- room in each table for the rows needed
   each : Room-in-each (neededRows f) (lengthsOf lent)
   each = room-in-each (neededRows f) (lengthsOf lent) (ready .room)
 
+  -- tables 1 to 6 can be filled
   pub sections-fit : SectionsFit f (rows .maps) (lent .atcs) (lent .stcs) (lent .programs) (lent .streams) (lent .maps) (lent .entries)
   unfolding tablesOf recordOf
   sections-fit = record {
@@ -125,10 +130,12 @@ module _ (f : List ℕ) (lent : Nine (List ℕ)) {rows : Rows} {list : ListData}
     entries-room = each .entries-room;
   }
 
+  -- table 7 can be filled
   pub extensions-fit : {start : ℕ} → start ≡ extensionsStart f → (length f ≤ 536870912) × (length (extensionRows f start) ≤ rowsLent extensionCells (lent .extensions))
   unfolding tablesOf
   extensions-fit e = (accepted-bounds f (ready .accepts) .0, rw e (each .extensions-room))
 
+  -- tables 8 and 9 can be filled
   pub list-fits : ListFits f list has (lent .listPrograms) (lent .listStreams)
   unfolding tablesOf
   list-fits = record {
@@ -139,6 +146,7 @@ module _ (f : List ℕ) (lent : Nine (List ℕ)) {rows : Rows} {list : ListData}
     streams-room = each .list-streams-room;
   }
 
+  -- the marks can be counted
   pub marks-there : {start : ℕ} → start ≡ marksStart f → MarksThere f start
   marks-there e = record {
     short = accepted-bounds f (ready .accepts) .0;
