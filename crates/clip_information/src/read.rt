@@ -12,7 +12,7 @@ use crate::sections::clip_info;
 use crate::tables::Rows;
 use common::numbers::u32_at;
 
-// What is stated of an accepted file beside its rows: the scalars, the number of marks, the rows of each table, and whether it has a (2, 5) list.
+// What is stated of an accepted file beside its rows: the scalars, the number of marks, the rows of each table, and whether it has a (2, 5) list; or a refusal's number; or the lowest table that is too short and the rows it needs.
 pub enum Answer {
     Accepted {
         info: ClipInfo,
