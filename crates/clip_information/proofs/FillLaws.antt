@@ -14,7 +14,7 @@ use Rattle.format.specs.EntryPoints.{cpiIn, mapsIn, mapsFrom, mapCount, mapAt, 
 use Rattle.format.specs.Extensions.{Found, nothing, found, extensionsFrom, listData, listIn, listProgramsOf, listStreamsOf}
 use Rattle.format.specs.Reading.{clipOf, recordOf}
 use Rattle.format.specs.Refusals.{refusalOf}
-use Rattle.format.specs.Tables.{tableBytes, overwritten, rowsLent, programCells, streamCells}
+use Rattle.format.specs.Tables.{tableBytes, overwritten, rowRoom, programCells, streamCells}
 use Rattle.format.proofs.Rows.{rows-length}
 use Rattle.extension.specs.Block.{foundIn, listEnd}
 use Rattle.extension.specs.declared.ListData.{ListData}

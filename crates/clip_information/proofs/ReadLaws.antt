@@ -12,7 +12,7 @@ use Rattle.format.specs.ClipRecord.{Row, extensionsStart, marksStart, marksFrom
 use Rattle.format.specs.Extensions.{extensionRows}
 use Rattle.format.specs.Reading.{clipOf, recordOf}
 use Rattle.format.specs.Refusals.{ReadAnswer, refused, tooShort, accepted, refusalOf, tablesOf, statedOf, tablesAnswer, readAnswer}
-use Rattle.format.specs.Tables.{Nine, rowsLent, atcCells, stcCells, programCells, streamCells, mapCells, entryCells, extensionCells}
+use Rattle.format.specs.Tables.{Nine, rowRoom, atcCells, stcCells, programCells, streamCells, mapCells, entryCells, extensionCells}
 use Rattle.extension.specs.declared.ListData.{ListData}
 use Rattle.clip_information.specs.Clips.{clipInfoOf}
 use Rattle.clip_information.specs.Room.{roomOf, roomBehind}
@@ -30,15 +30,15 @@ use Rattle.clip_information.proofs.FillLaws.{sound}
 -- ---- the answer
 
 -- the lowest table that is too short gives the answer
-pub answer-lent : (f : List ℕ) (lent : Nine (List ℕ)) → answerFor f (lengthsOf lent) ≡ readAnswer f lent
+pub answer-tables : (f : List ℕ) (tables : Nine (List ℕ)) → answerFor f (lengthsOf tables) ≡ readAnswer f tables
 unfolding answerFor readAnswer tablesAnswer roomOf roomBehind
-answer-lent f lent =
+answer-tables f tables =
     let rows = tablesOf f in
     ap (λ a. pick (eqb (refusalOf f) 0) a (refused (refusalOf f)))
     (go (length (rows .atcs)) (length (rows .stcs)) (length (rows .programs)) (length (rows .streams)) (length (rows .maps)) (length (rows .entries)) (length (rows .extensions)) (length (rows .listPrograms)) (length (rows .listStreams))
-    (leb (length (rows .atcs)) (rowsLent atcCells (lent .atcs))) (leb (length (rows .stcs)) (rowsLent stcCells (lent .stcs))) (leb (length (rows .programs)) (rowsLent programCells (lent .programs)))
-    (leb (length (rows .streams)) (rowsLent streamCells (lent .streams))) (leb (length (rows .maps)) (rowsLent mapCells (lent .maps))) (leb (length (rows .entries)) (rowsLent entryCells (lent .entries)))
-    (leb (length (rows .extensions)) (rowsLent extensionCells (lent .extensions))) (leb (length (rows .listPrograms)) (rowsLent programCells (lent .listPrograms))) (leb (length (rows .listStreams)) (rowsLent streamCells (lent .listStreams))))
+    (leb (length (rows .atcs)) (rowRoom atcCells (tables .atcs))) (leb (length (rows .stcs)) (rowRoom stcCells (tables .stcs))) (leb (length (rows .programs)) (rowRoom programCells (tables .programs)))
+    (leb (length (rows .streams)) (rowRoom streamCells (tables .streams))) (leb (length (rows .maps)) (rowRoom mapCells (tables .maps))) (leb (length (rows .entries)) (rowRoom entryCells (tables .entries)))
+    (leb (length (rows .extensions)) (rowRoom extensionCells (tables .extensions))) (leb (length (rows .listPrograms)) (rowRoom programCells (tables .listPrograms))) (leb (length (rows .listStreams)) (rowRoom streamCells (tables .listStreams))))
   where
     go : (m n o p q r s t u : ℕ) (a b c d e g h i j : Bool)
         → roomAnswer f (pick a (pick b (pick c (pick d (pick e (pick g (pick h (pick i (pick j Room.Enough (Room.Short 9 u)) (Room.Short 8 t)) (Room.Short 7 s)) (Room.Short 6 r)) (Room.Short 5 q)) (Room.Short 4 p)) (Room.Short 3 o)) (Room.Short 2 n)) (Room.Short 1 m))
@@ -100,24 +100,24 @@ room-in-each rows bytes h =
 
 -- ---- what was prepared
 
-module _ (f : List ℕ) (lent : Nine (List ℕ)) {r : Prepared} (p : PreparedIs f (lengthsOf lent) r) where
+module _ (f : List ℕ) (tables : Nine (List ℕ)) {r : Prepared} (p : PreparedIs f (lengthsOf tables) r) where
   -- the answer that was prepared is the answer of reading
-  pub prepared-answer : {q : Prepared} → r ≡ q → preparedAnswer f q ≡ readAnswer f lent
-  prepared-answer e = ap (preparedAnswer f) (sym e) ∙ p .answer ∙ answer-lent f lent
+  pub prepared-answer : {q : Prepared} → r ≡ q → preparedAnswer f q ≡ readAnswer f tables
+  prepared-answer e = ap (preparedAnswer f) (sym e) ∙ p .answer ∙ answer-tables f tables
 
   -- what is said to be ready is
-  pub prepared-ready : {rows : Rows} {list : ListData} {has : Bool} → r ≡ Prepared.Ready rows list has → ReadyIs f (lengthsOf lent) rows list has
+  pub prepared-ready : {rows : Rows} {list : ListData} {has : Bool} → r ≡ Prepared.Ready rows list has → ReadyIs f (lengthsOf tables) rows list has
   prepared-ready e = rw e at (p .ready)
 
 -- ---- once all is ready
 
-module _ (f : List ℕ) (lent : Nine (List ℕ)) {rows : Rows} {list : ListData} {has : Bool} (ready : ReadyIs f (lengthsOf lent) rows list has) where
+module _ (f : List ℕ) (tables : Nine (List ℕ)) {rows : Rows} {list : ListData} {has : Bool} (ready : ReadyIs f (lengthsOf tables) rows list has) where
   -- room in each table for the rows needed
-  each : Room-in-each (neededRows f) (lengthsOf lent)
-  each = room-in-each (neededRows f) (lengthsOf lent) (ready .room)
+  each : Room-in-each (neededRows f) (lengthsOf tables)
+  each = room-in-each (neededRows f) (lengthsOf tables) (ready .room)
 
   -- tables 1 to 6 can be filled
-  pub sections-fit : SectionsFit f (rows .maps) (lent .atcs) (lent .stcs) (lent .programs) (lent .streams) (lent .maps) (lent .entries)
+  pub sections-fit : SectionsFit f (rows .maps) (tables .atcs) (tables .stcs) (tables .programs) (tables .streams) (tables .maps) (tables .entries)
   unfolding tablesOf recordOf
   sections-fit = record {
     accepts = ready .accepts;
@@ -131,12 +131,12 @@ module _ (f : List ℕ) (lent : Nine (List ℕ)) {rows : Rows} {list : ListData}
   }
 
   -- table 7 can be filled
-  pub extensions-fit : {start : ℕ} → start ≡ extensionsStart f → (length f ≤ 536870912) × (length (extensionRows f start) ≤ rowsLent extensionCells (lent .extensions))
+  pub extensions-fit : {start : ℕ} → start ≡ extensionsStart f → (length f ≤ 536870912) × (length (extensionRows f start) ≤ rowRoom extensionCells (tables .extensions))
   unfolding tablesOf
   extensions-fit e = (accepted-bounds f (ready .accepts) .0, rw e (each .extensions-room))
 
   -- tables 8 and 9 can be filled
-  pub list-fits : ListFits f list has (lent .listPrograms) (lent .listStreams)
+  pub list-fits : ListFits f list has (tables .listPrograms) (tables .listStreams)
   unfolding tablesOf
   list-fits = record {
     list-is = ready .list-is;

@@ -10,8 +10,8 @@ use Rattle.clip_information.specs.declared.tables.Rows.{Rows}
 use Rattle.clip_information.specs.declared.read.Answer.{Answer}
 
 -- the nine lent tables
-abbrev pub lentBy : (atcs stcs programs streams maps entries extensions listPrograms listStreams : List ℕ) → Nine (List ℕ)
-lentBy t1 t2 t3 t4 t5 t6 t7 t8 t9 = record {
+abbrev pub nineTables : (atcs stcs programs streams maps entries extensions listPrograms listStreams : List ℕ) → Nine (List ℕ)
+nineTables t1 t2 t3 t4 t5 t6 t7 t8 t9 = record {
   atcs = t1;
   stcs = t2;
   programs = t3;
@@ -25,16 +25,16 @@ lentBy t1 t2 t3 t4 t5 t6 t7 t8 t9 = record {
 
 -- their lengths in bytes
 abbrev pub lengthsOf : Nine (List ℕ) → Rows
-lengthsOf lent = record {
-  atcs = length (lent .atcs);
-  stcs = length (lent .stcs);
-  programs = length (lent .programs);
-  streams = length (lent .streams);
-  maps = length (lent .maps);
-  entries = length (lent .entries);
-  extensions = length (lent .extensions);
-  «list_programs» = length (lent .listPrograms);
-  «list_streams» = length (lent .listStreams);
+lengthsOf tables = record {
+  atcs = length (tables .atcs);
+  stcs = length (tables .stcs);
+  programs = length (tables .programs);
+  streams = length (tables .streams);
+  maps = length (tables .maps);
+  entries = length (tables .entries);
+  extensions = length (tables .extensions);
+  «list_programs» = length (tables .listPrograms);
+  «list_streams» = length (tables .listStreams);
 }
 
 -- the scalars and the nine numbers

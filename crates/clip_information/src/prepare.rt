@@ -7,7 +7,7 @@ use crate::sections::Sections;
 use crate::sections::measure;
 use crate::tables::Room;
 use crate::tables::Rows;
-use crate::tables::lent_room;
+use crate::tables::table_room;
 use common::numbers::u32_at;
 use extension::ListData;
 
@@ -92,7 +92,7 @@ pub(crate) fn prepare(file: &[u8], bytes: Rows) -> Prepared
                 list_programs: list_programs(second),
                 list_streams: list_streams(second),
             };
-            match lent_room(rows, bytes) {
+            match table_room(rows, bytes) {
                 Room::Short {
                     table,
                     rows: needed,

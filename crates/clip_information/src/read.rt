@@ -1,7 +1,7 @@
 // A clip file read into nine lent tables.
 ghost use mathlib.Core.Path.{_≡_};
 ghost use Rattle.format.specs.Refusals.{readAnswer, tablesOf, tableBy};
-ghost use Rattle.clip_information.specs.Read.{answerOf, lentBy};
+ghost use Rattle.clip_information.specs.Read.{answerOf, nineTables};
 use crate::fill::fill_list;
 use crate::fill::fill_sections;
 use crate::fill::mark_count;
@@ -40,7 +40,7 @@ pub fn read(
     programs2: &mut [u8],
     streams2: &mut [u8],
 ) -> Answer
-    ensures { λ r. ⌜ answerOf r ≡ readAnswer (now (file .entry)) (lentBy (now (atcs .entry)) (now (stcs .entry)) (now (programs .entry)) (now (streams .entry)) (now (maps .entry)) (now (entries .entry)) (now (extensions .entry)) (now (programs2 .entry)) (now (streams2 .entry))) ⌝ }
+    ensures { λ r. ⌜ answerOf r ≡ readAnswer (now (file .entry)) (nineTables (now (atcs .entry)) (now (stcs .entry)) (now (programs .entry)) (now (streams .entry)) (now (maps .entry)) (now (entries .entry)) (now (extensions .entry)) (now (programs2 .entry)) (now (streams2 .entry))) ⌝ }
     ensures { λ r. ⌜ now (atcs .exit) ≡ tableBy (answerOf r) (tablesOf (now (file .entry)) .atcs) (now (atcs .entry)) ⌝ }
     ensures { λ r. ⌜ now (stcs .exit) ≡ tableBy (answerOf r) (tablesOf (now (file .entry)) .stcs) (now (stcs .entry)) ⌝ }
     ensures { λ r. ⌜ now (programs .exit) ≡ tableBy (answerOf r) (tablesOf (now (file .entry)) .programs) (now (programs .entry)) ⌝ }

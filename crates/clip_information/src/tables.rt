@@ -53,7 +53,7 @@ fn room_behind(rows: Rows, bytes: Rows) -> Room
 }
 
 // The rows needed of each table beside the bytes lent, lowest table first.
-pub fn lent_room(rows: Rows, bytes: Rows) -> Room
+pub fn table_room(rows: Rows, bytes: Rows) -> Room
     ensures { λ r. ⌜ r ≡ roomOf rows bytes ⌝ }
 {
     if bytes.atcs / 12 < rows.atcs {

@@ -12,7 +12,7 @@ use borrow.Author.Tests.{leb-true, ltb-true}
 use Rattle.format.specs.Bytes.{pick, both, every, beAt, rowsAt, gather, total}
 use Rattle.format.specs.ClipRecord.{Row, entryCount, present}
 use Rattle.format.specs.EntryPoints.{coarseAt, fineAt, nextCoarse, nextFine, mapTypeAt, coarseCountAt, fineCountAt, mapAt, nextMap, bodyAt, fineStart, coarseFor, entryOf, entriesFor, entriesOf, cpiEnd, hasMaps, mapCount, mapsFrom, entriesFrom, cpiLengthIn, mapHeadersIn, cpiIn, addressIn, coarseRowsIn, fineAddressIn, fineRowsIn, mapIn, mapsIn}
-use Rattle.format.specs.Tables.{cellBytes, rowBytes, tableBytes, rowsLent, overwritten, mapCells, entryCells}
+use Rattle.format.specs.Tables.{cellBytes, rowBytes, tableBytes, rowRoom, overwritten, mapCells, entryCells}
 use Rattle.format.proofs.Tests.{both-true, split-both}
 use Rattle.format.proofs.Lists.{All, none, more}
 use Rattle.format.proofs.Rows.{rows-length, rows-all, gather-adds, flat-length, all-rows}

@@ -6,7 +6,7 @@ use mathlib.Core.Bool.{true}
 use lib.ListN.{length}
 use Rattle.format.specs.Bytes.{pick, beAt}
 use Rattle.format.specs.EntryPoints.{cpiEnd, hasMaps, mapCount, cpiIn, mapIn, mapsIn, fineCountAt, mapsFrom, entriesFrom}
-use Rattle.format.specs.Tables.{rowsLent, mapCells, entryCells}
+use Rattle.format.specs.Tables.{rowRoom, mapCells, entryCells}
 use Rattle.cpi.specs.declared.maps.Head.{Head}
 use Rattle.cpi.specs.declared.maps.MapRows.{MapRows}
 use Rattle.cpi.specs.declared.maps.Measured.{Measured}
@@ -57,5 +57,5 @@ pub record Fill (f : List ℕ) (c count : ℕ) (maps entries : List ℕ) : Type 
   pub counted : count ≡ mapCount f c
   pub head-in : cpiIn f c ≡ true
   pub maps-in : mapsIn f c ≡ true
-  pub maps-room : length (mapsFrom f c) ≤ rowsLent mapCells maps
-  pub entries-room : length (entriesFrom f c) ≤ rowsLent entryCells entries
+  pub maps-room : length (mapsFrom f c) ≤ rowRoom mapCells maps
+  pub entries-room : length (entriesFrom f c) ≤ rowRoom entryCells entries

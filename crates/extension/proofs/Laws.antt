@@ -13,7 +13,7 @@ use borrow.Author.Tests.{eq-eqb, ne-eqb, le-leb, lt-leb, lt-ltb, le-ltb, leb-tru
 use Rattle.format.specs.Bytes.{IsBytes, both, pick, unless, beAt, gather}
 use Rattle.format.specs.ClipRecord.{Row}
 use Rattle.format.specs.Extensions.{blockLength, blockEnd, extensionCount, addressAt, dataLengthAt, nextExtension, extensionAt, isKept, keptAt, hasExtensions, extensionRows, extensionsFrom, dataIn, dataStart, dataLength, Found, nothing, found, listData}
-use Rattle.format.specs.Tables.{cellBytes, rowBytes, tableBytes, rowsLent, overwritten, Table, isStated, extensionCells}
+use Rattle.format.specs.Tables.{cellBytes, rowBytes, tableBytes, rowRoom, overwritten, Table, isStated, extensionCells}
 use Rattle.format.specs.Refusals.{extensionRow, dataRefusal, dataAsked}
 use Rattle.format.proofs.Tests.{both-true}
 use Rattle.format.proofs.Lists.{All, none, more}
@@ -384,7 +384,7 @@ module _ (f : List ℕ) (start n : ℕ) where
   table-bytes : length (tableBytes (rowsIn f start n)) ≡ 16 * length (rowsIn f start n)
   table-bytes = flat-length 16 rowBytes (gather-all (keptAt f start) nextExtension kept-bytes (start + 12) n)
 
-  module _ (t : List ℕ) (is : extensionRows f start ≡ rowsIn f start n) (h : length (extensionRows f start) ≤ rowsLent extensionCells t) where
+  module _ (t : List ℕ) (is : extensionRows f start ≡ rowsIn f start n) (h : length (extensionRows f start) ≤ rowRoom extensionCells t) where
     -- a table with room for the rows has room for their bytes
     pub table-room : length (tableBytes (rowsIn f start n)) ≤ length t
     table-room = omega (arith, table-bytes, rw is at h)
@@ -406,15 +406,15 @@ module _ (f : List ℕ) (t : Table) (k : ℕ) where
   refused h = record { same = rw h; inside = omega arith }
 
   -- more rows are stated than lent
-  pub not-stated : rowsLent extensionCells (t .bytes) < t .rows → PartIs f t k Part.Refused
+  pub not-stated : rowRoom extensionCells (t .bytes) < t .rows → PartIs f t k Part.Refused
   unfolding dataRefusal
-  not-stated h = refused (rw (lt-leb (t .rows) (rowsLent extensionCells (t .bytes)) h))
+  not-stated h = refused (rw (lt-leb (t .rows) (rowRoom extensionCells (t .bytes)) h))
 
-  module _ (stated : t .rows ≤ rowsLent extensionCells (t .bytes)) where
+  module _ (stated : t .rows ≤ rowRoom extensionCells (t .bytes)) where
     -- the row is not one of them
     pub no-row : t .rows ≤ k → PartIs f t k Part.Refused
     unfolding dataRefusal
-    no-row h = refused (rw (le-leb (t .rows) (rowsLent extensionCells (t .bytes)) stated, le-ltb k (t .rows) h))
+    no-row h = refused (rw (le-leb (t .rows) (rowRoom extensionCells (t .bytes)) stated, le-ltb k (t .rows) h))
 
     module _ {start len : ℕ} (row : k < t .rows) (s : CellIs (t .bytes) (16 * k + 8) start) (l : CellIs (t .bytes) (16 * k + 12) len) where
       -- the two cells say where the data stands
@@ -431,7 +431,7 @@ module _ (f : List ℕ) (t : Table) (k : ℕ) where
       outside h =
           refused
           (rw (
-            le-leb (t .rows) (rowsLent extensionCells (t .bytes)) stated,
+            le-leb (t .rows) (rowRoom extensionCells (t .bytes)) stated,
             lt-ltb k (t .rows) row,
             lt-leb (dataStart (extensionRow t k) + dataLength (extensionRow t k)) (length f) (rw (start-is, len-is) at h),
           ))
@@ -442,7 +442,7 @@ module _ (f : List ℕ) (t : Table) (k : ℕ) where
       within h = record {
         same =
             rw (
-              le-leb (t .rows) (rowsLent extensionCells (t .bytes)) stated,
+              le-leb (t .rows) (rowRoom extensionCells (t .bytes)) stated,
               lt-ltb k (t .rows) row,
               le-leb (dataStart (extensionRow t k) + dataLength (extensionRow t k)) (length f) (rw (start-is, len-is) at h),
               start-is,

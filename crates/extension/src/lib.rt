@@ -5,7 +5,7 @@ ghost use lib.ListN.{length};
 ghost use lib.Seq.{sets};
 ghost use Rattle.format.specs.Extensions.{extensionRows, extensionsFrom};
 ghost use Rattle.format.specs.Refusals.{dataRefusal, dataAsked};
-ghost use Rattle.format.specs.Tables.{tableBytes, rowsLent, overwritten, extensionCells};
+ghost use Rattle.format.specs.Tables.{tableBytes, rowRoom, overwritten, extensionCells};
 ghost use Rattle.extension.specs.Block.{headOf, Block, InBlock, EntryIs, entryRows, entryList, orList, rowsIn, extensionsIn, MeasuredIs, PutIs};
 ghost use Rattle.extension.specs.Part.{tableOf, PartIs};
 use common::cells::cell_at;
@@ -239,7 +239,7 @@ fn fill_entries(file: &[u8], start: usize, n: usize, end: usize, table: &mut [u8
 
 // The storing pass: table 7, in a table that `measure` found long enough.
 pub fn fill(file: &[u8], start: usize, table: &mut [u8])
-    requires { ⌜ (length (now file) ≤ 536870912) × (length (extensionRows (now file) start) ≤ rowsLent extensionCells (now table)) ⌝ }
+    requires { ⌜ (length (now file) ≤ 536870912) × (length (extensionRows (now file) start) ≤ rowRoom extensionCells (now table)) ⌝ }
     ensures { λ _. ⌜ now (table .exit) ≡ overwritten (tableBytes (extensionRows (now (file .entry)) start)) (now (table .entry)) ⌝ }
 {
     let Head::Entries { n, end } = head_at(file, start) else {

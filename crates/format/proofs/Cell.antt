@@ -6,7 +6,7 @@ use native.Mathlib.Nat.{add-zero, mul-zero, mul-suc, suc-mul, mul-assoc, mul-com
 use native.Mathlib.Omega.{arith}
 use lib.ListN.{length, getD}
 use Rattle.format.specs.Bytes.{rowsAt}
-use Rattle.format.specs.Tables.{cellAt, cellsAt, tableRows, rowsLent}
+use Rattle.format.specs.Tables.{cellAt, cellsAt, tableRows, rowRoom}
 
 -- item k of items that stand w apart from p
 item-at : {A : Type 0} (row : ℕ → A) (none : A) (w p n k : ℕ) → k < n → getD (rowsAt row (λ q. q + w) p n) k none ≡ row (p + w * k)
@@ -31,7 +31,7 @@ module _ (cells : ℕ) (t : List ℕ) (n k j : ℕ) (row : k < n) (cell : j < ce
       ∙ sym (ap (λ (cs : List ℕ). getD cs j 0) (item-at (cellsAt t cells) [] (4 * cells) 0 n k row))
 
   -- the cell's four bytes lie inside a table that has room for the rows
-  pub cell-room : n ≤ rowsLent cells t → 4 * (cells * k + j) + 4 ≤ length t
+  pub cell-room : n ≤ rowRoom cells t → 4 * (cells * k + j) + 4 ≤ length t
   cell-room h =
       let some : 0 < 4 * cells = omega arith in
       let upto : suc k * (4 * cells) ≤ length t = le-trans (mul-le-mul-right (4 * cells) row) (le-div-iff-mul-le some .0 h) in

@@ -20,5 +20,5 @@ pub mod Read
 pub mod Write
 pub mod Whole
 pub mod Maker
-pub mod Lent
+pub mod ClipTables
 pub mod Rounding

@@ -12,7 +12,7 @@ use lib.Dec.{leb}
 use borrow.Author.Tests.{leb-true, le-leb, lt-leb}
 use Rattle.format.specs.Bytes.{pick, beAt, rowsAt, gather, endOf}
 use Rattle.format.specs.ClipRecord.{Row}
-use Rattle.format.specs.Tables.{cellBytes, rowBytes, tableBytes, rowsLent, overwritten}
+use Rattle.format.specs.Tables.{cellBytes, rowBytes, tableBytes, rowRoom, overwritten}
 use Rattle.format.proofs.Lists.{All, all-map}
 use Rattle.format.proofs.Cells.{low-length}
 use Rattle.format.proofs.Rows.{all-rows, rows-length, rows-all, flat-length}
@@ -140,7 +140,7 @@ pub record Filling (items : ℕ → ℕ → List Row) (t₀ whole t : List ℕ) 
 
 -- rows that a table has room for, before the first is stored
 pub filling-front : (cells : ℕ) (items : ℕ → ℕ → List Row) {rows : List Row} (t : List ℕ) {p n : ℕ} → 0 < cells → HaveCells cells rows
-    → length rows ≤ rowsLent cells t → items p n ≡ rows → Filling items t (overwritten (tableBytes rows) t) t 0 p n 0
+    → length rows ≤ rowRoom cells t → items p n ≡ rows → Filling items t (overwritten (tableBytes rows) t) t 0 p n 0
 filling-front cells items {rows} t {p} {n} pos have room e =
     let some : 0 < 4 * cells = omega arith in
     let fits : length (tableBytes rows) ≤ length t =

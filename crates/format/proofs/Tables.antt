@@ -11,7 +11,7 @@ use lib.Pow.{pow-mono}
 use borrow.Author.Tests.{le-leb}
 use Rattle.format.specs.Bytes.{rowsAt}
 use Rattle.format.specs.ClipRecord.{Row}
-use Rattle.format.specs.Tables.{lowBytes, cellAt, cellBytes, rowBytes, tableBytes, cellsAt, tableRows, rowsLent, Table, isStated, rowsOf}
+use Rattle.format.specs.Tables.{lowBytes, cellAt, cellBytes, rowBytes, tableBytes, cellsAt, tableRows, rowRoom, Table, isStated, rowsOf}
 use Rattle.format.proofs.Lists.{All, none, more, all-map}
 use Rattle.format.proofs.Fields.{Fit, one}
 use Rattle.format.proofs.Numbers.{Stands, moved}
@@ -56,7 +56,7 @@ table-back cells {rows} h beyond =
 
 -- there is room for what stands there
 pub table-room : (cells : ℕ) {rows : List Row} → 0 < cells → All (Cells cells) rows → (beyond : List ℕ)
-    → length rows ≤ rowsLent cells (tableBytes rows ++ beyond)
+    → length rows ≤ rowRoom cells (tableBytes rows ++ beyond)
 table-room cells {rows} pos h beyond =
     let l = table-length h in
     let e = length-append (tableBytes rows) beyond in

@@ -11,7 +11,7 @@ use Rattle.format.specs.Bytes.{both, either, pick, every, total}
 use Rattle.format.specs.Ticks.{Ticks45, Ticks90, doubled, less45, less90, minutes}
 use Rattle.format.specs.ClipRecord.{Row, Clip, atcStcCount, offsetId, stcPacket, stcStart, stcEnd, streamPid, codingType, mapPid, mapType, entryCount, time, entryTime}
 use Rattle.format.specs.Programs.{isVideo}
-use Rattle.format.specs.Tables.{Lent, isStated, addUp, isRow, clipIn, HoldsRows, atcCells, stcCells, streamCells, mapCells, entryCells}
+use Rattle.format.specs.Tables.{ClipTables, isStated, addUp, isRow, clipIn, HoldsRows, atcCells, stcCells, streamCells, mapCells, entryCells}
 
 -- every question with its arguments, and what it answers. Rows are counted from 0, entries within their map, STCs through all ATCs.
 -- A caller's 90 kHz time has 32 bits for entry lookups and 64 elsewhere; the answers here hold for any number
@@ -283,7 +283,7 @@ partsOf transferDurationSecs = scalars ∷ []
 partsOf (minutesRemaining at) = stcs ∷ []
 
 -- in a part that is lent, not more rows are stated than lent, else 22
-abbrev pub partStated : Lent → Part → Bool
+abbrev pub partStated : ClipTables → Part → Bool
 partStated l scalars = true
 partStated l atcs = isStated atcCells (l .atcs)
 partStated l stcs = isStated stcCells (l .stcs)
@@ -291,11 +291,11 @@ partStated l streams = isStated streamCells (l .streams)
 partStated l maps = isStated mapCells (l .maps)
 partStated l entries = isStated entryCells (l .entries)
 
-unfoldable pub ask : Question → Lent → Answer
+unfoldable pub ask : Question → ClipTables → Answer
 ask question l = unless22 (every (partStated l) (partsOf question)) (answer question (clipIn l))
 
 -- a part that holds what the record has there, with anything beyond its rows
-abbrev pub HoldsPart : Lent → Clip → Part → Type 0
+abbrev pub HoldsPart : ClipTables → Clip → Part → Type 0
 HoldsPart l c scalars = l .scalars ≡ c .scalars
 HoldsPart l c atcs = HoldsRows (l .atcs) (c .atcs)
 HoldsPart l c stcs = HoldsRows (l .stcs) (c .stcs)

@@ -10,7 +10,7 @@ use Rattle.format.specs.Programs.{isVideo, programsEnd}
 use Rattle.format.specs.EntryPoints.{cpiIn, mapsIn}
 use Rattle.format.specs.Extensions.{extensionRows, dataOf, dataIn}
 use Rattle.format.specs.Reading.{recordOf}
-use Rattle.format.specs.Tables.{Nine, tableBytes, rowsLent, overwritten, Table, isStated, addUp, rowsOf, Lent, clipIn, atcCells, stcCells, programCells, streamCells, mapCells, entryCells, extensionCells}
+use Rattle.format.specs.Tables.{Nine, tableBytes, rowRoom, overwritten, Table, isStated, addUp, rowsOf, ClipTables, clipIn, atcCells, stcCells, programCells, streamCells, mapCells, entryCells, extensionCells}
 use Rattle.format.specs.Rewriting.{runs, encode}
 
 -- ---- reading a file: 20, 1 (8 bytes), 2, 1 (40 bytes), 3 to 8
@@ -81,24 +81,24 @@ pub data ReadAnswer : Type 0 where
 
 -- 21 where table k has not the room, else what the later tables answer
 abbrev pub unlessShort : (k cells : ℕ) → List Row → List ℕ → ReadAnswer → ReadAnswer
-unlessShort k cells rows t later = pick (leb (length rows) (rowsLent cells t)) later (tooShort k (length rows))
+unlessShort k cells rows t later = pick (leb (length rows) (rowRoom cells t)) later (tooShort k (length rows))
 
 -- the lowest table that is too short, or success
 unfoldable pub tablesAnswer : List ℕ → Nine (List ℕ) → ReadAnswer
-tablesAnswer f lent =
+tablesAnswer f tables =
     let rows = tablesOf f in
-    unlessShort 1 atcCells (rows .atcs) (lent .atcs)
-    (unlessShort 2 stcCells (rows .stcs) (lent .stcs)
-    (unlessShort 3 programCells (rows .programs) (lent .programs)
-    (unlessShort 4 streamCells (rows .streams) (lent .streams)
-    (unlessShort 5 mapCells (rows .maps) (lent .maps)
-    (unlessShort 6 entryCells (rows .entries) (lent .entries)
-    (unlessShort 7 extensionCells (rows .extensions) (lent .extensions)
-    (unlessShort 8 programCells (rows .listPrograms) (lent .listPrograms)
-    (unlessShort 9 streamCells (rows .listStreams) (lent .listStreams) (accepted (statedOf f))))))))))
+    unlessShort 1 atcCells (rows .atcs) (tables .atcs)
+    (unlessShort 2 stcCells (rows .stcs) (tables .stcs)
+    (unlessShort 3 programCells (rows .programs) (tables .programs)
+    (unlessShort 4 streamCells (rows .streams) (tables .streams)
+    (unlessShort 5 mapCells (rows .maps) (tables .maps)
+    (unlessShort 6 entryCells (rows .entries) (tables .entries)
+    (unlessShort 7 extensionCells (rows .extensions) (tables .extensions)
+    (unlessShort 8 programCells (rows .listPrograms) (tables .listPrograms)
+    (unlessShort 9 streamCells (rows .listStreams) (tables .listStreams) (accepted (statedOf f))))))))))
 
 unfoldable pub readAnswer : List ℕ → Nine (List ℕ) → ReadAnswer
-readAnswer f lent = pick (eqb (refusalOf f) 0) (tablesAnswer f lent) (refused (refusalOf f))
+readAnswer f tables = pick (eqb (refusalOf f) 0) (tablesAnswer f tables) (refused (refusalOf f))
 
 -- a lent table afterwards: its rows at its front and beyond them what it held; a refusal changes nothing
 abbrev pub tableBy : ReadAnswer → List Row → List ℕ → List ℕ
@@ -108,19 +108,19 @@ tableBy (accepted s) rows t = overwritten (tableBytes rows) t
 
 -- all nine
 unfoldable pub tablesAfter : List ℕ → Nine (List ℕ) → Nine (List ℕ)
-tablesAfter f lent =
-    let answer = readAnswer f lent in
+tablesAfter f tables =
+    let answer = readAnswer f tables in
     let rows = tablesOf f in
     record {
-      atcs = tableBy answer (rows .atcs) (lent .atcs);
-      stcs = tableBy answer (rows .stcs) (lent .stcs);
-      programs = tableBy answer (rows .programs) (lent .programs);
-      streams = tableBy answer (rows .streams) (lent .streams);
-      maps = tableBy answer (rows .maps) (lent .maps);
-      entries = tableBy answer (rows .entries) (lent .entries);
-      extensions = tableBy answer (rows .extensions) (lent .extensions);
-      listPrograms = tableBy answer (rows .listPrograms) (lent .listPrograms);
-      listStreams = tableBy answer (rows .listStreams) (lent .listStreams);
+      atcs = tableBy answer (rows .atcs) (tables .atcs);
+      stcs = tableBy answer (rows .stcs) (tables .stcs);
+      programs = tableBy answer (rows .programs) (tables .programs);
+      streams = tableBy answer (rows .streams) (tables .streams);
+      maps = tableBy answer (rows .maps) (tables .maps);
+      entries = tableBy answer (rows .entries) (tables .entries);
+      extensions = tableBy answer (rows .extensions) (tables .extensions);
+      listPrograms = tableBy answer (rows .listPrograms) (tables .listPrograms);
+      listStreams = tableBy answer (rows .listStreams) (tables .listStreams);
     }
 
 -- 01's numbers of an answer: the refusal, the table and the rows it needs, the scalars, the mark count, nine row counts, whether there is a list.
@@ -227,7 +227,7 @@ writeRefusal c = unless (countsAdd c) 22 (unless (cellsFit c) 30 (unless (runsFi
 -- ---- writing from lent tables into a lent output
 
 -- not more rows are stated than lent, else 22
-unfoldable pub allStated : Lent → Bool
+unfoldable pub allStated : ClipTables → Bool
 allStated l =
     both (isStated atcCells (l .atcs))
     (both (isStated stcCells (l .stcs))
@@ -248,7 +248,7 @@ writtenIn needed room = pick (leb needed room) (written needed) (tooShort needed
 abbrev pub unlessRefused : ℕ → WriteAnswer → WriteAnswer
 unlessRefused refusal later = pick (eqb refusal 0) later (refused refusal)
 
-unfoldable pub writeAnswer : Lent → List ℕ → WriteAnswer
+unfoldable pub writeAnswer : ClipTables → List ℕ → WriteAnswer
 writeAnswer l out =
     unlessRefused (unless (allStated l) 22 (writeRefusal (clipIn l))) (writtenIn (length (encode (clipIn l))) (length out))
 
@@ -264,5 +264,5 @@ outputBy (refused n) new out = out
 outputBy (tooShort n) new out = out
 outputBy (written n) new out = overwritten new out
 
-unfoldable pub outputAfter : Lent → List ℕ → List ℕ
+unfoldable pub outputAfter : ClipTables → List ℕ → List ℕ
 outputAfter l out = outputBy (writeAnswer l out) (encode (clipIn l)) out

@@ -43,8 +43,8 @@ unfoldable pub tableRows : ℕ → List ℕ → ℕ → List Row
 tableRows cells t n = rowsAt (cellsAt t cells) (λ p. p + 4 * cells) 0 n
 
 -- how many whole rows a table has room for
-abbrev pub rowsLent : ℕ → List ℕ → ℕ
-rowsLent cells t = length t / (4 * cells)
+abbrev pub rowRoom : ℕ → List ℕ → ℕ
+rowRoom cells t = length t / (4 * cells)
 
 -- a table or an output after new bytes were put at its front: what stands beyond them keeps its values
 abbrev pub overwritten : List ℕ → List ℕ → List ℕ
@@ -94,7 +94,7 @@ pub record Table : Type 0 where
 
 -- not more rows are stated than lent, else 22
 abbrev pub isStated : ℕ → Table → Bool
-isStated cells t = leb (t .rows) (rowsLent cells (t .bytes))
+isStated cells t = leb (t .rows) (rowRoom cells (t .bytes))
 
 -- the counts of the headers add up to the rows, else 22
 abbrev pub addUp : (Row → ℕ) → List Row → List Row → Bool
@@ -108,7 +108,7 @@ abbrev pub rowsOf : ℕ → Table → List Row
 rowsOf cells t = tableRows cells (t .bytes) (t .rows)
 
 -- a record handed over as scalars and tables 1 to 6
-pub record Lent : Type 0 where
+pub record ClipTables : Type 0 where
   pub scalars : Scalars
   pub atcs : Table
   pub stcs : Table
@@ -118,7 +118,7 @@ pub record Lent : Type 0 where
   pub entries : Table
 
 -- the record that they hold: the stated rows, and nothing beyond them
-unfoldable pub clipIn : Lent → Clip
+unfoldable pub clipIn : ClipTables → Clip
 clipIn l = record {
   scalars = l .scalars;
   atcs = rowsOf atcCells (l .atcs);
@@ -137,7 +137,7 @@ pub record HoldsRows (t : Table) (rows : List Row) : Type 0 where
   pub beyond : List ℕ
   pub bytes : t .bytes ≡ tableBytes rows ++ beyond
 
-pub record HoldsClip (l : Lent) (c : Clip) : Type 0 where
+pub record HoldsClip (l : ClipTables) (c : Clip) : Type 0 where
   pub scalars : l .scalars ≡ c .scalars
   pub atcs : HoldsRows (l .atcs) (c .atcs)
   pub stcs : HoldsRows (l .stcs) (c .stcs)
@@ -147,13 +147,13 @@ pub record HoldsClip (l : Lent) (c : Clip) : Type 0 where
   pub entries : HoldsRows (l .entries) (c .entries)
 
 -- lent tables with room for their rows; they may be longer and hold anything
-pub record Room (rows : Nine (List Row)) (lent : Nine (List ℕ)) : Type 0 where
-  pub atcs : length (rows .atcs) ≤ rowsLent atcCells (lent .atcs)
-  pub stcs : length (rows .stcs) ≤ rowsLent stcCells (lent .stcs)
-  pub programs : length (rows .programs) ≤ rowsLent programCells (lent .programs)
-  pub streams : length (rows .streams) ≤ rowsLent streamCells (lent .streams)
-  pub maps : length (rows .maps) ≤ rowsLent mapCells (lent .maps)
-  pub entries : length (rows .entries) ≤ rowsLent entryCells (lent .entries)
-  pub extensions : length (rows .extensions) ≤ rowsLent extensionCells (lent .extensions)
-  pub listPrograms : length (rows .listPrograms) ≤ rowsLent programCells (lent .listPrograms)
-  pub listStreams : length (rows .listStreams) ≤ rowsLent streamCells (lent .listStreams)
+pub record Room (rows : Nine (List Row)) (tables : Nine (List ℕ)) : Type 0 where
+  pub atcs : length (rows .atcs) ≤ rowRoom atcCells (tables .atcs)
+  pub stcs : length (rows .stcs) ≤ rowRoom stcCells (tables .stcs)
+  pub programs : length (rows .programs) ≤ rowRoom programCells (tables .programs)
+  pub streams : length (rows .streams) ≤ rowRoom streamCells (tables .streams)
+  pub maps : length (rows .maps) ≤ rowRoom mapCells (tables .maps)
+  pub entries : length (rows .entries) ≤ rowRoom entryCells (tables .entries)
+  pub extensions : length (rows .extensions) ≤ rowRoom extensionCells (tables .extensions)
+  pub listPrograms : length (rows .listPrograms) ≤ rowRoom programCells (tables .listPrograms)
+  pub listStreams : length (rows .listStreams) ≤ rowRoom streamCells (tables .listStreams)

@@ -7,7 +7,7 @@ use lib.Seq.{sets}
 use lib.Dec.{eqb}
 use Rattle.format.specs.ClipRecord.{Row, Record, entryCount}
 use Rattle.format.specs.Bytes.{pick, rowsAt, total}
-use Rattle.format.specs.Tables.{cellsAt, tableRows, rowsLent, overwritten, mapCells, entryCells}
+use Rattle.format.specs.Tables.{cellsAt, tableRows, rowRoom, overwritten, mapCells, entryCells}
 use Rattle.format.specs.Listing.{line, clipWord, seqWord, progWord, markWord, refusedWord, mapLines}
 
 -- s was stored into d from place `at`, which gives e, and r is the place behind it
@@ -102,7 +102,7 @@ refusalRoom = 30
 
 -- what a caller shows: the stated rows are lent, the maps have no more entries than stated, and the output is long enough
 pub record Listable (maps : List ℕ) (n : ℕ) (entries : List ℕ) (m : ℕ) (out : List ℕ) : Type 0 where
-  pub mapRows : n ≤ rowsLent mapCells maps
-  pub entryRows : m ≤ rowsLent entryCells entries
+  pub mapRows : n ≤ rowRoom mapCells maps
+  pub entryRows : m ≤ rowRoom entryCells entries
   pub counts : total entryCount (tableRows mapCells maps n) ≤ m
   pub room : recordRoom n m ≤ length out

@@ -5,7 +5,7 @@ ghost use Prim.Native.Nat.{_+_, _*_, _%_, _≤_};
 ghost use lib.ListN.{length};
 ghost use Rattle.format.specs.Bytes.{flat, total};
 ghost use Rattle.format.specs.ClipRecord.{entryCount};
-ghost use Rattle.format.specs.Tables.{tableRows, cellsAt, rowsLent, mapCells, entryCells};
+ghost use Rattle.format.specs.Tables.{tableRows, cellsAt, rowRoom, mapCells, entryCells};
 ghost use Rattle.format.specs.Listing.{digits, spaced, line, epLine, mapLine, mapLines};
 ghost use Rattle.listing.specs.Text.{Wrote, WroteIn, Shows, Listable, lineRoom, mapsFrom, entriesFrom, numbers, recordText, refusalText, refusalRoom};
 use common::cells::cell_at;
@@ -129,7 +129,7 @@ fn put_map(out: &mut [u8], at: usize, maps: &[u8], row: usize) -> usize
 
 // Stores each map's line with those of its own entries behind it.
 fn put_maps(out: &mut [u8], at: usize, maps: &[u8], n: u32, entries: &[u8], m: u32) -> usize
-    requires { ⌜ (n ≤ rowsLent mapCells (now maps)) × (m ≤ rowsLent entryCells (now entries)) × (total entryCount (mapsFrom (now maps) 0 n) ≤ m) × (at + (37 * n + 25 * m) ≤ length (now out)) ⌝ }
+    requires { ⌜ (n ≤ rowRoom mapCells (now maps)) × (m ≤ rowRoom entryCells (now entries)) × (total entryCount (mapsFrom (now maps) 0 n) ≤ m) × (at + (37 * n + 25 * m) ≤ length (now out)) ⌝ }
     ensures { λ r. ⌜ WroteIn (37 * n + 25 * m) (now (out .entry)) at (mapLines (mapsFrom (now (maps .entry)) 0 n) (entriesFrom (now (entries .entry)) 0 m)) r (now (out .exit)) ⌝ }
 {
     let mut p = at;

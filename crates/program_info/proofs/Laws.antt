@@ -13,7 +13,7 @@ use borrow.Author.Tests.{le-leb, lt-leb}
 use Rattle.format.specs.Bytes.{both, pick, beAt, rowsAt, gather, endOf}
 use Rattle.format.specs.Programs.{isVideo, lower, lowered, codingAt, aspectAt, languageAt, streamAt, nextStream, programAt, streamsOf, nextProgram, programsFrom, streamsFrom, programsEnd}
 use Rattle.format.specs.ClipRecord.{Row}
-use Rattle.format.specs.Tables.{rowBytes, tableBytes, rowsLent, overwritten, programCells, streamCells}
+use Rattle.format.specs.Tables.{rowBytes, tableBytes, rowRoom, overwritten, programCells, streamCells}
 use Rattle.format.proofs.Loops.{end-ge}
 use Rattle.format.proofs.Rows.{rows-all, gather-all}
 use Rattle.format.proofs.Sweep.{either-way, Filling, filling-front}
@@ -131,14 +131,14 @@ module _ (f : List ℕ) (start : ℕ) where
 
   module _ {n : ℕ} (count : n ≡ beAt f (start + 5) 1) {t : List ℕ} where
     -- both tables, before the first row is stored
-    pub programs-filling : length (programsFrom f start) ≤ rowsLent programCells t
+    pub programs-filling : length (programsFrom f start) ≤ rowRoom programCells t
         → Filling (rowsAt (programAt f) (nextProgram f)) t (overwritten (tableBytes (programsFrom f start)) t) t 0 (start + 6) n 0
     unfolding programsFrom
     programs-filling room =
         filling-front 3 (rowsAt (programAt f) (nextProgram f)) t (lit< tt) (rows-all (programAt f) (nextProgram f) (λ p. refl) (start + 6) (beAt f (start + 5) 1)) room
         (ap (rowsAt (programAt f) (nextProgram f) (start + 6)) count)
 
-    pub streams-filling : length (streamsFrom f start) ≤ rowsLent streamCells t
+    pub streams-filling : length (streamsFrom f start) ≤ rowRoom streamCells t
         → Filling (gather (streamsOf f) (nextProgram f)) t (overwritten (tableBytes (streamsFrom f start)) t) t 0 (start + 6) n 0
     unfolding streamsFrom
     streams-filling room =

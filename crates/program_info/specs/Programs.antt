@@ -6,7 +6,7 @@ use lib.ListN.{length}
 use lib.Dec.{leb}
 use Rattle.format.specs.Bytes.{pick, beAt}
 use Rattle.format.specs.Programs.{programsFrom, streamsFrom, programsEnd}
-use Rattle.format.specs.Tables.{rowsLent, programCells, streamCells}
+use Rattle.format.specs.Tables.{rowRoom, programCells, streamCells}
 use Rattle.program_info.specs.declared.Measured.{Measured}
 
 -- the counts and the end of the section that starts at `start`, where it ends within the file
@@ -19,8 +19,8 @@ measured f start =
 -- the section ends within the file, and each table has room for its rows
 pub record Fillable (f : List ℕ) (start : ℕ) (programs streams : List ℕ) : Type 0 where
   pub ends : programsEnd f start ≤ length f
-  pub programs-room : length (programsFrom f start) ≤ rowsLent programCells programs
-  pub streams-room : length (streamsFrom f start) ≤ rowsLent streamCells streams
+  pub programs-room : length (programsFrom f start) ≤ rowRoom programCells programs
+  pub streams-room : length (streamsFrom f start) ≤ rowRoom streamCells streams
 
 -- byte i of a body of `size` bytes from p, 0 where it is absent
 pub record BodyByte (f : List ℕ) (p size i r : ℕ) : Type 0 where

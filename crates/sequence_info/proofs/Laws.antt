@@ -11,7 +11,7 @@ use lib.Dec.{leb, lit<}
 use borrow.Author.Tests.{lt-leb}
 use Rattle.format.specs.Bytes.{beAt, rowsAt, gather}
 use Rattle.format.specs.ClipRecord.{atcAt, stcAt, nextStc, stcsOf, nextAtc, atcsFrom, stcsFrom, sequencesEnd}
-use Rattle.format.specs.Tables.{tableBytes, rowsLent, overwritten, atcCells, stcCells}
+use Rattle.format.specs.Tables.{tableBytes, rowRoom, overwritten, atcCells, stcCells}
 use Rattle.format.proofs.Loops.{end-ge}
 use Rattle.format.proofs.Rows.{rows-all, gather-all}
 use Rattle.format.proofs.Sweep.{end-steps, either-way, Filling, filling-front}
@@ -60,14 +60,14 @@ module _ (f : List ℕ) (start : ℕ) where
 
   module _ {n : ℕ} (count : n ≡ beAt f (start + 5) 1) {t : List ℕ} where
     -- both tables, before the first row is stored
-    pub atcs-filling : length (atcsFrom f start) ≤ rowsLent atcCells t
+    pub atcs-filling : length (atcsFrom f start) ≤ rowRoom atcCells t
         → Filling (rowsAt (atcAt f) (nextAtc f)) t (overwritten (tableBytes (atcsFrom f start)) t) t 0 (start + 6) n 0
     unfolding atcsFrom
     atcs-filling room =
         filling-front 3 (rowsAt (atcAt f) (nextAtc f)) t (lit< tt) (rows-all (atcAt f) (nextAtc f) (λ p. refl) (start + 6) (beAt f (start + 5) 1)) room
         (ap (rowsAt (atcAt f) (nextAtc f) (start + 6)) count)
 
-    pub stcs-filling : length (stcsFrom f start) ≤ rowsLent stcCells t
+    pub stcs-filling : length (stcsFrom f start) ≤ rowRoom stcCells t
         → Filling (gather (stcsOf f) (nextAtc f)) t (overwritten (tableBytes (stcsFrom f start)) t) t 0 (start + 6) n 0
     unfolding stcsFrom
     stcs-filling room =

@@ -8,7 +8,7 @@ use Rattle.format.specs.Bytes.{IsBytes}
 use Rattle.format.specs.ClipRecord.{Clip, Record, programsStart}
 use Rattle.format.specs.Reading.{clipOf, recordOf}
 use Rattle.format.specs.Programs.{loweredClip}
-use Rattle.format.specs.Tables.{Nine, Lent, HoldsClip, Room}
+use Rattle.format.specs.Tables.{Nine, ClipTables, HoldsClip, Room}
 use Rattle.format.specs.Questions.{Question, partsOf, ask, HoldsPart}
 use Rattle.format.specs.Rewriting.{encode}
 use Rattle.format.specs.Refusals.{accepted, readAnswer, statedOf, tablesOf, tablesAfter, writeRefusal, written, writeAnswer, outputAfter}
@@ -19,7 +19,7 @@ use Rattle.format.proofs.Read.{good-clip, narrow, lowered-streams}
 use Rattle.format.proofs.Write.{encode-bytes, counts, cells, runs-fit, written as not-refused}
 use Rattle.format.proofs.Whole.{is-short, is-accepted, reads-back, record-back}
 use Rattle.format.proofs.Maker.{good-made}
-use Rattle.format.proofs.Lent.{shaped, clip-held, all-stated, asked, no-short, filled-holds}
+use Rattle.format.proofs.ClipTables.{shaped, clip-held, all-stated, asked, no-short, filled-holds}
 
 -- ---- a file's record
 
@@ -62,46 +62,46 @@ module _ (f : List ℕ) (h : Rewritable f) where
   same-clip = ap (λ (r : Record). r .clip) same-record
 
   -- 1. reading into the tables, and writing from them
-  module _ (lent : Nine (List ℕ)) (room : Room (tablesOf f) lent) where
-    reads : readAnswer f lent ≡ accepted (statedOf f)
+  module _ (tables : Nine (List ℕ)) (room : Room (tablesOf f) tables) where
+    reads : readAnswer f tables ≡ accepted (statedOf f)
     unfolding readAnswer
-    reads = rw (h .accepted, no-short f lent room)
+    reads = rw (h .accepted, no-short f tables room)
 
-    holds : HoldsClip (handedOver f lent) (recordOf f .clip)
+    holds : HoldsClip (handedOver f tables) (recordOf f .clip)
     unfolding handedOver statedOf tablesAfter tablesOf
     holds =
         let c = recordOf f .clip in
         rw reads (record {
           scalars = refl;
-          atcs = filled-holds (c .atcs) (lent .atcs);
-          stcs = filled-holds (c .stcs) (lent .stcs);
-          programs = filled-holds (c .programs) (lent .programs);
-          streams = filled-holds (c .streams) (lent .streams);
-          maps = filled-holds (c .maps) (lent .maps);
-          entries = filled-holds (c .entries) (lent .entries);
+          atcs = filled-holds (c .atcs) (tables .atcs);
+          stcs = filled-holds (c .stcs) (tables .stcs);
+          programs = filled-holds (c .programs) (tables .programs);
+          streams = filled-holds (c .streams) (tables .streams);
+          maps = filled-holds (c .maps) (tables .maps);
+          entries = filled-holds (c .entries) (tables .entries);
         })
 
     module _ (out : List ℕ) (long : length (rewritten f) ≤ length out) where
-      writes : writeAnswer (handedOver f lent) out ≡ written (length (rewritten f))
+      writes : writeAnswer (handedOver f tables) out ≡ written (length (rewritten f))
       unfolding writeAnswer
       writes =
           let s = shaped 65535 (recordOf f .clip) good in
           rw (
-            all-stated (handedOver f lent) (recordOf f .clip) s holds,
-            clip-held (handedOver f lent) (recordOf f .clip) s holds,
+            all-stated (handedOver f tables) (recordOf f .clip) s holds,
+            clip-held (handedOver f tables) (recordOf f .clip) s holds,
             not-refused (recordOf f .clip) good,
             le-leb (length (rewritten f)) (length out) long,
           )
 
-      succeed : Succeeds f lent out
+      succeed : Succeeds f tables out
       unfolding outputAfter
       succeed =
           let s = shaped 65535 (recordOf f .clip) good in
-          let e = clip-held (handedOver f lent) (recordOf f .clip) s holds in
+          let e = clip-held (handedOver f tables) (recordOf f .clip) s holds in
           record { reads = reads; holds = holds; writes = writes; output = rw (writes, e) }
 
   -- 4. tables that hold the old record's rows and tables that hold the new one's
-  alike : (question : Question) (old new : Lent)
+  alike : (question : Question) (old new : ClipTables)
       → All (HoldsPart old (recordOf f .clip)) (partsOf question) → All (HoldsPart new (recordOf (rewritten f) .clip)) (partsOf question)
       → ask question old ≡ ask question new
   alike question old new ho hn =
@@ -115,7 +115,7 @@ rewriting-keeps f h =
     let c = recordOf f .clip in
     let g = good f h in
     record {
-      succeeds = λ lent out room long. succeed f h lent room out long;
+      succeeds = λ tables out room long. succeed f h tables room out long;
       short = is-short c g;
       new = is-accepted c g;
       same = same-record f h;

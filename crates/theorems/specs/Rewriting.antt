@@ -8,7 +8,7 @@ use Rattle.format.specs.Bytes.{IsBytes, unless}
 use Rattle.format.specs.ClipRecord.{Clip, Record}
 use Rattle.format.specs.Programs.{loweredClip}
 use Rattle.format.specs.Reading.{recordOf}
-use Rattle.format.specs.Tables.{Nine, Table, Lent, HoldsClip, Room}
+use Rattle.format.specs.Tables.{Nine, Table, ClipTables, HoldsClip, Room}
 use Rattle.format.specs.Questions.{Question, partsOf, ask, HoldsPart}
 use Rattle.format.specs.Rewriting.{encode}
 use Rattle.format.specs.Refusals.{refusalOf, accepted, readAnswer, Stated, statedOf, tablesOf, tablesAfter, countsAdd, cellsFit, runsFit, writeRefusal, written, writeAnswer, outputAfter}
@@ -38,7 +38,7 @@ abbrev pub stated : List ℕ → ℕ → Table
 stated bytes rows = record { bytes = bytes; rows = rows }
 
 -- the very tables that reading filled, handed over for writing with what reading stated
-abbrev pub handOver : Stated → Nine (List ℕ) → Lent
+abbrev pub handOver : Stated → Nine (List ℕ) → ClipTables
 handOver s t = record {
   scalars = s .scalars;
   atcs = stated (t .atcs) (s .rows .atcs);
@@ -49,21 +49,21 @@ handOver s t = record {
   entries = stated (t .entries) (s .rows .entries);
 }
 
-unfoldable pub handedOver : List ℕ → Nine (List ℕ) → Lent
-handedOver f lent = handOver (statedOf f) (tablesAfter f lent)
+unfoldable pub handedOver : List ℕ → Nine (List ℕ) → ClipTables
+handedOver f tables = handOver (statedOf f) (tablesAfter f tables)
 
 -- ---- the promise
 
 -- rewriting, which is reading and then writing, refuses nothing, and puts the new file at the front of the output
-pub record Succeeds (f : List ℕ) (lent : Nine (List ℕ)) (out : List ℕ) : Type 0 where
-  pub reads : readAnswer f lent ≡ accepted (statedOf f)
-  pub holds : HoldsClip (handedOver f lent) (recordOf f .clip)
-  pub writes : writeAnswer (handedOver f lent) out ≡ written (length (rewritten f))
-  pub output : outputAfter (handedOver f lent) out ≡ rewritten f ++ drop (length (rewritten f)) out
+pub record Succeeds (f : List ℕ) (tables : Nine (List ℕ)) (out : List ℕ) : Type 0 where
+  pub reads : readAnswer f tables ≡ accepted (statedOf f)
+  pub holds : HoldsClip (handedOver f tables) (recordOf f .clip)
+  pub writes : writeAnswer (handedOver f tables) out ≡ written (length (rewritten f))
+  pub output : outputAfter (handedOver f tables) out ≡ rewritten f ++ drop (length (rewritten f)) out
 
 pub record RewritingKeeps (f : List ℕ) : Type 0 where
   -- 1. where the buffers suffice, rewriting succeeds
-  pub succeeds : (lent : Nine (List ℕ)) (out : List ℕ) → Room (tablesOf f) lent → length (rewritten f) ≤ length out → Succeeds f lent out
+  pub succeeds : (tables : Nine (List ℕ)) (out : List ℕ) → Room (tablesOf f) tables → length (rewritten f) ≤ length out → Succeeds f tables out
   -- 2. the new file is accepted, and well below the greatest length
   pub short : length (rewritten f) ≤ 402515706
   pub new : refusalOf (rewritten f) ≡ 0
@@ -71,7 +71,7 @@ pub record RewritingKeeps (f : List ℕ) : Type 0 where
   pub same : recordOf (rewritten f) ≡ withoutExtensions (recordOf f)
   -- 4. every lookup, whatever it is asked, answers alike from the old file and the new, with none and refusals the same:
   -- from any tables that hold the old rows and any that hold the new ones, of which it is lent only those it needs
-  pub alike : (question : Question) (old new : Lent)
+  pub alike : (question : Question) (old new : ClipTables)
       → All (HoldsPart old (recordOf f .clip)) (partsOf question) → All (HoldsPart new (recordOf (rewritten f) .clip)) (partsOf question)
       → ask question old ≡ ask question new
   -- 5. any two such files rewrite to equal bytes exactly when their records, compared in that way, are equal

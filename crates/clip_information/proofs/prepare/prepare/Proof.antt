@@ -56,8 +56,8 @@ list-programs-requires c κs = search needs
 list-streams-requires : tie.Need-list-streams-requires
 list-streams-requires c κs = search needs
 
-lent-room-requires : tie.Need-lent-room-requires
-lent-room-requires c κs = search needs
+table-room-requires : tie.Need-table-room-requires
+table-room-requires c κs = search needs
 
 enum-known-table : tie.Need-enum-known-table
 enum-known-table c = search needs
@@ -78,7 +78,7 @@ returns c =
     }
 
 -- the rows were counted and the room looked at
-module _ (k : tie.After-lent-room) where
+module _ (k : tie.After-table-room) where
   abbrev S : tie.After-known-told2
   S = k .before .before .before .before .before .before
 
@@ -103,7 +103,7 @@ returns-2 c =
     let k = c .before .before .before in
     let v = c .before .table .given in
     record {
-      answer = room-short (F (S k)) (B (S k)) (passed k) (v .0 .0) (v .0 .1 .0) (k .lent-room .ensures) (v .1);
+      answer = room-short (F (S k)) (B (S k)) (passed k) (v .0 .0) (v .0 .1 .0) (k .table-room .ensures) (v .1);
       ready = tt;
     }
 
@@ -112,8 +112,8 @@ returns-3 c =
     let k = c .before .before .before in
     let g = c .before .enum-told .given .1 in
     record {
-      answer = room-enough (F (S k)) (B (S k)) (passed k) (k .lent-room .ensures) g;
-      ready = made-ready (F (S k)) (B (S k)) (passed k) (k .lent-room .ensures) g (c .is-list .ensures);
+      answer = room-enough (F (S k)) (B (S k)) (passed k) (k .table-room .ensures) g;
+      ready = made-ready (F (S k)) (B (S k)) (passed k) (k .table-room .ensures) g (c .is-list .ensures);
     }
 
 pub prepare-spec : {M : Type 1} → statement M
@@ -129,7 +129,7 @@ prepare-spec =
     measure-list-requires
     list-programs-requires
     list-streams-requires
-    lent-room-requires
+    table-room-requires
     enum-known-table
     enum-told
     is-list-requires

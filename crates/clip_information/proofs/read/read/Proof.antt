@@ -10,7 +10,7 @@ use Rattle.format.specs.Reading.{recordOf}
 use Rattle.format.specs.Refusals.{tablesOf}
 use Rattle.format.specs.Tables.{Nine}
 use Rattle.clip_information.specs.Prepare.{ReadyIs}
-use Rattle.clip_information.specs.Read.{lentBy, lengthsOf}
+use Rattle.clip_information.specs.Read.{nineTables, lengthsOf}
 use Rattle.clip_information.proofs.PrepareLaws.{accepted-bounds}
 use Rattle.clip_information.proofs.FillLaws.{filled-from}
 use Rattle.clip_information.proofs.ReadLaws.{prepared-answer, prepared-ready, sections-fit, extensions-fit, list-fits, marks-there, stated}
@@ -38,7 +38,7 @@ module _ (k : tie.After-known-told3) where
   abbrev L : Nine (List ℕ)
   L =
       let a = k .before .before .before .before .before .before .before .before .before .before .before .before .before .before .args in
-      lentBy (now (a .atcs)) (now (a .stcs)) (now (a .programs)) (now (a .streams)) (now (a .maps)) (now (a .entries)) (now (a .extensions)) (now (a .programs2)) (now (a .streams2))
+      nineTables (now (a .atcs)) (now (a .stcs)) (now (a .programs)) (now (a .streams)) (now (a .maps)) (now (a .entries)) (now (a .extensions)) (now (a .programs2)) (now (a .streams2))
 
   ready : ReadyIs F (lengthsOf L) (k .before .rows .given .0 .0) (k .before .rows .given .0 .1 .0) (k .before .rows .given .0 .1 .1 .0)
   ready = prepared-ready F L (k .before .before .before .prepare .ensures) (k .before .rows .given .1)
@@ -76,7 +76,7 @@ mark-count-requires c κs = let k = c .before .before .before .before .before .b
 returns : tie.Need-returns
 returns c =
     let a = c .before .before .before .before .before .before .before .before .before .before .before .before .before .before .args in
-    let l = lentBy (now (a .atcs)) (now (a .stcs)) (now (a .programs)) (now (a .streams)) (now (a .maps)) (now (a .entries)) (now (a .extensions)) (now (a .programs2)) (now (a .streams2)) in (
+    let l = nineTables (now (a .atcs)) (now (a .stcs)) (now (a .programs)) (now (a .streams)) (now (a .maps)) (now (a .entries)) (now (a .extensions)) (now (a .programs2)) (now (a .streams2)) in (
       prepared-answer (now (a .file)) l (c .before .before .before .prepare .ensures) (c .before .n .given .1),
       (refl, (refl, (refl, (refl, (refl, (refl, (refl, (refl, refl)))))))),
     )
@@ -84,7 +84,7 @@ returns c =
 returns-2 : tie.Need-returns-2
 returns-2 c =
     let a = c .before .before .before .before .before .before .before .before .before .before .before .before .before .before .args in
-    let l = lentBy (now (a .atcs)) (now (a .stcs)) (now (a .programs)) (now (a .streams)) (now (a .maps)) (now (a .entries)) (now (a .extensions)) (now (a .programs2)) (now (a .streams2)) in (
+    let l = nineTables (now (a .atcs)) (now (a .stcs)) (now (a .programs)) (now (a .streams)) (now (a .maps)) (now (a .entries)) (now (a .extensions)) (now (a .programs2)) (now (a .streams2)) in (
       prepared-answer (now (a .file)) l (c .before .before .before .prepare .ensures) (c .before .table .given .1),
       (refl, (refl, (refl, (refl, (refl, (refl, (refl, (refl, refl)))))))),
     )

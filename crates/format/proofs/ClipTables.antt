@@ -9,7 +9,7 @@ use borrow.Author.Tests.{le-leb}
 use Rattle.format.specs.ClipRecord.{Row, Clip}
 use Rattle.format.specs.Questions.{Part, scalars, atcs, stcs, streams, maps, entries, partsOf, partStated, HoldsPart, Question, entryPointAtOrBefore, entryPointAfter, primaryVideoEpMap, spnToByte, byteToSpn, stcSequenceById, stcSequenceForSpn, streamByPid, primaryVideoPid, duration45k, duration90k, presentationSpan90k, indexedSpan90k, transferDurationSecs, minutesRemaining, answer, ask}
 use Rattle.format.specs.Refusals.{accepted, tablesOf, statedOf, tablesAnswer, allStated}
-use Rattle.format.specs.Tables.{tableBytes, rowsLent, overwritten, atcCells, stcCells, programCells, streamCells, mapCells, entryCells, Table, isStated, rowsOf, Lent, clipIn, Nine, HoldsRows, HoldsClip, Room}
+use Rattle.format.specs.Tables.{tableBytes, rowRoom, overwritten, atcCells, stcCells, programCells, streamCells, mapCells, entryCells, Table, isStated, rowsOf, ClipTables, clipIn, Nine, HoldsRows, HoldsClip, Room}
 use Rattle.format.proofs.Fields.{Fit}
 use Rattle.format.proofs.Lists.{All, all-every, all-append, all-map, none, more}
 use Rattle.format.proofs.Tables.{Cells, fit-cells, table-back, table-room}
@@ -58,11 +58,11 @@ module _ (cells : ℕ) (t : Table) {rows : List Row} (good : All (Cells cells) r
   rows-held = rw (h .stated, h .bytes) (table-back cells good (h .beyond))
 
   is-stated : 0 < cells → isStated cells t ≡ true
-  is-stated pos = rw (h .stated, h .bytes) (le-leb (length rows) (rowsLent cells (tableBytes rows ++ h .beyond)) (table-room cells pos good (h .beyond)))
+  is-stated pos = rw (h .stated, h .bytes) (le-leb (length rows) (rowRoom cells (tableBytes rows ++ h .beyond)) (table-room cells pos good (h .beyond)))
 
 -- ---- all six
 
-module _ (l : Lent) (c : Clip) (s : Shaped c) (h : HoldsClip l c) where
+module _ (l : ClipTables) (c : Clip) (s : Shaped c) (h : HoldsClip l c) where
   pub clip-held : clipIn l ≡ c
   unfolding clipIn
   clip-held =
@@ -100,7 +100,7 @@ module _ (l : Lent) (c : Clip) (s : Shaped c) (h : HoldsClip l c) where
 
 -- ---- a question looks at its own parts alone, and of these at the stated rows
 
-module _ (l : Lent) (c : Clip) (s : Shaped c) where
+module _ (l : ClipTables) (c : Clip) (s : Shaped c) where
   -- a part that holds its rows is stated in full
   part-stated : (p : Part) → HoldsPart l c p → partStated l p ≡ true
   part-stated scalars h = refl
@@ -150,9 +150,9 @@ module _ (l : Lent) (c : Clip) (s : Shaped c) where
 
 -- ---- reading into tables with room
 
-pub no-short : (f : List ℕ) (lent : Nine (List ℕ)) → Room (tablesOf f) lent → tablesAnswer f lent ≡ accepted (statedOf f)
+pub no-short : (f : List ℕ) (tables : Nine (List ℕ)) → Room (tablesOf f) tables → tablesAnswer f tables ≡ accepted (statedOf f)
 unfolding tablesAnswer
-no-short f lent r =
+no-short f tables r =
     rw (
       le-leb _ _ (r .atcs),
       le-leb _ _ (r .stcs),

@@ -2,8 +2,8 @@
 use borrow.Author.Tests.{le-leb, lt-leb}
 use Rattle.clip_information.specs.Room.{roomOf}
 use borrow.Author.Needs.{needs}
-use Rattle.clip_information.proofs.tables.lent_room.Statement.{statement}
-use Rattle.clip_information.proofs.tables.lent_room.Tie as tie
+use Rattle.clip_information.proofs.tables.table_room.Statement.{statement}
+use Rattle.clip_information.proofs.tables.table_room.Tie as tie
 
 returns : tie.Need-returns
 unfolding roomOf
@@ -32,7 +32,7 @@ returns-6 : tie.Need-returns-6
 unfolding roomOf
 returns-6 c = simp (c .room-behind .ensures, le-leb _ _ (c .before .before .before .before .before .before .before .before .before .before .before .before .before .if1 .left), le-leb _ _ (c .before .before .before .before .before .before .before .before .before .before .if2 .left), le-leb _ _ (c .before .before .before .before .before .before .before .if3 .left), le-leb _ _ (c .before .before .before .before .if4 .left), le-leb _ _ (c .before .if5 .left))
 
-pub lent-room-spec : {M : Type 1} → statement M
-lent-room-spec =
+pub table-room-spec : {M : Type 1} → statement M
+table-room-spec =
     tie.close
     (tie.spec returns returns-2 returns-3 returns-4 returns-5 room-behind-requires returns-6)
