@@ -8,14 +8,15 @@ use native.Mathlib.Omega.{arith}
 use lib.ListN.{length}
 use lib.Dec.{leb, ltb, eqb}
 use borrow.Author.Tests.{leb-true, leb-false, le-leb, lt-leb, ltb-true, ltb-false}
-use Rattle.format.specs.Bytes.{both, pick, every, unless, beAt, widthOf, rowsAt, endOf}
+use Rattle.format.specs.Bytes.{both, pick, every, beAt, widthOf, rowsAt, endOf}
 use Rattle.format.specs.ClipRecord.{sequencesStart, programsStart, cpiStart, marksStart, clipInfoIn, nextStc, nextAtc, sequencesEnd, present, marksIn}
 use Rattle.format.specs.Programs.{nextStream, nextProgram, programsEnd}
-use Rattle.format.specs.EntryPoints.{nextCoarse, nextFine, nextMap, cpiLength, cpiEnd, cpiType, hasMaps, mapCount, coarseCountAt, fineCountAt, bodyAt, fineStart, addressIn, coarseRowsIn, fineAddressIn, fineRowsIn, mapIn, cpiIn, mapsIn}
-use Rattle.format.specs.Extensions.{found, listIn, blockLength, extensionCount, nextExtension, hasExtensions}
+use Rattle.format.specs.EntryPoints.{nextCoarse, nextMap, cpiLength, cpiEnd, cpiType, hasMaps, mapCount, coarseCountAt, fineCountAt, bodyAt, fineStart, addressIn, fineAddressIn, fineRowsIn, mapIn, cpiIn, mapsIn}
+use Rattle.format.specs.Extensions.{found, listIn, blockLength, extensionCount, hasExtensions}
 use Rattle.format.specs.Refusals.{refusalOf}
 use Rattle.format.specs.ReadByRead.{startIn, readsIn, itemsIn, clipInfoRead, stcRead, atcRead, sequencesRead, streamRead, programRead, programsRead, mapHeaderRead, cpiHeadersRead, cpiTypeRead, cpiRead, mapRead, mapsRead, marksRead, refusalRead, extensionRead, blockRead, extensionsRead}
 use Rattle.format.proofs.Loops.{end-ge}
+use Rattle.format.proofs.Sweep.{end-steps}
 
 -- ---- tests of places, each at or past the one before
 
@@ -63,10 +64,6 @@ items len test next up h p (suc n) k =
 -- items of one width
 abbrev by : ℕ → ℕ → ℕ
 by w p = p + w
-
-end-by : (w p n : ℕ) → endOf (by w) p n ≡ p + w * n
-end-by w p zero = omega arith
-end-by w p (suc n) = end-by w (p + w) n ∙ omega arith
 
 module _ (f : List ℕ) where
   -- reads, then items behind them
@@ -134,7 +131,7 @@ module _ (f : List ℕ) where
   -- items of w bytes each, from a place in the file
   rows : (w : ℕ) (test : ℕ → Bool) → ((p : ℕ) → test p ≡ leb (p + w) (length f)) → (p n : ℕ) → p ≤ length f
       → itemsIn test (λ q. q + w) p n ≡ leb (p + w * n) (length f)
-  rows w test h p n k = items (length f) test (by w) (λ q. omega arith) h p n k ∙ rw (end-by w p n)
+  rows w test h p n k = items (length f) test (by w) (λ q. omega arith) h p n k ∙ rw (end-steps w p n)
 
   header-read : (p : ℕ) → mapHeaderRead f p ≡ leb (p + 12) (length f)
   header-read p = reads-some f p 2 (6 ∷ 4 ∷ [])
