@@ -1,7 +1,7 @@
 -- Numbers joined of their parts, the other byte order, and what an answer of the reader says.
 use Prim.Native.Nat.{ℕ, suc, _+_, _*_, _-_, _/_, _%_, _^_, _<_, _≤_}
 use mathlib.Core.Path.{_≡_, refl, sym, ap, _∙_}
-use mathlib.Core.Logic.{_⊎_, inl, inr, ⊎-elim}
+use mathlib.Core.Logic.{⊎-elim}
 use mathlib.Core.List.{List, [], _∷_, _++_, append-nil}
 use mathlib.Core.Bool.{Bool, true, false}
 use native.Mathlib.Nat.{add-zero, suc-mul, mul-le-mul-right, one-le-pow}
@@ -12,12 +12,13 @@ use lib.Bits.{bitAnd, bitOr, and-high, or-shifted}
 use lib.Pow.{pow-add, low}
 use lib.Dec.{leb, lit<}
 use borrow.Author.Tests.{leb-true, leb-false, le-leb, lt-leb}
-use Rattle.format.specs.Bytes.{pick, beAt, bytesOf}
+use Rattle.format.specs.Bytes.{beAt, bytesOf}
 use Rattle.format.specs.ClipRecord.{areLetters, lettersRight}
 use Rattle.format.specs.Tables.{lowAt, lowBytes, cellAt, cellBytes, rowBytes}
 use Rattle.format.proofs.Numbers.{bytes-length}
 use Rattle.format.proofs.Stores.{be-below, be-parts, bytes-parts, sets-append}
 use Rattle.format.proofs.Cells.{low-length, turned-number, turned-bytes}
+use Rattle.format.proofs.Sweep.{either-way}
 use Rattle.common.specs.Reads.{Wide, ReadIs, CellIs, swapped}
 use Rattle.common.specs.Reader.{numberAt, movedTo, NumberIs}
 use Rattle.common.specs.declared.reader.Reader.{Reader}
@@ -163,14 +164,6 @@ number-read f p n h is = record { same = rw (h, is .same); below = is .below }
 pub number-past : (f : List ℕ) (p n : ℕ) → leb (p + n) (length f) ≡ false → NumberIs f p n Number.PastEnd
 number-past f p n h = record { same = rw h; below = one-le-pow n 256 (lit< tt) }
 
--- an answer that a test picked is one of the two, with the test's fact
-either-way : {A : Type 0} (m l : ℕ) (x a b : A) → x ≡ pick (leb m l) a b → ((m ≤ l) × (x ≡ a)) ⊎ ((l < m) × (x ≡ b))
-either-way m l x a b e = by-test (leb m l) refl
-  where
-    by-test : (t : Bool) → leb m l ≡ t → ((m ≤ l) × (x ≡ a)) ⊎ ((l < m) × (x ≡ b))
-    by-test true h = inl (leb-true m l h, e ∙ rw h)
-    by-test false h = inr (leb-false m l h, e ∙ rw h)
-
 -- what a caller learns of a number that was read
 pub record Got (f : List ℕ) (p n v : ℕ) (next : Reader) : Type 0 where
   pub inside : p + n ≤ length f
@@ -183,7 +176,7 @@ got f p n {v} {next} e =
     ⊎-elim
     (λ t. let is = t .1 in record { inside = t .0; value = cc; behind = cc })
     (λ t. let is = t .1 in let z : _≡_ {A = ℕ} 0 1 = cc in absurd (omega arith))
-    (either-way (p + n) (length f) (Number.Read v next) read Number.PastEnd e)
+    (either-way (p + n) (length f) read Number.PastEnd (sym e))
 
 -- where none was, the bytes pass the end
 pub not-got : (f : List ℕ) (p n : ℕ) → Number.PastEnd ≡ numberAt f p n → length f < p + n
@@ -191,8 +184,8 @@ not-got f p n e =
     let read = Number.Read (beAt f p n) (record { pos = p + n }) in
     ⊎-elim
     (λ t. let is = t .1 in let z : _≡_ {A = ℕ} 0 1 = cc in absurd (omega arith))
-    (λ t. t .0)
-    (either-way (p + n) (length f) Number.PastEnd read Number.PastEnd e)
+    (λ t. leb-false (p + n) (length f) (t .0))
+    (either-way (p + n) (length f) read Number.PastEnd (sym e))
 
 -- what a caller learns of a reader that moved
 pub went : (f : List ℕ) (p : ℕ) {r : Reader} → Moved.At r ≡ movedTo f p → (p ≤ length f) × (r .pos ≡ p)
@@ -201,7 +194,7 @@ went f p {r} e =
     ⊎-elim
     (λ t. let is = t .1 in (t .0, cc))
     (λ t. let is = t .1 in let z : _≡_ {A = ℕ} 0 1 = cc in absurd (omega arith))
-    (either-way p (length f) (Moved.At r) there Moved.PastEnd e)
+    (either-way p (length f) there Moved.PastEnd (sym e))
 
 -- where it did not, the place lies past the end
 pub stayed : (f : List ℕ) (p : ℕ) → Moved.PastEnd ≡ movedTo f p → length f < p
@@ -209,5 +202,5 @@ stayed f p e =
     let there = Moved.At (record { pos = p }) in
     ⊎-elim
     (λ t. let is = t .1 in let z : _≡_ {A = ℕ} 0 1 = cc in absurd (omega arith))
-    (λ t. t .0)
-    (either-way p (length f) Moved.PastEnd there Moved.PastEnd e)
+    (λ t. leb-false p (length f) (t .0))
+    (either-way p (length f) there Moved.PastEnd (sym e))
