@@ -133,3 +133,13 @@ impl Reader {
         }
     }
 }
+
+// The count of one byte that stands n bytes behind the reader.
+pub fn read_count(file: &[u8], r: Reader, n: usize) -> Number
+    ensures { λ c. ⌜ NumberIs (now (file .entry)) (r .pos + n) 1 c ⌝ }
+{
+    let Moved::At(count) = r.skip(file, n) else {
+        return Number::PastEnd;
+    };
+    count.read_u8(file)
+}

@@ -6,7 +6,7 @@ ghost use lib.Seq.{sets};
 ghost use Rattle.format.specs.Bytes.{rowsAt, endOf};
 ghost use Rattle.format.specs.ClipRecord.{atcAt, stcAt, nextStc, nextAtc, atcsFrom, stcsFrom};
 ghost use Rattle.format.specs.Tables.{rowBytes, tableBytes, overwritten};
-ghost use Rattle.common.specs.Reader.{movedTo, NumberIs};
+ghost use Rattle.common.specs.Reader.{movedTo};
 ghost use Rattle.sequence_info.specs.Sequences.{measured, Fillable};
 use common::cells::put_row3;
 use common::cells::put_row4;
@@ -16,6 +16,7 @@ use common::numbers::u32_at;
 use common::reader::Moved;
 use common::reader::Number;
 use common::reader::Reader;
+use common::reader::read_count;
 
 // How many ATCs and STCs the section has and where it ends, or that it passes the file's end.
 pub enum Measured {
@@ -25,16 +26,6 @@ pub enum Measured {
         end: usize,
     },
     PastEnd,
-}
-
-// The count of one byte that stands n bytes behind the reader.
-fn read_count(file: &[u8], r: Reader, n: usize) -> Number
-    ensures { λ c. ⌜ NumberIs (now (file .entry)) (r .pos + n) 1 c ⌝ }
-{
-    let Moved::At(count) = r.skip(file, n) else {
-        return Number::PastEnd;
-    };
-    count.read_u8(file)
 }
 
 // Past the ATC at the reader and its STCs.

@@ -5,10 +5,10 @@ use lib.ListN.{length}
 use native.Mathlib.Omega.{arith}
 use denote.Ref.{now}
 use borrow.Author.Tests.{lt-leb}
 use Rattle.common.proofs.Laws.{went, stayed, number-past}
 use borrow.Author.Needs.{needs}
-use Rattle.sequence_info.proofs.read_count.Statement.{statement}
-use Rattle.sequence_info.proofs.read_count.Tie as tie
+use Rattle.common.proofs.reader.read_count.Statement.{statement}
+use Rattle.common.proofs.reader.read_count.Tie as tie
 
 skip-requires : tie.Need-skip-requires
 skip-requires c κs = search needs
