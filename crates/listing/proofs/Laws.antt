@@ -9,15 +9,15 @@ use native.Mathlib.Omega.{arith}
 use lib.ListN.{length, getD, take, drop, length-append}
 use lib.Seq.{drop-cons, take-at}
 use lib.Dec.{ltb, lit<}
-use borrow.Author.Tests.{lt-ltb, le-ltb, eq-eqb, ne-eqb}
+use borrow.Author.Tests.{lt-ltb, le-ltb}
 use Rattle.format.specs.Bytes.{pick, flat, rowsAt, total}
 use Rattle.format.specs.ClipRecord.{Row, Record, entryCount}
 use Rattle.format.specs.Tables.{cellAt, cellsAt, mapCells, entryCells}
-use Rattle.format.specs.Listing.{digits, line, mapWord, epWord, refusedWord, epLine, mapLine, mapLines, recordLines}
+use Rattle.format.specs.Listing.{digits, line, mapWord, epWord, epLine, mapLine, mapLines, recordLines}
 use Rattle.format.proofs.Loops.{one-left, none-left, total-turn, sets-front}
 use Rattle.format.proofs.Stores.{sets-append}
 use Rattle.common.specs.Reads.{CellIs}
-use Rattle.listing.specs.Text.{Wrote, WroteIn, Still, Shows, Numbers, mapsFrom, entriesFrom, recordRoom, numbersOf, recordText, refusalText}
+use Rattle.listing.specs.Text.{Wrote, WroteIn, Still, Shows, Numbers, mapsFrom, entriesFrom, recordRoom, numbersOf, recordText}
 
 -- ---- text part by part
 
@@ -238,13 +238,3 @@ shown {d} {s} h = rw (h .bytes, h .count) (take-at s (drop (length s) d) (length
 pub record-text : (r : Record) {n : Numbers} {ms es : List Row} → n ≡ numbersOf r → ms ≡ r .clip .maps → es ≡ r .clip .entries → recordText n ms es ≡ recordLines r
 unfolding recordText recordLines
 record-text r a b c = rw (a, b, c)
-
--- 21 has the table behind it
-pub refusal-21 : (number table : ℕ) → number ≡ 21 → refusalText number table ≡ line refusedWord (number ∷ table ∷ [])
-unfolding refusalText
-refusal-21 number table e = rw (eq-eqb number 21 e)
-
--- any other number stands alone
-pub refusal-other : (number table : ℕ) → (number ≡ 21 → ⊥) → refusalText number table ≡ line refusedWord (number ∷ [])
-unfolding refusalText
-refusal-other number table h = rw (ne-eqb number 21 h)

@@ -4,11 +4,10 @@ use mathlib.Core.Path.{_≡_}
 use mathlib.Core.List.{List, [], _∷_, _++_}
 use lib.ListN.{length}
 use lib.Seq.{sets}
-use lib.Dec.{eqb}
 use Rattle.format.specs.ClipRecord.{Row, Record, entryCount}
-use Rattle.format.specs.Bytes.{pick, rowsAt, total}
+use Rattle.format.specs.Bytes.{rowsAt, total}
 use Rattle.format.specs.Tables.{cellsAt, tableRows, rowRoom, overwritten, mapCells, entryCells}
-use Rattle.format.specs.Listing.{line, clipWord, seqWord, progWord, markWord, refusedWord, mapLines}
+use Rattle.format.specs.Listing.{line, clipWord, seqWord, progWord, markWord, mapLines}
 
 -- s was stored into d from place `at`, which gives e, and r is the place behind it
 pub record Wrote (d : List ℕ) (at : ℕ) (s : List ℕ) (r : ℕ) (e : List ℕ) : Type 0 where
@@ -81,10 +80,6 @@ recordText n maps entries =
     ++ (line progWord (n .programs ∷ n .streams ∷ [])
     ++ (mapLines maps entries
     ++ line markWord (n .marks ∷ []))))
-
--- the line of a refusal; 21 tells the table too
-unfoldable pub refusalText : ℕ → ℕ → List ℕ
-refusalText number table = pick (eqb number 21) (line refusedWord (number ∷ table ∷ [])) (line refusedWord (number ∷ []))
 
 -- ---- room
 

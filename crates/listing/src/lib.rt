@@ -6,8 +6,8 @@ ghost use lib.ListN.{length};
 ghost use Rattle.format.specs.Bytes.{flat, total};
 ghost use Rattle.format.specs.ClipRecord.{entryCount};
 ghost use Rattle.format.specs.Tables.{tableRows, cellsAt, rowRoom, mapCells, entryCells};
-ghost use Rattle.format.specs.Listing.{digits, spaced, line, epLine, mapLine, mapLines};
-ghost use Rattle.listing.specs.Text.{Wrote, WroteIn, Shows, Listable, lineRoom, mapsFrom, entriesFrom, numbers, recordText, refusalText, refusalRoom};
+ghost use Rattle.format.specs.Listing.{digits, spaced, line, refusedWord, epLine, mapLine, mapLines};
+ghost use Rattle.listing.specs.Text.{Wrote, WroteIn, Shows, Listable, lineRoom, mapsFrom, entriesFrom, numbers, recordText, refusalRoom};
 use common::cells::cell_at;
 
 // Stores one byte at `at`.
@@ -178,15 +178,20 @@ pub fn put_record(
     put_line(out, d, b"mark", &mark)
 }
 
-// Stores the line of a refusal from the front, with the table after 21, and answers its length.
-pub fn put_refusal(number: u32, table: u32, out: &mut [u8]) -> usize
+// Stores the line of a refusal from the front, and answers its length.
+pub fn put_refusal(number: u32, out: &mut [u8]) -> usize
     requires { ⌜ refusalRoom ≤ length (now out) ⌝ }
-    ensures { λ r. ⌜ Shows (now (out .entry)) (refusalText number table) r (now (out .exit)) ⌝ }
+    ensures { λ r. ⌜ Shows (now (out .entry)) (line refusedWord (number ∷ [])) r (now (out .exit)) ⌝ }
 {
-    if number == 21 {
-        let both = [number, table];
-        return put_line(out, 0, b"refused", &both);
-    }
-    let one = [number];
-    put_line(out, 0, b"refused", &one)
+    let numbers = [number];
+    put_line(out, 0, b"refused", &numbers)
+}
+
+// Stores the line of 21 with the table that is too short from the front, and answers its length.
+pub fn put_too_short(table: u32, out: &mut [u8]) -> usize
+    requires { ⌜ refusalRoom ≤ length (now out) ⌝ }
+    ensures { λ r. ⌜ Shows (now (out .entry)) (line refusedWord (21 ∷ table ∷ [])) r (now (out .exit)) ⌝ }
+{
+    let numbers = [21, table];
+    put_line(out, 0, b"refused", &numbers)
 }
