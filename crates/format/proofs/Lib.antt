@@ -21,4 +21,5 @@ pub mod Write
 pub mod Whole
 pub mod Maker
 pub mod ClipTables
+pub mod Listing
 pub mod Rounding

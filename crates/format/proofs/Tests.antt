@@ -3,7 +3,7 @@ use Prim.Native.Nat.{ℕ, suc}
 use mathlib.Core.Path.{_≡_, refl}
 use mathlib.Core.Bool.{Bool, true, false}
 use native.Mathlib.Omega.{arith}
-use Rattle.format.specs.Bytes.{both, unless}
+use Rattle.format.specs.Bytes.{both, pick, unless}
 
 -- both tests pass where their conjunction does
 pub both-true : (a b : Bool) → both a b ≡ true → (a ≡ true) × (b ≡ true)
@@ -16,6 +16,11 @@ split-both {a} {b} h = both-true a b h
 
 pub true-both : {a b : Bool} → a ≡ true → b ≡ true → both a b ≡ true
 true-both h g = rw h g
+
+-- a choice that is not its second value passed its test
+pub picked : {A : Type 0} {x y z : A} (b : Bool) → (y ≡ z → ⊥) → pick b x y ≡ z → (b ≡ true) × (x ≡ z)
+picked true other h = (refl, h)
+picked false other h = absurd (other h)
 
 -- a refusal that is not given was tested, and so were the later ones
 pub passed : (b : Bool) (k later : ℕ) → unless b (suc k) later ≡ 0 → (b ≡ true) × (later ≡ 0)

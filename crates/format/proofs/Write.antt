@@ -116,7 +116,8 @@ encode-bytes c = all-is (all-bytes c)
 
 -- ---- a good record is not refused
 
-maps-add : {most : ℕ} {ms es : List Row} → Maps most ms es → total entryCount ms ≡ length es
+-- the maps' counts add up to the entries
+pub maps-add : {most : ℕ} {ms es : List Row} → Maps most ms es → total entryCount ms ≡ length es
 maps-add Maps.none = refl
 maps-add (Maps.more {own = own} {rest = rest} g size good few later) =
     let r = maps-add later in

@@ -230,6 +230,10 @@ shows {d} {e} {r} {most} {s} w h =
 pub room-4096 : (n m : ℕ) → n ≤ 4096 → m ≤ 4096 → recordRoom n m ≤ 262144
 room-4096 n m h g = omega arith
 
+-- the text in other words
+pub shows-as : {d e : List ℕ} {r : ℕ} {s t : List ℕ} → s ≡ t → Shows d s r e → Shows d t r e
+shows-as {d} {e} {r} q h = subst (λ (x : List ℕ). Shows d x r e) q h
+
 -- the first r bytes are the text
 pub shown : {d s e : List ℕ} {r : ℕ} → Shows d s r e → take r e ≡ s
 shown {d} {s} h = rw (h .bytes, h .count) (take-at s (drop (length s) d) (length s) refl)

@@ -1,0 +1,2 @@
+-- What the listing's text is, by what reading answered.
+pub mod Laws

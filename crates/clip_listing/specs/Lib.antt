@@ -1,0 +1,2 @@
+-- The text of what reading answered.
+pub mod Told

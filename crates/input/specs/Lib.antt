@@ -1,0 +1,2 @@
+-- What is promised of an input that was read.
+pub mod Got
