@@ -1,25 +1,30 @@
-// Prints the listing of a record with one map and one entry.
+// Prints the listing of each file that its arguments name, each behind a line with the file's name.
 use libc::STDOUT_FILENO;
 
+fn list_file(path: &[u8]) {
+    io::write_all(STDOUT_FILENO, b"file ");
+    io::write_all(STDOUT_FILENO, path);
+    io::write_all(STDOUT_FILENO, b"\n");
+    let fd = os::open_read(path);
+    if fd < 0 {
+        os::fail(path);
+        return;
+    }
+    listing_io::list_input(fd, path);
+    libc::close(fd);
+}
+
+fn list_argument(i: usize) {
+    let mut path = io::buffer();
+    let length = os::arg(i, &mut path);
+    list_file(&path[..length]);
+}
+
 fn main() {
-    let maps = [0x11u8, 0x10, 0, 0, 1, 0, 0, 0, 1, 0, 0, 0];
-    let entries = [0u8, 0, 0, 0, 0, 0, 0, 0, 0, 0, 8, 0, 7, 0, 2, 0, 0, 0, 0, 0];
-    let mut out = [0u8; 256];
-    let n = listing::put_record(
-        1,
-        1,
-        6000000,
-        1000,
-        0,
-        0,
-        0,
-        0,
-        0,
-        &maps,
-        1,
-        &entries,
-        1,
-        &mut out,
-    );
-    io::write_all(STDOUT_FILENO, &out[..n]);
+    let count = os::arg_count();
+    let mut i = 1;
+    while i < count {
+        list_argument(i);
+        i += 1;
+    }
 }

@@ -1,49 +1,46 @@
--- The two tables have a row each, and the output has room for the text.
-use mathlib.Core.Path.{sym}
-use lib.Dec.{lit≤}
-use lib.Seq.{length-take-le}
-use Rattle.format.specs.Tables.{tableRows, lowAt}
+-- The arguments are taken in turn.
+use Prim.Native.Nat.{_-_, _≤_, _^_}
 use borrow.Author.Needs.{needs}
 use Rattle.listing_test.proofs.main.Statement.{statement}
 use Rattle.listing_test.proofs.main.Tie as tie
 
-slice-aggregate-put-record : tie.Need-slice-aggregate-put-record
-slice-aggregate-put-record c = search needs
+abbrev Inv-loop : tie.InvT-loop
+Inv-loop count i₀ i = i ≤ 2 ^ 64 - 1
 
-slice-aggregate-put-record-2 : tie.Need-slice-aggregate-put-record-2
-slice-aggregate-put-record-2 c = search needs
+abbrev μ-loop : tie.MeasureT-loop
+μ-loop count i₀ i = count - i
 
-slice-aggregate-put-record-3 : tie.Need-slice-aggregate-put-record-3
-slice-aggregate-put-record-3 c = search needs
+arg-count-requires : tie.Need-arg-count-requires Inv-loop μ-loop
+arg-count-requires c κs = search needs
 
-put-record-requires : tie.Need-put-record-requires
-unfolding tableRows lowAt
-put-record-requires c κs =
-    record { mapRows = lit≤ tt; entryRows = lit≤ tt; counts = lit≤ tt; room = lit≤ tt }
+loop-holds : tie.Need-loop-holds Inv-loop μ-loop
+loop-holds c = search needs
 
-array-share-prefix-out : tie.Need-array-share-prefix-out
-array-share-prefix-out c = search needs
+list-argument-requires : tie.Need-list-argument-requires Inv-loop μ-loop
+list-argument-requires c κs = search needs
 
-slice-aggregate-write-all : tie.Need-slice-aggregate-write-all
-slice-aggregate-write-all c =
-    let text = c .before .before .put-record in
-    sym (length-take-le (text .result) _ (text .ensures .within))
+add-i : tie.Need-add-i Inv-loop μ-loop
+add-i c = search needs
 
-write-all-requires : tie.Need-write-all-requires
-write-all-requires c κs = search needs
+loop-less : tie.Need-loop-less Inv-loop μ-loop
+loop-less c = search needs
 
-returns : tie.Need-returns
+loop-again : tie.Need-loop-again Inv-loop μ-loop
+loop-again c = search needs
+
+returns : tie.Need-returns Inv-loop μ-loop
 returns c = search needs
 
 pub main-spec : {M : Type 1} → statement M
 main-spec =
     tie.close
     (tie.spec
-    slice-aggregate-put-record
-    slice-aggregate-put-record-2
-    slice-aggregate-put-record-3
-    put-record-requires
-    array-share-prefix-out
-    slice-aggregate-write-all
-    write-all-requires
+    Inv-loop
+    μ-loop
+    arg-count-requires
+    loop-holds
+    list-argument-requires
+    add-i
+    loop-less
+    loop-again
     returns)

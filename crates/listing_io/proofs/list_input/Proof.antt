@@ -4,8 +4,8 @@ use mathlib.Core.Path.{sym}
 use lib.ListN.{length}
 use lib.Seq.{length-take-le}
 use borrow.Author.Needs.{needs}
-use Rattle.list_clip.proofs.main.Statement.{statement}
-use Rattle.list_clip.proofs.main.Tie as tie
+use Rattle.listing_io.proofs.list_input.Statement.{statement}
+use Rattle.listing_io.proofs.list_input.Tie as tie
 
 slice-aggregate-read-input : tie.Need-slice-aggregate-read-input
 slice-aggregate-read-input c = search needs
@@ -33,9 +33,6 @@ print-listing-requires c κs = search needs
 enum-told : tie.Need-enum-told
 enum-told c = search needs
 
-slice-aggregate-fail : tie.Need-slice-aggregate-fail
-slice-aggregate-fail c = search needs
-
 fail-requires : tie.Need-fail-requires
 fail-requires c κs = search needs
 
@@ -45,8 +42,8 @@ returns c = search needs
 returns-2 : tie.Need-returns-2
 returns-2 c = search needs
 
-pub main-spec : {M : Type 1} → statement M
-main-spec =
+pub list-input-spec : {M : Type 1} → statement M
+list-input-spec =
     tie.close
     (tie.spec
     slice-aggregate-read-input
@@ -56,7 +53,6 @@ main-spec =
     slice-aggregate-print-listing
     print-listing-requires
     enum-told
-    slice-aggregate-fail
     fail-requires
     returns
     returns-2)

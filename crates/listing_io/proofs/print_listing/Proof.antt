@@ -2,8 +2,8 @@
 use mathlib.Core.Path.{sym}
 use lib.Seq.{length-take-le}
 use borrow.Author.Needs.{needs}
-use Rattle.list_clip.proofs.print_listing.Statement.{statement}
-use Rattle.list_clip.proofs.print_listing.Tie as tie
+use Rattle.listing_io.proofs.print_listing.Statement.{statement}
+use Rattle.listing_io.proofs.print_listing.Tie as tie
 
 slice-aggregate-list : tie.Need-slice-aggregate-list
 slice-aggregate-list c = search needs
