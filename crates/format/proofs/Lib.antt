@@ -21,5 +21,6 @@ pub mod Write
 pub mod Whole
 pub mod Maker
 pub mod ClipTables
+pub mod Counts
 pub mod Listing
 pub mod Rounding

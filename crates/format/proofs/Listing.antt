@@ -13,6 +13,7 @@ use Rattle.format.specs.Reading.{clipOf}
 use Rattle.format.specs.Refusals.{Stated, ReadAnswer, refused, tooShort, accepted, refusalOf, tablesOf, statedOf, unlessShort, tablesAnswer, readAnswer}
 use Rattle.format.specs.Tables.{Nine, Room, tableBytes, tableRows, rowRoom, overwritten, atcCells, stcCells, programCells, streamCells, mapCells, entryCells, extensionCells}
 use Rattle.format.specs.Listing.{rows4096, listingTables}
+use Rattle.format.proofs.Counts.{AtMost}
 use Rattle.format.proofs.Tests.{picked}
 use Rattle.format.proofs.ClipTables.{Shaped, shaped}
 use Rattle.format.proofs.Read.{good-clip}
@@ -90,16 +91,8 @@ entries-add f bytes = maps-add (good-clip f bytes .maps-good)
 at-most : (cells n : ℕ) → 4096 * (4 * cells) / (4 * cells) ≡ 4096 → n ≤ rowRoom cells (rows4096 cells) → n ≤ 4096
 at-most cells n e h = rw (length-replicate {A = ℕ} (4096 * (4 * cells)) 0, e) at h
 
--- how many rows they have room for, where text shows the rows
-pub record Few (rows : Nine (List Row)) : Type 0 where
-  pub atcs : length (rows .atcs) ≤ 4096
-  pub stcs : length (rows .stcs) ≤ 4096
-  pub programs : length (rows .programs) ≤ 4096
-  pub streams : length (rows .streams) ≤ 4096
-  pub maps : length (rows .maps) ≤ 4096
-  pub entries : length (rows .entries) ≤ 4096
-
-pub few : (rows : Nine (List Row)) → Room rows listingTables → Few rows
+-- what has room in them has at most so many
+pub few : (rows : Nine (List Row)) → Room rows listingTables → AtMost 4096 rows
 unfolding listingTables
 few rows r = record {
   atcs = at-most atcCells _ refl (r .atcs);
@@ -108,4 +101,7 @@ few rows r = record {
   streams = at-most streamCells _ refl (r .streams);
   maps = at-most mapCells _ refl (r .maps);
   entries = at-most entryCells _ refl (r .entries);
+  extensions = at-most extensionCells _ refl (r .extensions);
+  listPrograms = at-most programCells _ refl (r .listPrograms);
+  listStreams = at-most streamCells _ refl (r .listStreams);
 }

@@ -247,7 +247,8 @@ module _ (f : List ℕ) (bytes : IsBytes f) where
       let few : runs own ≤ 262143 = omega (arith, runs-few own) in
       Maps.more (map-good p) k (own-good c p) few (maps-read c (nextMap p) n)
 
-  few-maps : (c : ℕ) → mapCount f c ≤ 255
+  -- a count of maps is a byte
+  pub few-maps : (c : ℕ) → mapCount f c ≤ 255
   unfolding mapCount
   few-maps c = go (hasMaps f c)
     where

@@ -8,7 +8,7 @@ use Rattle.format.specs.Bytes.{both, pick, every, unless, fits}
 use Rattle.format.specs.ClipRecord.{Row, Scalars, Clip, Record, atcStcCount, streamCount, codingType, aspect, language, mapType, entryCount, time, entryType, lettersRight, clipInfoIn, sequencesStart, programsStart, cpiStart, marksStart, extensionsStart, sequencesEnd, marksIn}
 use Rattle.format.specs.Programs.{isVideo, programsEnd}
 use Rattle.format.specs.EntryPoints.{cpiIn, mapsIn}
-use Rattle.format.specs.Extensions.{extensionRows, dataOf, dataIn}
+use Rattle.format.specs.Extensions.{extensionRows, dataStart, dataLength, dataOf, dataIn}
 use Rattle.format.specs.Reading.{recordOf}
 use Rattle.format.specs.Tables.{Nine, tableBytes, rowRoom, overwritten, Table, isStated, addUp, rowsOf, ClipTables, clipIn, atcCells, stcCells, programCells, streamCells, mapCells, entryCells, extensionCells}
 use Rattle.format.specs.Rewriting.{runs, encode}
@@ -154,6 +154,12 @@ dataRefusal f t k =
 -- a part of the file; nothing where it is refused
 unfoldable pub dataAsked : List ℕ → Table → ℕ → List ℕ
 dataAsked f t k = pick (eqb (dataRefusal f t k) 0) (dataOf f (extensionRow t k)) []
+
+-- 01's numbers of that answer: the refusal, the place in the file, the length. Other numbers are 0
+abbrev pub dataNumbers : List ℕ → Table → ℕ → List ℕ
+dataNumbers f t k =
+    let refusal = dataRefusal f t k in
+    refusal ∷ pick (eqb refusal 0) (dataStart (extensionRow t k)) 0 ∷ pick (eqb refusal 0) (dataLength (extensionRow t k)) 0 ∷ []
 
 -- ---- writing a record: 22, 30, 31, 23
 

@@ -1,0 +1,2 @@
+-- Laws of the numbers that C is handed.
+pub mod Laws
