@@ -1,0 +1,214 @@
+/* clpi.h: Blu-ray clip information (CLPI) files, read into tables that the caller lends.
+ *
+ * Link with libclpi.a (`rt staticlib clpi`). Every call takes every input, allocates nothing, keeps nothing, calls
+ * nothing, and ends. What it answers and what it stores is proved equal to the format's definitions; what is
+ * not proved is the caller's side of this page:
+ *
+ *  - a pointer points to as many bytes as its length says; with length 0 it may be NULL;
+ *  - the tables lent to one call overlap neither one another nor the file, and nothing else uses them meanwhile.
+ *
+ * A table is an array of the structs below, lent as bytes. The array may have any length, and what stands beyond
+ * its last whole row is left alone. A refusal leaves every table as it was; on success the rows stand at each
+ * table's front, and beyond them is what was there before. */
+#ifndef CLPI_H
+#define CLPI_H
+
+#include <stddef.h>
+#include <stdint.h>
+
+#ifdef __cplusplus
+extern "C" {
+#endif
+
+/* ---- refusals */
+
+enum clpi_refusal {
+    CLPI_OK = 0,
+    /* the disc's author */
+    CLPI_HEADER_SHORT = 1,  /* under 8 bytes, or right letters and under 40 */
+    CLPI_LETTERS = 2,       /* neither HDMV nor CLPI */
+    CLPI_CLIP_INFO = 3,     /* under 194 bytes, or the ClipInfo passes the file's end */
+    CLPI_SEQUENCES = 4,     /* the sequences pass the file's end */
+    CLPI_PROGRAMS = 5,      /* the programs pass the file's end */
+    CLPI_CPI = 6,           /* the CPI's length or its map headers pass the file's end */
+    CLPI_EP_MAP = 7,        /* a map's address, fine address or rows pass their end */
+    CLPI_MARKS = 8,         /* the marks pass the file's end */
+    /* the caller */
+    CLPI_FILE_TOO_LONG = 20,  /* over CLPI_MOST_BYTES */
+    CLPI_TABLE_SHORT = 21,    /* a table is too short: `table` and `rows_needed` tell which, and how long it must be */
+    CLPI_ROWS = 22            /* a row number, stated rows or a row's data that isn't there */
+};
+
+/* the longest file that is read */
+#define CLPI_MOST_BYTES 536870912u
+
+/* the most rows that an accepted file can need, table by table */
+#define CLPI_MOST_ATCS 255u
+#define CLPI_MOST_STCS 65025u
+#define CLPI_MOST_PROGRAMS 255u
+#define CLPI_MOST_STREAMS 65025u
+#define CLPI_MOST_MAPS 255u
+#define CLPI_MOST_ENTRIES 66846465u
+#define CLPI_MOST_EXTENSIONS 255u
+
+/* ---- the rows of the tables */
+
+#if defined(__BYTE_ORDER__) && __BYTE_ORDER__ != __ORDER_LITTLE_ENDIAN__
+#error "the cells of a table have their lowest byte first"
+#endif
+
+/* table 1: a sequence with one arrival time clock */
+struct clpi_atc {
+    uint32_t spn_atc_start;
+    uint32_t stc_count; /* how many of table 2's rows, in order, are its own */
+    uint32_t offset_stc_id;
+};
+
+/* table 2: a sequence with one system time clock; times in 45 kHz ticks */
+struct clpi_stc {
+    uint32_t pcr_pid;
+    uint32_t spn_stc_start;
+    uint32_t presentation_start_time;
+    uint32_t presentation_end_time;
+};
+
+/* tables 3 and 8: a program */
+struct clpi_program {
+    uint32_t spn_program_sequence_start;
+    uint32_t program_map_pid;
+    uint32_t stream_count; /* how many rows of table 4 (or 9), in order, are its own */
+};
+
+/* tables 4 and 9: a stream. The language is three bytes, the first one highest, A to Z lowered; 0 for none */
+struct clpi_stream {
+    uint32_t pid;
+    uint32_t stream_coding_type;
+    uint32_t format_info_byte;
+    uint32_t aspect_ratio_nibble;
+    uint32_t language_code;
+};
+
+/* table 5: an entry point map */
+struct clpi_ep_map {
+    uint32_t stream_pid;
+    uint32_t ep_stream_type;
+    uint32_t entry_count; /* how many of table 6's rows, in order, are its own */
+};
+
+/* table 6: an entry point; its time in 90 kHz ticks */
+struct clpi_ep_entry {
+    uint32_t is_angle_change_point;
+    uint32_t i_end_position_offset;
+    uint32_t pts_ep_start;
+    uint32_t spn_ep_start;
+    uint32_t ep_stream_type;
+};
+
+/* table 7: an extension, by the place of its data in the file */
+struct clpi_extension {
+    uint32_t id1;
+    uint32_t id2;
+    uint32_t start;
+    uint32_t length;
+};
+
+/* ---- reading */
+
+/* What reading answers. Where `refusal` is not 0 every other number is 0, but for `table` and `rows_needed` with 21. */
+struct clpi_reading {
+    uint32_t refusal;     /* enum clpi_refusal */
+    uint32_t table;       /* 21: the lowest table, 1 to 9, that is too short */
+    uint32_t rows_needed; /* 21: the rows that table needs */
+    uint32_t version;     /* four bytes, the first one highest */
+    uint32_t clip_stream_type;
+    uint32_t application_type;
+    uint32_t ts_recording_rate; /* bytes a second */
+    uint32_t number_of_source_packets;
+    uint32_t validity_flags;
+    uint32_t format_id; /* four bytes, the first one highest */
+    uint32_t marks;
+    /* the rows of tables 1 to 9 */
+    uint32_t atcs;
+    uint32_t stcs;
+    uint32_t programs;
+    uint32_t streams;
+    uint32_t maps;
+    uint32_t entries;
+    uint32_t extensions;
+    uint32_t list_programs;
+    uint32_t list_streams;
+    uint32_t has_list; /* 1 where there is a (2, 5) list, which may be empty */
+};
+
+/* Reads a file. Each table is given by its first byte and its length in bytes. */
+struct clpi_reading clpi_read(
+    const uint8_t *file, size_t file_bytes,
+    uint8_t *atcs, size_t atcs_bytes,
+    uint8_t *stcs, size_t stcs_bytes,
+    uint8_t *programs, size_t programs_bytes,
+    uint8_t *streams, size_t streams_bytes,
+    uint8_t *maps, size_t maps_bytes,
+    uint8_t *entries, size_t entries_bytes,
+    uint8_t *extensions, size_t extensions_bytes,
+    uint8_t *list_programs, size_t list_programs_bytes,
+    uint8_t *list_streams, size_t list_streams_bytes);
+
+/* Nine tables with the rows that each has room for. */
+struct clpi_tables {
+    struct clpi_atc *atcs;
+    size_t atcs_room;
+    struct clpi_stc *stcs;
+    size_t stcs_room;
+    struct clpi_program *programs;
+    size_t programs_room;
+    struct clpi_stream *streams;
+    size_t streams_room;
+    struct clpi_ep_map *maps;
+    size_t maps_room;
+    struct clpi_ep_entry *entries;
+    size_t entries_room;
+    struct clpi_extension *extensions;
+    size_t extensions_room;
+    struct clpi_program *list_programs;
+    size_t list_programs_room;
+    struct clpi_stream *list_streams;
+    size_t list_streams_room;
+};
+
+/* The same call on the structs. */
+static inline struct clpi_reading clpi_read_tables(const uint8_t *file, size_t file_bytes, const struct clpi_tables *t)
+{
+    return clpi_read(
+        file, file_bytes,
+        (uint8_t *)t->atcs, t->atcs_room * sizeof *t->atcs,
+        (uint8_t *)t->stcs, t->stcs_room * sizeof *t->stcs,
+        (uint8_t *)t->programs, t->programs_room * sizeof *t->programs,
+        (uint8_t *)t->streams, t->streams_room * sizeof *t->streams,
+        (uint8_t *)t->maps, t->maps_room * sizeof *t->maps,
+        (uint8_t *)t->entries, t->entries_room * sizeof *t->entries,
+        (uint8_t *)t->extensions, t->extensions_room * sizeof *t->extensions,
+        (uint8_t *)t->list_programs, t->list_programs_room * sizeof *t->list_programs,
+        (uint8_t *)t->list_streams, t->list_streams_room * sizeof *t->list_streams);
+}
+
+/* ---- the data of an extension */
+
+/* Where a row's data stands in the file; offset and length are 0 where `refusal` is not. */
+struct clpi_part {
+    uint32_t refusal; /* 0 or CLPI_ROWS; data of length 0 is no refusal */
+    size_t offset;
+    size_t length;
+};
+
+/* The place of the data of row `row`, counted from 0, of table 7 with `rows` rows stated to be in it: 22 where more
+ * rows are stated than lent, where the row is not one of them, or where its data isn't inside the file. */
+struct clpi_part clpi_extension_data(
+    const uint8_t *file, size_t file_bytes,
+    const uint8_t *extensions, size_t extensions_bytes,
+    uint32_t rows, uint32_t row);
+
+#ifdef __cplusplus
+}
+#endif
+
+#endif
