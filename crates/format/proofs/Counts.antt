@@ -1,4 +1,4 @@
--- No table needs more rows than its counts can tell: 66,846,465, the entries of 255 maps of 262,143 each.
+-- No table needs more rows than the counts in a file can tell.
 use Prim.Native.Nat.{ℕ, zero, suc, _+_, _*_, _≤_, _<_}
 use mathlib.Core.Path.{_≡_, refl, subst}
 use mathlib.Core.List.{List, [], _∷_, _++_, map}
@@ -19,6 +19,18 @@ use Rattle.format.proofs.Read.{own-length, few-maps}
 use Rattle.format.proofs.Rows.{rows-length}
 use Rattle.format.proofs.Stores.{be-below}
 use Rattle.format.proofs.Tests.{picked}
+
+-- the most rows of each table: a byte counts to 255, and 18 bits to 262,143
+pub record Counted (rows : Nine (List Row)) : Type 0 where
+  pub atcs : length (rows .atcs) ≤ 255
+  pub stcs : length (rows .stcs) ≤ 65025
+  pub programs : length (rows .programs) ≤ 255
+  pub streams : length (rows .streams) ≤ 65025
+  pub maps : length (rows .maps) ≤ 255
+  pub entries : length (rows .entries) ≤ 66846465
+  pub extensions : length (rows .extensions) ≤ 255
+  pub listPrograms : length (rows .listPrograms) ≤ 255
+  pub listStreams : length (rows .listStreams) ≤ 65025
 
 -- at most n rows in each table
 pub record AtMost (n : ℕ) (rows : Nine (List Row)) : Type 0 where
@@ -69,25 +81,25 @@ module _ (f : List ℕ) (bytes : IsBytes f) where
   byte-few : (p : ℕ) → beAt f p 1 ≤ 255
   byte-few p = let h = be-below f bytes p 1 in omega arith
 
-  atcs-few : (start : ℕ) → length (atcsFrom f start) ≤ 66846465
+  atcs-few : (start : ℕ) → length (atcsFrom f start) ≤ 255
   unfolding atcsFrom
   atcs-few start = rw rows-length (omega (arith, byte-few (start + 5)))
 
-  stcs-few : (start : ℕ) → length (stcsFrom f start) ≤ 66846465
+  stcs-few : (start : ℕ) → length (stcsFrom f start) ≤ 65025
   unfolding stcsFrom
   stcs-few start =
-      groups-few (stcsOf f) (nextAtc f) 255 (λ p. rw rows-length (byte-few (p + 4))) (start + 6) (beAt f (start + 5) 1) 66846465 (byte-few (start + 5)) (lit≤ tt)
+      groups-few (stcsOf f) (nextAtc f) 255 (λ p. rw rows-length (byte-few (p + 4))) (start + 6) (beAt f (start + 5) 1) 65025 (byte-few (start + 5)) (lit≤ tt)
 
-  programs-few : (start : ℕ) → length (programsFrom f start) ≤ 66846465
+  programs-few : (start : ℕ) → length (programsFrom f start) ≤ 255
   unfolding programsFrom
   programs-few start = rw rows-length (omega (arith, byte-few (start + 5)))
 
-  streams-few : (start : ℕ) → length (streamsFrom f start) ≤ 66846465
+  streams-few : (start : ℕ) → length (streamsFrom f start) ≤ 65025
   unfolding streamsFrom
   streams-few start =
-      groups-few (streamsOf f) (nextProgram f) 255 (λ p. rw rows-length (byte-few (p + 6))) (start + 6) (beAt f (start + 5) 1) 66846465 (byte-few (start + 5)) (lit≤ tt)
+      groups-few (streamsOf f) (nextProgram f) 255 (λ p. rw rows-length (byte-few (p + 6))) (start + 6) (beAt f (start + 5) 1) 65025 (byte-few (start + 5)) (lit≤ tt)
 
-  maps-few : (c : ℕ) → length (mapsFrom f c) ≤ 66846465
+  maps-few : (c : ℕ) → length (mapsFrom f c) ≤ 255
   unfolding mapsFrom
   maps-few c = rw rows-length (omega (arith, few-maps f bytes c))
 
@@ -104,12 +116,12 @@ module _ (f : List ℕ) (bytes : IsBytes f) where
       go true = lit≤ tt
       go false = lit≤ tt
 
-  extensions-few : (start : ℕ) → length (extensionRows f start) ≤ 66846465
+  extensions-few : (start : ℕ) → length (extensionRows f start) ≤ 255
   unfolding extensionRows
   extensions-few start = go (hasExtensions f start)
     where
-      go : (b : Bool) → length (pick b (gather (keptAt f start) nextExtension (start + 12) (extensionCount f start)) []) ≤ 66846465
-      go true = groups-few (keptAt f start) nextExtension 1 (kept-few start) (start + 12) (extensionCount f start) 66846465 (byte-few (start + 11)) (lit≤ tt)
+      go : (b : Bool) → length (pick b (gather (keptAt f start) nextExtension (start + 12) (extensionCount f start)) []) ≤ 255
+      go true = groups-few (keptAt f start) nextExtension 1 (kept-few start) (start + 12) (extensionCount f start) 255 (byte-few (start + 11)) (lit≤ tt)
       go false = lit≤ tt
 
   -- the data of the (2, 5) list is bytes too
@@ -124,15 +136,15 @@ module _ (f : List ℕ) (bytes : IsBytes f) where
 
 -- the rows of a list that is read as programs
 list-few : (b : Bool) (l : Found) → ((d : List ℕ) → l ≡ found d → IsBytes d)
-    → (length (pick b (listProgramsOf l) []) ≤ 66846465) × (length (pick b (listStreamsOf l) []) ≤ 66846465)
+    → (length (pick b (listProgramsOf l) []) ≤ 255) × (length (pick b (listStreamsOf l) []) ≤ 65025)
 list-few true nothing h = (lit≤ tt, lit≤ tt)
 list-few true (found d) h = (programs-few d (h d refl) 0, streams-few d (h d refl) 0)
 list-few false l h = (lit≤ tt, lit≤ tt)
 
 -- all nine
-pub tables-few : (f : List ℕ) → IsBytes f → AtMost 66846465 (tablesOf f)
+pub tables-counted : (f : List ℕ) → IsBytes f → Counted (tablesOf f)
 unfolding tablesOf recordOf clipOf extensionsFrom
-tables-few f bytes =
+tables-counted f bytes =
     let l = listData (extensionsFrom f (extensionsStart f)) in
     let list = list-few (listIn l) l (λ d e. list-bytes f bytes (extensionRows f (extensionsStart f)) d e) in
     record {
@@ -145,6 +157,22 @@ tables-few f bytes =
       extensions = extensions-few f bytes (extensionsStart f);
       listPrograms = list .0;
       listStreams = list .1;
+    }
+
+-- so 66,846,465 is enough for any of them
+pub tables-few : (f : List ℕ) → IsBytes f → AtMost 66846465 (tablesOf f)
+tables-few f bytes =
+    let c = tables-counted f bytes in
+    record {
+      atcs = omega (arith, c .atcs);
+      stcs = omega (arith, c .stcs);
+      programs = omega (arith, c .programs);
+      streams = omega (arith, c .streams);
+      maps = omega (arith, c .maps);
+      entries = c .entries;
+      extensions = omega (arith, c .extensions);
+      listPrograms = omega (arith, c .listPrograms);
+      listStreams = omega (arith, c .listStreams);
     }
 
 -- ---- the rows that a table is said to need
