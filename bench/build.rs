@@ -1,0 +1,8 @@
+//! Links the proved library and libbluray.
+fn main() {
+    let here = std::env::var("CARGO_MANIFEST_DIR").unwrap();
+    println!("cargo:rustc-link-search=native={here}/../target/staticlib");
+    println!("cargo:rustc-link-lib=static=clpi");
+    println!("cargo:rustc-link-lib=dylib=bluray");
+    println!("cargo:rerun-if-changed={here}/../target/staticlib/libclpi.a");
+}
