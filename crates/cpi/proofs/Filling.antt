@@ -1,25 +1,25 @@
 -- Both tables filled map by map: a turn, and the end.
-use Prim.Native.Nat.{ℕ, zero, suc, _+_, _*_, _-_, _<_, _≤_}
+use Prim.Native.Nat.{ℕ, suc, _+_, _*_, _-_, _<_, _≤_}
 use mathlib.Core.Path.{_≡_, refl, sym, ap, _∙_}
 use mathlib.Core.List.{List, [], _∷_}
 use mathlib.Core.Bool.{Bool, true, false}
 use native.Mathlib.Nat.{le-div-iff-mul-le}
 use native.Mathlib.Omega.{arith}
-use lib.ListN.{length, length-append}
+use lib.ListN.{length}
 use lib.Seq.{sets}
-use lib.Dec.{leb, ltb, lit<}
+use lib.Dec.{lit<}
 use borrow.Author.Tests.{leb-true, ltb-true}
 use Rattle.format.specs.Bytes.{pick, both, every, beAt, rowsAt, gather, total}
 use Rattle.format.specs.ClipRecord.{Row, entryCount, present}
-use Rattle.format.specs.EntryPoints.{coarseAt, fineAt, nextCoarse, nextFine, mapTypeAt, coarseCountAt, fineCountAt, mapAt, nextMap, bodyAt, fineStart, coarseFor, entryOf, entriesFor, entriesOf, cpiEnd, hasMaps, mapCount, mapsFrom, entriesFrom, cpiLengthIn, mapHeadersIn, cpiIn, addressIn, coarseRowsIn, fineAddressIn, fineRowsIn, mapIn, mapsIn}
-use Rattle.format.specs.Tables.{cellBytes, rowBytes, tableBytes, rowRoom, overwritten, mapCells, entryCells}
+use Rattle.format.specs.EntryPoints.{coarseAt, fineAt, nextCoarse, nextFine, mapTypeAt, coarseCountAt, fineCountAt, mapAt, nextMap, bodyAt, fineStart, entriesFor, entriesOf, cpiEnd, hasMaps, mapCount, mapsFrom, entriesFrom, cpiLengthIn, mapHeadersIn, cpiIn, addressIn, coarseRowsIn, fineAddressIn, fineRowsIn, mapIn, mapsIn}
+use Rattle.format.specs.Tables.{rowBytes, tableBytes, overwritten}
 use Rattle.format.proofs.Tests.{both-true, split-both}
-use Rattle.format.proofs.Lists.{All, none, more}
-use Rattle.format.proofs.Rows.{rows-length, rows-all, gather-adds, flat-length, all-rows}
+use Rattle.format.proofs.Lists.{none, more}
+use Rattle.format.proofs.Rows.{rows-length, gather-all, gather-adds}
 use Rattle.format.proofs.Read.{own-length}
-use Rattle.format.proofs.Cells.{low-length}
-use Rattle.format.proofs.Loops.{one-left, none-left, flat-append, put-more, sets-front, rows-turn, rows-done, gather-turn, gather-done}
-use Rattle.cpi.specs.Maps.{OneMap, Fill}
+use Rattle.format.proofs.Loops.{one-left, sets-front, rows-turn, rows-done, gather-turn, gather-done}
+use Rattle.format.proofs.Sweep.{row-bytes, HaveCells, table-bytes, rows-bytes}
+use Rattle.cpi.specs.Maps.{Fill}
 
 -- ---- one map's body
 
@@ -44,38 +44,19 @@ body-in f c p h =
 
 -- ---- how many bytes rows take
 
-cells-length : (row : Row) → length (rowBytes row) ≡ 4 * length row
-cells-length row = flat-length 4 cellBytes (all-rows (λ v. low-length 4 v) row)
+-- entries have five cells
+entries-cells : (type : ℕ) (cs : List Row) (k : ℕ) (xs : List Row) → HaveCells 5 (entriesFor type cs k xs)
+entries-cells type cs k [] = none
+entries-cells type cs k (x ∷ xs) = more refl (entries-cells type cs (suc k) xs)
 
-pub map-bytes : (f : List ℕ) (p : ℕ) → length (rowBytes (mapAt f p)) ≡ 12
-map-bytes f p = cells-length (mapAt f p)
+-- so do a map's own
+own-cells : (f : List ℕ) (c p : ℕ) → HaveCells 5 (entriesOf f c p)
+own-cells f c p =
+    entries-cells (mapTypeAt f p) (rowsAt (coarseAt f) nextCoarse (bodyAt f c p + 4) (coarseCountAt f p)) 0 (rowsAt (fineAt f) nextFine (fineStart f c p) (fineCountAt f p))
 
-maps-bytes : (f : List ℕ) (p n : ℕ) → length (tableBytes (rowsAt (mapAt f) nextMap p n)) ≡ 12 * n
-maps-bytes f p n =
-    flat-length 12 rowBytes (rows-all (mapAt f) nextMap (map-bytes f) p n) ∙ ap (λ (m : ℕ). 12 * m) (rows-length (mapAt f) nextMap p n)
-
-entries-bytes : (type : ℕ) (cs : List Row) (k : ℕ) (xs : List Row) → length (tableBytes (entriesFor type cs k xs)) ≡ 20 * length (entriesFor type cs k xs)
-entries-bytes type cs k xs = flat-length 20 rowBytes (fives k xs)
-  where
-    fives : (k : ℕ) (xs : List Row) → All (λ row. length (rowBytes row) ≡ 20) (entriesFor type cs k xs)
-    fives k [] = none
-    fives k (x ∷ xs) = more (cells-length (entryOf type (coarseFor cs k) x)) (fives (suc k) xs)
-
+-- the bytes of a map's entries
 pub own-bytes : (f : List ℕ) (c p : ℕ) → length (tableBytes (entriesOf f c p)) ≡ 20 * fineCountAt f p
-own-bytes f c p =
-    entries-bytes (mapTypeAt f p) (rowsAt (coarseAt f) nextCoarse (bodyAt f c p + 4) (coarseCountAt f p)) 0 (rowsAt (fineAt f) nextFine (fineStart f c p) (fineCountAt f p))
-    ∙ ap (λ (n : ℕ). 20 * n) (own-length f c p)
-
--- all entries of n maps
-gather-bytes : (f : List ℕ) (c p n : ℕ) → length (tableBytes (gather (entriesOf f c) nextMap p n)) ≡ 20 * length (gather (entriesOf f c) nextMap p n)
-gather-bytes f c p zero = refl
-gather-bytes f c p (suc n) =
-    let own = entriesOf f c p in
-    let rest = gather (entriesOf f c) nextMap (nextMap p) n in
-    let r = gather-bytes f c (nextMap p) n in
-    let o = own-bytes f c p in
-    let l = own-length f c p in
-    rw (flat-append rowBytes own rest, length-append (tableBytes own) (tableBytes rest), length-append own rest) (omega arith)
+own-bytes f c p = table-bytes 5 (own-cells f c p) ∙ ap (λ (n : ℕ). 20 * n) (own-length f c p)
 
 -- ---- one map's row, and one map's entries
 
@@ -141,11 +122,11 @@ module _ (f : List ℕ) (c count : ℕ) (maps₀ entries₀ : List ℕ) (fill : 
   unfolding mapsFrom
   maps-fit =
       let m = fill .counted in
-      omega (arith, maps-bytes f (c + 8) (mapCount f c), maps-long)
+      omega (arith, rows-bytes 3 (mapAt f) nextMap (λ p. refl) (c + 8) (mapCount f c), maps-long)
 
   entries-fit : length (tableBytes (entriesFrom f c)) ≤ length entries₀
   unfolding entriesFrom
-  entries-fit = omega (arith, gather-bytes f c (c + 8) (mapCount f c), entries-long)
+  entries-fit = omega (arith, table-bytes 5 (gather-all (entriesOf f c) nextMap (own-cells f c) (c + 8) (mapCount f c)), entries-long)
 
   pub filling-first : Filling f c count maps₀ entries₀ maps₀ entries₀ 0 0
   unfolding mapsIn mapsFrom entriesFrom
@@ -186,7 +167,7 @@ module _ (f : List ℕ) (c count : ℕ) (maps₀ entries₀ : List ℕ) (fill : 
         let a : 12 * (k + 1) ≡ 12 * k + 12 = omega arith in
         let left = total entryCount (rowsAt (mapAt f) nextMap (nextMap q) (count - (k + 1))) in
         let place : at + 20 * n + 20 * left ≡ 20 * length (entriesFrom f c) = omega arith in
-        let ml = rows-turn (mapAt f) nextMap rowBytes maps (12 * k) q count k 12 h (map-bytes f q) em (i .maps-left) in
+        let ml = rows-turn (mapAt f) nextMap rowBytes maps (12 * k) q count k 12 h (row-bytes (mapAt f q)) em (i .maps-left) in
         let w : length (tableBytes (entriesOf f c q)) ≡ 20 * n = own-bytes f c q ∙ ap (λ (x : ℕ). 20 * x) (sym e) in
         let el = gather-turn (entriesOf f c) nextMap rowBytes entries at q count k (20 * n) h w ee (i .entries-left) in
         record {

@@ -10,18 +10,18 @@ use lib.ListN.{length, take, drop, length-append}
 use lib.Seq.{sets}
 use lib.Dec.{leb, ltb, eqb, lit<}
 use borrow.Author.Tests.{eq-eqb, ne-eqb, le-leb, lt-leb, lt-ltb, le-ltb, leb-true}
-use Rattle.format.specs.Bytes.{IsBytes, both, pick, unless, beAt, gather}
+use Rattle.format.specs.Bytes.{IsBytes, both, pick, unless, gather}
 use Rattle.format.specs.ClipRecord.{Row}
 use Rattle.format.specs.Extensions.{blockLength, blockEnd, extensionCount, addressAt, dataLengthAt, nextExtension, extensionAt, isKept, keptAt, hasExtensions, extensionRows, extensionsFrom, dataIn, dataStart, dataLength, Found, nothing, found, listData}
-use Rattle.format.specs.Tables.{cellBytes, rowBytes, tableBytes, rowRoom, overwritten, Table, isStated, extensionCells}
+use Rattle.format.specs.Tables.{rowBytes, tableBytes, rowRoom, overwritten, Table, isStated, extensionCells}
 use Rattle.format.specs.Refusals.{extensionRow, dataRefusal, dataAsked}
 use Rattle.format.proofs.Tests.{both-true}
-use Rattle.format.proofs.Lists.{All, none, more}
+use Rattle.format.proofs.Lists.{none, more}
 use Rattle.format.proofs.Stores.{be-below}
 use Rattle.format.proofs.Cell.{cell-of}
-use Rattle.format.proofs.Cells.{low-length}
-use Rattle.format.proofs.Rows.{all-rows, gather-all, flat-length}
+use Rattle.format.proofs.Rows.{gather-all}
 use Rattle.format.proofs.Loops.{one-left, none-left, flat-append, put-more, gather-done, sets-front}
+use Rattle.format.proofs.Sweep.{row-bytes, HaveCells, table-bytes}
 use Rattle.common.specs.Reads.{ReadIs, CellIs}
 use Rattle.extension.specs.Block.{headOf, Block, InBlock, rowsIn, extensionsIn, entryRows, entryEnd, EntryIs, entryList, orList, foundIn, listEnd, MeasuredIs, PutIs}
 use Rattle.extension.specs.Part.{partOf, PartIs}
@@ -225,10 +225,6 @@ pub one-row : (e : ExtensionDataEntry) → length (entryRows e) ≤ 1
 one-row LeftOut = omega arith
 one-row (Kept id1 id2 start len) = omega arith
 
--- the bytes of a row of four cells
-row-bytes : (id1 id2 start len : ℕ) → length (rowBytes (id1 ∷ id2 ∷ start ∷ len ∷ [])) ≡ 16
-row-bytes id1 id2 start len = flat-length 4 cellBytes (all-rows (λ v. low-length 4 v) (id1 ∷ id2 ∷ start ∷ len ∷ []))
-
 -- what an entry stores: nothing where it is left out
 pub none-put : (e : ExtensionDataEntry) (at : ℕ) (t : List ℕ) → e ≡ LeftOut
     → PutIs (entryRows e) at t t at
@@ -246,7 +242,7 @@ module _ (e : ExtensionDataEntry) {id1 id2 start len : ℕ} (is : e ≡ Kept id1
 
   -- how many they are
   pub entry-size : length (tableBytes (entryRows e)) ≡ 16
-  entry-size = rw entry-bytes (row-bytes id1 id2 start len)
+  entry-size = rw entry-bytes (row-bytes (id1 ∷ id2 ∷ start ∷ len ∷ []))
 
   -- they are stored
   pub one-put : (at : ℕ) (t : List ℕ) {t′ : List ℕ} → t′ ≡ sets t at row → PutIs (entryRows e) at t t′ (at + 16)
@@ -372,22 +368,18 @@ module _ (f : List ℕ) (start : ℕ) where
 -- ---- table 7
 
 module _ (f : List ℕ) (start n : ℕ) where
-  -- an entry's row takes 16 bytes
-  kept-bytes : (p : ℕ) → All (λ row. length (rowBytes row) ≡ 16) (keptAt f start p)
-  kept-bytes p = by-test (isKept f start p)
+  -- an entry's row has four cells
+  kept-cells : (p : ℕ) → HaveCells 4 (keptAt f start p)
+  kept-cells p = by-test (isKept f start p)
     where
-      by-test : (t : Bool) → All (λ row. length (rowBytes row) ≡ 16) (pick t (extensionAt f start p ∷ []) [])
-      by-test true = more (row-bytes (beAt f p 2) (beAt f (p + 2) 2) (start + addressAt f p) (dataLengthAt f p)) none
+      by-test : (t : Bool) → HaveCells 4 (pick t (extensionAt f start p ∷ []) [])
+      by-test true = more refl none
       by-test false = none
-
-  -- so does each row of the table
-  table-bytes : length (tableBytes (rowsIn f start n)) ≡ 16 * length (rowsIn f start n)
-  table-bytes = flat-length 16 rowBytes (gather-all (keptAt f start) nextExtension kept-bytes (start + 12) n)
 
   module _ (t : List ℕ) (is : extensionRows f start ≡ rowsIn f start n) (h : length (extensionRows f start) ≤ rowRoom extensionCells t) where
     -- a table with room for the rows has room for their bytes
     pub table-room : length (tableBytes (rowsIn f start n)) ≤ length t
-    table-room = omega (arith, table-bytes, rw is at h)
+    table-room = omega (arith, table-bytes 4 (gather-all (keptAt f start) nextExtension kept-cells (start + 12) n), rw is at h)
 
     -- stored from its front they leave what stands beyond them
     pub table-filled : {t′ : List ℕ} → t′ ≡ sets t 0 (tableBytes (rowsIn f start n)) → t′ ≡ overwritten (tableBytes (extensionRows f start)) t
