@@ -16,6 +16,7 @@ use Rattle.format.specs.Extensions.{found, listIn, blockLength, extensio
 use Rattle.format.specs.Refusals.{refusalOf}
 use Rattle.format.specs.ReadByRead.{startIn, readsIn, itemsIn, clipInfoRead, stcRead, atcRead, sequencesRead, streamRead, programRead, programsRead, mapHeaderRead, cpiHeadersRead, cpiTypeRead, cpiRead, mapRead, mapsRead, marksRead, refusalRead, extensionRead, blockRead, extensionsRead}
 use Rattle.format.proofs.Loops.{end-ge}
+use Rattle.format.proofs.Places.{up-stc, up-atc, up-stream, up-program}
 use Rattle.format.proofs.Sweep.{end-steps}
 
 -- ---- tests of places, each at or past the one before
@@ -74,21 +75,9 @@ module _ (f : List ℕ) where
 
   -- ---- sequences and programs
 
-  up-stc : (p : ℕ) → p ≤ nextStc p
-  up-stc p = omega arith
-
-  up-atc : (p : ℕ) → p ≤ nextAtc f p
-  up-atc p = let h = end-ge nextStc up-stc (p + 6) (beAt f (p + 4) 1) in omega arith
-
   atc-read : (p : ℕ) → atcRead f p ≡ leb (nextAtc f p) (length f)
   atc-read p =
       headed 4 (1 ∷ 1 ∷ []) (stcRead f) nextStc up-stc (λ q. reads-some f q 2 (4 ∷ 4 ∷ 4 ∷ [])) p (p + 6) (beAt f (p + 4) 1) refl
-
-  up-stream : (p : ℕ) → p ≤ nextStream f p
-  up-stream p = omega arith
-
-  up-program : (p : ℕ) → p ≤ nextProgram f p
-  up-program p = let h = end-ge (nextStream f) up-stream (p + 8) (beAt f (p + 6) 1) in omega arith
 
   stream-read : (p : ℕ) → streamRead f p ≡ leb (nextStream f p) (length f)
   stream-read p =
@@ -99,7 +88,7 @@ module _ (f : List ℕ) where
 
   program-read : (p : ℕ) → programRead f p ≡ leb (nextProgram f p) (length f)
   program-read p =
-      headed 4 (2 ∷ 1 ∷ 1 ∷ []) (streamRead f) (nextStream f) up-stream stream-read p (p + 8) (beAt f (p + 6) 1) refl
+      headed 4 (2 ∷ 1 ∷ 1 ∷ []) (streamRead f) (nextStream f) (up-stream f) stream-read p (p + 8) (beAt f (p + 6) 1) refl
 
   -- a section that starts at any place: the start, six bytes, items
   section : (test : ℕ → Bool) (next : ℕ → ℕ) → ((p : ℕ) → p ≤ next p) → ((p : ℕ) → test p ≡ leb (next p) (length f)) → (start n : ℕ)
@@ -110,11 +99,11 @@ module _ (f : List ℕ) where
 
   sequences : (start : ℕ) → sequencesRead f start ≡ leb (sequencesEnd f start) (length f)
   unfolding sequencesRead sequencesEnd
-  sequences start = section (atcRead f) (nextAtc f) up-atc atc-read start (beAt f (start + 5) 1)
+  sequences start = section (atcRead f) (nextAtc f) (up-atc f) atc-read start (beAt f (start + 5) 1)
 
   programs : (start : ℕ) → programsRead f start ≡ leb (programsEnd f start) (length f)
   unfolding programsRead programsEnd
-  programs start = section (programRead f) (nextProgram f) up-program program-read start (beAt f (start + 5) 1)
+  programs start = section (programRead f) (nextProgram f) (up-program f) program-read start (beAt f (start + 5) 1)
 
   -- ---- ClipInfo and marks
 

@@ -15,6 +15,7 @@ use Rattle.format.specs.Programs.{isVideo, lower, lowered, codingAt, aspectAt, 
 use Rattle.format.specs.ClipRecord.{Row}
 use Rattle.format.specs.Tables.{rowBytes, tableBytes, rowRoom, overwritten, programCells, streamCells}
 use Rattle.format.proofs.Loops.{end-ge}
+use Rattle.format.proofs.Places.{program-head, up-program}
 use Rattle.format.proofs.Rows.{rows-all, gather-all}
 use Rattle.format.proofs.Sweep.{either-way, Filling, filling-front}
 use Rattle.common.specs.Reader.{movedTo}
@@ -35,10 +36,6 @@ pub beyond : (f : List ℕ) (p : ℕ) → length f < p → Moved.PastEnd ≡ mov
 beyond f p h = rw (lt-leb p (length f) h)
 
 module _ (f : List ℕ) (p : ℕ) where
-  -- a stream is not behind the next one
-  pub up-stream : p ≤ nextStream f p
-  up-stream = omega arith
-
   -- the body's length was read, and a move by so many bytes leads behind the body
   pub stream-passed : {v : ℕ} {r : Reader} {m : Moved} → Got f (p + 2) 1 v r → m ≡ movedTo f (r .pos + v) → m ≡ movedTo f (nextStream f p)
   stream-passed {v} {r} g e =
@@ -49,14 +46,6 @@ module _ (f : List ℕ) (p : ℕ) where
   pub stream-cut : length f < p + 2 + 1 → Moved.PastEnd ≡ movedTo f (nextStream f p)
   stream-cut h = beyond f (nextStream f p) (omega arith)
 
-module _ (f : List ℕ) (p : ℕ) where
-  -- the eight bytes of a program stand before the next one, and so does the program
-  pub program-head : p + 8 ≤ nextProgram f p
-  program-head = end-ge (nextStream f) (up-stream f) (p + 8) (beAt f (p + 6) 1)
-
-  pub up-program : p ≤ nextProgram f p
-  up-program = omega (arith, program-head)
-
   -- the stream count was read, a spare byte passed, and the streams passed
   pub program-passed : {v : ℕ} {r first : Reader} {m : Moved} → Got f (p + 6) 1 v r → first .pos ≡ r .pos + 1
       → m ≡ movedTo f (endOf (nextStream f) (first .pos) v) → m ≡ movedTo f (nextProgram f p)
@@ -66,7 +55,7 @@ module _ (f : List ℕ) (p : ℕ) where
 
   -- the eight bytes of the program pass the end
   pub program-cut : length f < p + 8 → Moved.PastEnd ≡ movedTo f (nextProgram f p)
-  program-cut h = beyond f (nextProgram f p) (omega (arith, program-head))
+  program-cut h = beyond f (nextProgram f p) (omega (arith, program-head f p))
 
 -- ---- letters
 
