@@ -15,7 +15,7 @@ use Rattle.format.specs.ClipRecord.{Row}
 use Rattle.format.specs.Extensions.{blockLength, blockEnd, extensionCount, addressAt, dataLengthAt, nextExtension, extensionAt, isKept, keptAt, hasExtensions, extensionRows, extensionsFrom, dataIn, dataStart, dataLength, Found, nothing, found, listData}
 use Rattle.format.specs.Tables.{rowBytes, tableBytes, rowRoom, overwritten, Table, isStated, extensionCells}
 use Rattle.format.specs.Refusals.{extensionRow, dataRefusal, dataAsked}
-use Rattle.format.proofs.Tests.{both-true}
+use Rattle.format.proofs.Tests.{both-true, left-fails, right-fails}
 use Rattle.format.proofs.Lists.{none, more}
 use Rattle.format.proofs.Stores.{be-below}
 use Rattle.format.proofs.Cell.{cell-of}
@@ -32,15 +32,6 @@ use Rattle.extension.specs.declared.ListData.{ListData}
 use Rattle.extension.specs.declared.ListData.the-variants.{At, Absent}
 use Rattle.extension.specs.declared.Measured.{Measured}
 use Rattle.extension.specs.declared.Part.{Part}
-
--- a test that fails fails both
-left-fails : {a : Bool} (b : Bool) → a ≡ false → both a b ≡ false
-left-fails b h = rw h
-
--- whatever the other says
-right-fails : (a : Bool) {b : Bool} → b ≡ false → both a b ≡ false
-right-fails true h = h
-right-fails false h = refl
 
 -- ---- the head
 
