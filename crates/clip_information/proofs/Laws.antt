@@ -1,11 +1,11 @@
 -- The chain of refusals, test by test.
-use Prim.Native.Nat.{ℕ, suc, _+_, _-_, _<_, _≤_}
-use mathlib.Core.Path.{_≡_, refl, sym, ap, _∙_}
+use Prim.Native.Nat.{ℕ, zero, suc, _+_, _-_, _<_, _≤_}
+use mathlib.Core.Path.{_≡_, refl, sym, _∙_}
 use mathlib.Core.List.{List}
-use mathlib.Core.Bool.{Bool, true, false, not}
+use mathlib.Core.Bool.{Bool, true, false}
 use native.Mathlib.Omega.{arith}
 use lib.ListN.{length}
-use lib.Dec.{leb, ltb, eqb, eqb·suc-zero}
+use lib.Dec.{leb, eqb, eqb·suc-zero}
 use borrow.Author.Tests.{eq-eqb, ne-eqb, le-leb, lt-leb, lt-ltb, le-ltb, leb-true}
 use Rattle.format.specs.Bytes.{pick, both, unless, beAt}
 use Rattle.format.specs.ClipRecord.{scalarsOf, lettersRight, clipInfoIn, sequencesStart, programsStart, cpiStart, marksStart, atcsFrom, stcsFrom, sequencesEnd, marksIn}
@@ -13,14 +13,12 @@ use Rattle.format.specs.Programs.{programsFrom, streamsFrom, programsEnd}
 use Rattle.format.specs.EntryPoints.{cpiIn, mapsIn, mapsFrom, entriesFrom}
 use Rattle.format.specs.Reading.{clipOf}
 use Rattle.format.specs.Refusals.{refusalOf}
-use Rattle.format.proofs.Tests.{both-true}
 use Rattle.common.specs.Header.{headerOf}
 use Rattle.common.specs.declared.header.BdmvHeader.{BdmvHeader}
 use Rattle.common.proofs.Laws.{rest}
 use Rattle.cpi.specs.Maps.{measured as cpiMeasured, mapsMeasured}
 use Rattle.cpi.specs.declared.maps.Measured.{Measured as CpiMeasured}
 use Rattle.clip_information.specs.Clips.{clipInfoOf, frontOf, sectionsOf}
-use Rattle.clip_information.specs.declared.sections.ClipInfo.{ClipInfo}
 use Rattle.clip_information.specs.declared.sections.Sections.{Sections}
 
 -- ---- ClipInfo
@@ -145,6 +143,14 @@ front-then f = go (leb (length f) 536870912) (leb 8 (length f)) (lettersRight f)
     go true true false d e x = refl
     go true false c d e x = refl
     go false b c d e x = refl
+
+-- of an accepted file the front passes, and so does all behind it
+pub both-pass : (f : List ℕ) → refusalOf f ≡ 0 → (frontOf f ≡ 0) × (laterOf f ≡ 0)
+both-pass f h = go (frontOf f) (laterOf f) (sym (front-then f) ∙ h)
+  where
+    go : (r x : ℕ) → pick (eqb r 0) x r ≡ 0 → (r ≡ 0) × (x ≡ 0)
+    go zero x h = (refl, h)
+    go (suc r) x h = let g = rw (eqb·suc-zero r) at h in absurd (omega arith)
 
 module _ (f : List ℕ) where
   -- a refusal is not 0

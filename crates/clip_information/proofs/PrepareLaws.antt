@@ -12,19 +12,17 @@ use Rattle.format.specs.Programs.{programsFrom, streamsFrom}
 use Rattle.format.specs.Extensions.{Found, nothing, found, extensionRows, extensionsFrom, listData, listIn, listProgramsOf, listStreamsOf}
 use Rattle.format.specs.Reading.{clipOf, recordOf}
 use Rattle.format.specs.Refusals.{refused, tooShort, accepted, refusalOf, tablesOf, statedOf}
-use Rattle.extension.specs.Block.{foundIn, listEnd, MeasuredIs}
-use Rattle.extension.specs.declared.ListData.{ListData}
+use Rattle.extension.specs.Block.{foundIn, MeasuredIs}
 use Rattle.extension.specs.declared.Measured.{Measured}
-use Rattle.clip_information.specs.Clips.{frontOf, sectionsOf}
+use Rattle.clip_information.specs.Clips.{sectionsOf}
 use Rattle.clip_information.specs.Lists.{listRowsOf}
 use Rattle.clip_information.specs.Room.{roomOf}
-use Rattle.clip_information.specs.Prepare.{listPrograms, listStreams, isList, neededRows, roomAnswer, answerFor, ReadyIs, PreparedIs}
+use Rattle.clip_information.specs.Prepare.{listPrograms, listStreams, isList, neededRows, roomAnswer, answerFor, ReadyIs}
 use Rattle.clip_information.specs.declared.sections.Sections.{Sections}
 use Rattle.clip_information.specs.declared.list.ListRows.{ListRows}
 use Rattle.clip_information.specs.declared.tables.Rows.{Rows}
 use Rattle.clip_information.specs.declared.tables.Room.{Room}
-use Rattle.clip_information.specs.declared.prepare.Prepared.{Prepared}
-use Rattle.clip_information.proofs.Laws.{front-then, laterOf, front-facts}
+use Rattle.clip_information.proofs.Laws.{both-pass, front-facts}
 
 -- ---- the sections
 
@@ -73,11 +71,7 @@ module _ (f : List ℕ) where
 
   -- an accepted file's front passes
   pub accepted-bounds : refusalOf f ≡ 0 → (length f ≤ 536870912) × (194 ≤ length f)
-  accepted-bounds h = front-facts f (go (frontOf f) (laterOf f) (sym (front-then f) ∙ h))
-    where
-      go : (r x : ℕ) → pick (eqb r 0) x r ≡ 0 → r ≡ 0
-      go zero x h = refl
-      go (suc r) x h = let g = rw (eqb·suc-zero r) at h in absurd (omega arith)
+  accepted-bounds h = front-facts f (both-pass f h .0)
 
 -- ---- the list
 
