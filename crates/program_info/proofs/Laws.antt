@@ -22,18 +22,11 @@ use Rattle.common.specs.Reader.{movedTo}
 use Rattle.common.specs.declared.reader.Reader.{Reader}
 use Rattle.common.specs.declared.reader.Moved.{Moved}
 use Rattle.common.specs.Reads.{ReadIs}
-use Rattle.common.proofs.Laws.{Got, joined}
+use Rattle.common.proofs.Laws.{Got, beyond, joined}
 use Rattle.program_info.specs.Programs.{measured, BodyByte}
 use Rattle.program_info.specs.declared.Measured.{Measured}
 
 -- ---- the place behind a stream and behind a program
-
--- a place within the file is reached, and one past its end is not
-pub reached : (f : List ℕ) {p q : ℕ} → p ≡ q → p ≤ length f → Moved.At (record { pos = p }) ≡ movedTo f q
-reached f {p} e h = rw (← e, le-leb p (length f) h)
-
-pub beyond : (f : List ℕ) (p : ℕ) → length f < p → Moved.PastEnd ≡ movedTo f p
-beyond f p h = rw (lt-leb p (length f) h)
 
 module _ (f : List ℕ) (p : ℕ) where
   -- the body's length was read, and a move by so many bytes leads behind the body

@@ -8,7 +8,6 @@ use native.Mathlib.Nat.{le-trans}
 use native.Mathlib.Omega.{arith}
 use lib.ListN.{length}
 use lib.Dec.{leb, lit<}
-use borrow.Author.Tests.{lt-leb}
 use Rattle.format.specs.Bytes.{beAt, rowsAt, gather}
 use Rattle.format.specs.ClipRecord.{atcAt, stcAt, nextStc, stcsOf, nextAtc, atcsFrom, stcsFrom, sequencesEnd}
 use Rattle.format.specs.Tables.{tableBytes, rowRoom, overwritten, atcCells, stcCells}
@@ -19,7 +18,7 @@ use Rattle.format.proofs.Sweep.{end-steps, either-way, Filling, filling-front}
 use Rattle.common.specs.Reader.{movedTo}
 use Rattle.common.specs.declared.reader.Reader.{Reader}
 use Rattle.common.specs.declared.reader.Moved.{Moved}
-use Rattle.common.proofs.Laws.{Got}
+use Rattle.common.proofs.Laws.{Got, beyond}
 use Rattle.sequence_info.specs.Sequences.{measured}
 use Rattle.sequence_info.specs.declared.Measured.{Measured}
 
@@ -38,7 +37,7 @@ module _ (f : List ℕ) (p : ℕ) where
 
   -- the STC count passes the end
   pub atc-cut : length f < p + 4 + 1 → Moved.PastEnd ≡ movedTo f (nextAtc f p)
-  atc-cut h = rw (lt-leb (nextAtc f p) (length f) (omega (arith, atc-head f p)))
+  atc-cut h = beyond f (nextAtc f p) (omega (arith, atc-head f p))
 
 -- ---- the section
 
