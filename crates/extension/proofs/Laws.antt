@@ -20,8 +20,8 @@ use Rattle.format.proofs.Lists.{none, more}
 use Rattle.format.proofs.Stores.{be-below}
 use Rattle.format.proofs.Cell.{cell-of}
 use Rattle.format.proofs.Rows.{gather-all}
-use Rattle.format.proofs.Loops.{one-left, none-left, flat-append, put-more, gather-done, sets-front}
-use Rattle.format.proofs.Sweep.{row-bytes, HaveCells, table-bytes}
+use Rattle.format.proofs.Loops.{one-left, none-left, sets-front}
+use Rattle.format.proofs.Sweep.{row-bytes, HaveCells, table-bytes, Filling, filled, group-room, group-put}
 use Rattle.common.specs.Reads.{ReadIs, CellIs}
 use Rattle.extension.specs.Block.{headOf, Block, InBlock, rowsIn, extensionsIn, entryRows, entryEnd, EntryIs, entryList, orList, foundIn, listEnd, MeasuredIs, PutIs}
 use Rattle.extension.specs.Part.{partOf, PartIs}
@@ -292,54 +292,40 @@ module _ (f : List ℕ) (start n : ℕ) where
         inside = c .inside;
       }
 
-  -- of the storing pass: what is left, put from here, gives the whole, and there is room
+  -- of the storing pass: where it stands, and the table while it is filled
   pub record Stored (p k at : ℕ) (t₀ t : List ℕ) : Type 0 where
     pub turns : k ≤ n
     pub place : p ≡ start + 12 + 12 * k
-    pub size : length t ≡ length t₀
-    pub room : at + length (tableBytes (left p k)) ≤ length t₀
-    pub puts : sets t at (tableBytes (left p k)) ≡ sets t₀ 0 (tableBytes (rowsIn f start n))
+    pub fills : Filling (gather (keptAt f start) nextExtension) t₀ (sets t₀ 0 (tableBytes (rowsIn f start n))) t at p n k
 
   -- before the first turn
   pub none-stored : (t : List ℕ) → length (tableBytes (rowsIn f start n)) ≤ length t → Stored (start + 12) 0 0 t t
   none-stored t h = record {
     turns = omega arith;
     place = omega arith;
-    size = refl;
-    room = rw sub-zero (omega arith);
-    puts = rw sub-zero;
+    fills = record { long = refl; room = rw sub-zero (omega arith); rest = rw sub-zero };
   }
 
   module _ {p k at : ℕ} {t₀ t : List ℕ} (e : ExtensionDataEntry) (h : k < n) (is : EntryIs f start p e) (c : Stored p k at t₀ t) where
-    -- what is left after this turn
-    abbrev rest : List Row
-    rest = gather (keptAt f start) nextExtension (p + 12) (n - (k + 1))
-
-    -- the bytes that were left are the entry's and these
-    parts : tableBytes (left p k) ≡ tableBytes (entryRows e) ++ tableBytes rest
-    parts = rw (one-left n k h, ← is .rows) (flat-append rowBytes (entryRows e) rest)
-
-    -- so is the room
-    room-parts : at + (length (tableBytes (entryRows e)) + length (tableBytes rest)) ≤ length t₀
-    room-parts = rw (parts, length-append) at (c .room)
+    -- the entry's bytes are those of the item that comes next
+    size : length (tableBytes (keptAt f start p)) ≡ length (tableBytes (entryRows e))
+    size = ap (λ (rows : List Row). length (tableBytes rows)) (sym (is .rows))
 
     -- the next row has room
     pub room-stored : at + length (tableBytes (entryRows e)) ≤ length t
-    room-stored = omega (arith, room-parts, c .size)
+    room-stored = group-room (keptAt f start) nextExtension (c .fills) h size
 
     -- a turn
-    pub one-stored : {at′ : ℕ} {t′ : List ℕ} → PutIs (entryRows e) at t t′ at′ → length t′ ≡ length t → Stored (p + 12) (k + 1) at′ t₀ t′
-    one-stored {at′} {t′} put same = record {
+    pub one-stored : {at′ : ℕ} {t′ : List ℕ} → PutIs (entryRows e) at t t′ at′ → Stored (p + 12) (k + 1) at′ t₀ t′
+    one-stored put = record {
       turns = omega arith;
       place = omega (arith, c .place);
-      size = same ∙ c .size;
-      room = rw (put .next) (omega (arith, room-parts));
-      puts = rw (put .next) (put-more t at (length (tableBytes (entryRows e))) (tableBytes (entryRows e)) (tableBytes rest) refl (put .stored) (rw parts at (c .puts)));
+      fills = rw (put .next) (group-put (keptAt f start) nextExtension (c .fills) h size (rw (is .rows) at (put .stored)) refl);
     }
 
   -- after the last turn
   pub all-stored : {p k at : ℕ} {t₀ t : List ℕ} → n ≤ k → Stored p k at t₀ t → t ≡ sets t₀ 0 (tableBytes (rowsIn f start n))
-  all-stored {p} {k} {at} {t₀} {t} h c = gather-done (keptAt f start) nextExtension rowBytes t at p n k h (c .puts)
+  all-stored h c = filled (λ q. refl) (c .fills) h
 
 -- ---- the measuring pass
 
