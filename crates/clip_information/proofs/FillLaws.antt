@@ -7,7 +7,7 @@ use native.Mathlib.Omega.{arith}
 use lib.ListN.{length, take, drop}
 use lib.Dec.{leb}
 use borrow.Author.Tests.{eq-eqb, ne-eqb, le-ltb, lt-ltb, leb-true, not-true, not-false}
-use Rattle.format.specs.Bytes.{unless, beAt}
+use Rattle.format.specs.Bytes.{beAt}
 use Rattle.format.specs.ClipRecord.{Row, sequencesStart, programsStart, cpiStart, marksStart, extensionsStart, sequencesEnd, marksFrom, marksIn}
 use Rattle.format.specs.Programs.{programsFrom, streamsFrom, programsEnd}
 use Rattle.format.specs.EntryPoints.{cpiIn, mapsIn, mapsFrom, mapCount, mapAt, nextMap}
@@ -15,6 +15,7 @@ use Rattle.format.specs.Extensions.{Found, nothing, found, extensionsFrom, list
 use Rattle.format.specs.Reading.{clipOf, recordOf}
 use Rattle.format.specs.Refusals.{refusalOf}
 use Rattle.format.specs.Tables.{tableBytes, overwritten}
+use Rattle.format.proofs.Tests.{passed}
 use Rattle.format.proofs.Rows.{rows-length}
 use Rattle.extension.specs.Block.{foundIn}
 use Rattle.extension.specs.declared.ListData.{ListData}
@@ -39,22 +40,18 @@ module _ (f : List ℕ) where
   -- an accepted file is sound
   pub sound : refusalOf f ≡ 0 → Sound f
   sound h =
-      go (leb (sequencesEnd f (sequencesStart f)) (length f)) (leb (programsEnd f (programsStart f)) (length f)) (cpiIn f (cpiStart f)) (mapsIn f (cpiStart f)) (marksIn f (marksStart f)) refl refl refl refl refl (both-pass f h .1)
-    where
-      go : (a b c d e : Bool) → leb (sequencesEnd f (sequencesStart f)) (length f) ≡ a → leb (programsEnd f (programsStart f)) (length f) ≡ b → cpiIn f (cpiStart f) ≡ c → mapsIn f (cpiStart f) ≡ d → marksIn f (marksStart f) ≡ e
-          → unless a 4 (unless b 5 (unless c 6 (unless d 7 (unless e 8 0)))) ≡ 0 → Sound f
-      go true true true true true pa pb pc pd pe h = record {
-        sequences-in = leb-true (sequencesEnd f (sequencesStart f)) (length f) pa;
-        programs-in = leb-true (programsEnd f (programsStart f)) (length f) pb;
-        cpi-in = pc;
-        maps-in = pd;
-        marks-in = pe;
+      let a = passed (leb (sequencesEnd f (sequencesStart f)) (length f)) 3 _ (both-pass f h .1) in
+      let b = passed (leb (programsEnd f (programsStart f)) (length f)) 4 _ (a .1) in
+      let c = passed (cpiIn f (cpiStart f)) 5 _ (b .1) in
+      let d = passed (mapsIn f (cpiStart f)) 6 _ (c .1) in
+      let e = passed (marksIn f (marksStart f)) 7 0 (d .1) in
+      record {
+        sequences-in = leb-true (sequencesEnd f (sequencesStart f)) (length f) (a .0);
+        programs-in = leb-true (programsEnd f (programsStart f)) (length f) (b .0);
+        cpi-in = c .0;
+        maps-in = d .0;
+        marks-in = e .0;
       }
-      go true true true true false pa pb pc pd pe h = absurd (omega arith)
-      go true true true false e pa pb pc pd pe h = absurd (omega arith)
-      go true true false d e pa pb pc pd pe h = absurd (omega arith)
-      go true false c d e pa pb pc pd pe h = absurd (omega arith)
-      go false b c d e pa pb pc pd pe h = absurd (omega arith)
 
 -- the maps counted are those that the section says
 pub maps-counted : (f : List ℕ) {count : ℕ} → count ≡ length (clipOf f .maps) → count ≡ mapCount f (cpiStart f)
