@@ -12,6 +12,7 @@ use Rattle.format.specs.Programs.{programsFrom, streamsFrom}
 use Rattle.format.specs.Extensions.{Found, nothing, found, extensionRows, extensionsFrom, listData, listIn, listProgramsOf, listStreamsOf}
 use Rattle.format.specs.Reading.{clipOf, recordOf}
 use Rattle.format.specs.Refusals.{refused, tooShort, accepted, refusalOf, tablesOf, statedOf}
+use Rattle.format.proofs.Tests.{ap-pick}
 use Rattle.extension.specs.Block.{foundIn, MeasuredIs}
 use Rattle.extension.specs.declared.Measured.{Measured}
 use Rattle.clip_information.specs.Clips.{sectionsOf}
@@ -79,21 +80,13 @@ module _ (f : List ℕ) where
 pub programs-listed : (d : Found) → listPrograms (listRowsOf d) ≡ length (pick (listIn d) (listProgramsOf d) [])
 unfolding listRowsOf listIn
 programs-listed nothing = refl
-programs-listed (found d) = go (listIn (found d))
-  where
-    go : (b : Bool) → listPrograms (pick b (ListRows.Rows (length (programsFrom d 0)) (length (streamsFrom d 0))) ListRows.Absent) ≡ length (pick b (programsFrom d 0) [])
-    go true = refl
-    go false = refl
+programs-listed (found d) = ap-pick listPrograms (listIn (found d)) _ _ ∙ sym (ap-pick length (listIn (found d)) (programsFrom d 0) [])
 
 -- and so the streams
 pub streams-listed : (d : Found) → listStreams (listRowsOf d) ≡ length (pick (listIn d) (listStreamsOf d) [])
 unfolding listRowsOf listIn
 streams-listed nothing = refl
-streams-listed (found d) = go (listIn (found d))
-  where
-    go : (b : Bool) → listStreams (pick b (ListRows.Rows (length (programsFrom d 0)) (length (streamsFrom d 0))) ListRows.Absent) ≡ length (pick b (streamsFrom d 0) [])
-    go true = refl
-    go false = refl
+streams-listed (found d) = ap-pick listStreams (listIn (found d)) _ _ ∙ sym (ap-pick length (listIn (found d)) (streamsFrom d 0) [])
 
 -- and whether there is a list
 pub list-is-there : (d : Found) → isList (listRowsOf d) ≡ listIn d

@@ -15,7 +15,7 @@ use Rattle.format.specs.ClipRecord.{Row}
 use Rattle.format.specs.Extensions.{blockLength, blockEnd, extensionCount, addressAt, dataLengthAt, nextExtension, extensionAt, isKept, keptAt, hasExtensions, extensionRows, extensionsFrom, dataIn, dataStart, dataLength, Found, nothing, found, listData}
 use Rattle.format.specs.Tables.{rowBytes, tableBytes, rowRoom, overwritten, Table, isStated, extensionCells}
 use Rattle.format.specs.Refusals.{extensionRow, dataRefusal, dataAsked}
-use Rattle.format.proofs.Tests.{both-true, left-fails, right-fails}
+use Rattle.format.proofs.Tests.{both-true, left-fails, right-fails, ap-pick}
 use Rattle.format.proofs.Lists.{none, more}
 use Rattle.format.proofs.Stores.{be-below}
 use Rattle.format.proofs.Cell.{cell-of}
@@ -177,11 +177,8 @@ listed-first : (f : List ℕ) (list : ListData) (e : ExtensionDataEntry) (rest :
 unfolding listData
 listed-first f (At start len) e rest = refl
 listed-first f Absent LeftOut rest = refl
-listed-first f Absent (Kept id1 id2 start len) rest = by-test (both (eqb id1 2) (eqb id2 5))
-  where
-    by-test : (t : Bool) → orFound (foundIn f (pick t (At start len) Absent)) (listFrom f rest) ≡ pick t (found (take len (drop start f))) (listFrom f rest)
-    by-test true = refl
-    by-test false = refl
+listed-first f Absent (Kept id1 id2 start len) rest =
+    ap-pick (λ (l : ListData). orFound (foundIn f l) (listFrom f rest)) (both (eqb id1 2) (eqb id2 5)) (At start len) Absent
 
 -- the place lies inside the file, as each entry's data does
 listed-inside : (f : List ℕ) (list : ListData) (e : ExtensionDataEntry) → listEnd list ≤ length f → entryEnd e ≤ length f

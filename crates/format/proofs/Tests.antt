@@ -39,3 +39,8 @@ left-fails b h = rw h
 pub right-fails : (a : Bool) {b : Bool} → b ≡ false → both a b ≡ false
 right-fails true h = h
 right-fails false h = refl
+
+-- a function of a choice is the choice of its values
+pub ap-pick : {A B : Type 0} (g : A → B) (b : Bool) (x y : A) → g (pick b x y) ≡ pick b (g x) (g y)
+ap-pick g true x y = refl
+ap-pick g false x y = refl

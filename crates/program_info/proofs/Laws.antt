@@ -14,6 +14,7 @@ use Rattle.format.specs.Bytes.{both, pick, beAt, rowsAt, gather, endOf}
 use Rattle.format.specs.Programs.{isVideo, lower, lowered, codingAt, aspectAt, languageAt, streamAt, nextStream, programAt, streamsOf, nextProgram, programsFrom, streamsFrom, programsEnd}
 use Rattle.format.specs.ClipRecord.{Row}
 use Rattle.format.specs.Tables.{rowBytes, tableBytes, rowRoom, overwritten, programCells, streamCells}
+use Rattle.format.proofs.Tests.{ap-pick}
 use Rattle.format.proofs.Loops.{end-ge}
 use Rattle.format.proofs.Places.{program-head, up-program}
 use Rattle.format.proofs.Rows.{rows-all, gather-all}
@@ -73,11 +74,7 @@ module _ (f : List ℕ) (p size : ℕ) where
 
   -- the aspect of a video body
   pub aspect-is : {video : Bool} {r : ℕ} → video ≡ true → BodyByte f p size 2 r → r / 16 ≡ aspectAt video f p size
-  aspect-is is b = rw (is, b .same) (go (leb 3 size))
-    where
-      go : (t : Bool) → pick t (beAt f (p + 2) 1) 0 / 16 ≡ pick t (beAt f (p + 2) 1 / 16) 0
-      go true = refl
-      go false = refl
+  aspect-is is b = rw (is, b .same) (ap-pick (λ (v : ℕ). v / 16) (leb 3 size) (beAt f (p + 2) 1) 0)
 
   -- the language of a body that is not video, where it has three bytes for it, and where not
   pub language-is : {video : Bool} {a b r : ℕ} → video ≡ false → 5 ≤ size → ReadIs f (p + 2) 1 a → ReadIs f (p + 3) 2 b
