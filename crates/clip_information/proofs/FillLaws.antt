@@ -1,29 +1,29 @@
 -- What an accepted file and tables with room give to the passes that fill.
-use Prim.Native.Nat.{ℕ, zero, suc, _+_, _-_, _<_, _≤_}
+use Prim.Native.Nat.{ℕ, _+_, _-_, _<_, _≤_}
 use mathlib.Core.Path.{_≡_, refl, sym, ap, _∙_}
-use mathlib.Core.List.{List, []}
+use mathlib.Core.List.{List}
 use mathlib.Core.Bool.{Bool, true, false, not}
 use native.Mathlib.Omega.{arith}
 use lib.ListN.{length, take, drop}
-use lib.Dec.{leb, eqb, eqb·suc-zero}
-use borrow.Author.Tests.{eq-eqb, ne-eqb, le-ltb, lt-ltb, leb-true}
-use Rattle.format.specs.Bytes.{pick, unless, beAt, rowsAt}
+use lib.Dec.{leb}
+use borrow.Author.Tests.{eq-eqb, ne-eqb, le-ltb, lt-ltb, leb-true, not-true, not-false}
+use Rattle.format.specs.Bytes.{beAt}
 use Rattle.format.specs.ClipRecord.{Row, sequencesStart, programsStart, cpiStart, marksStart, extensionsStart, sequencesEnd, marksFrom, marksIn}
 use Rattle.format.specs.Programs.{programsFrom, streamsFrom, programsEnd}
 use Rattle.format.specs.EntryPoints.{cpiIn, mapsIn, mapsFrom, mapCount, mapAt, nextMap}
-use Rattle.format.specs.Extensions.{Found, nothing, found, extensionsFrom, listData, listIn, listProgramsOf, listStreamsOf}
+use Rattle.format.specs.Extensions.{Found, nothing, found, extensionsFrom, listData, listIn}
 use Rattle.format.specs.Reading.{clipOf, recordOf}
 use Rattle.format.specs.Refusals.{refusalOf}
-use Rattle.format.specs.Tables.{tableBytes, overwritten, rowRoom, programCells, streamCells}
+use Rattle.format.specs.Tables.{tableBytes, overwritten}
+use Rattle.format.proofs.Tests.{passed}
 use Rattle.format.proofs.Rows.{rows-length}
-use Rattle.extension.specs.Block.{foundIn, listEnd}
+use Rattle.extension.specs.Block.{foundIn}
 use Rattle.extension.specs.declared.ListData.{ListData}
 use Rattle.sequence_info.specs.Sequences as Sequences
 use Rattle.program_info.specs.Programs.{Fillable}
 use Rattle.cpi.specs.Maps as Maps
-use Rattle.clip_information.specs.Clips.{frontOf}
 use Rattle.clip_information.specs.Fill.{SectionsFit, ListFits, MarksThere}
-use Rattle.clip_information.proofs.Laws.{front-then, laterOf}
+use Rattle.clip_information.proofs.Laws.{both-pass}
 use Rattle.clip_information.proofs.PrepareLaws.{accepted-bounds}
 
 -- ---- the sections
@@ -37,33 +37,21 @@ pub record Sound (f : List ℕ) : Type 0 where
   pub marks-in : marksIn f (marksStart f) ≡ true
 
 module _ (f : List ℕ) where
-  -- where the front and all behind it pass, all behind it passes
-  later-passes : refusalOf f ≡ 0 → laterOf f ≡ 0
-  later-passes h = go (frontOf f) (laterOf f) (sym (front-then f) ∙ h)
-    where
-      go : (r x : ℕ) → pick (eqb r 0) x r ≡ 0 → x ≡ 0
-      go zero x h = h
-      go (suc r) x h = let g = rw (eqb·suc-zero r) at h in absurd (omega arith)
-
   -- an accepted file is sound
   pub sound : refusalOf f ≡ 0 → Sound f
   sound h =
-      go (leb (sequencesEnd f (sequencesStart f)) (length f)) (leb (programsEnd f (programsStart f)) (length f)) (cpiIn f (cpiStart f)) (mapsIn f (cpiStart f)) (marksIn f (marksStart f)) refl refl refl refl refl (later-passes h)
-    where
-      go : (a b c d e : Bool) → leb (sequencesEnd f (sequencesStart f)) (length f) ≡ a → leb (programsEnd f (programsStart f)) (length f) ≡ b → cpiIn f (cpiStart f) ≡ c → mapsIn f (cpiStart f) ≡ d → marksIn f (marksStart f) ≡ e
-          → unless a 4 (unless b 5 (unless c 6 (unless d 7 (unless e 8 0)))) ≡ 0 → Sound f
-      go true true true true true pa pb pc pd pe h = record {
-        sequences-in = leb-true (sequencesEnd f (sequencesStart f)) (length f) pa;
-        programs-in = leb-true (programsEnd f (programsStart f)) (length f) pb;
-        cpi-in = pc;
-        maps-in = pd;
-        marks-in = pe;
+      let a = passed (leb (sequencesEnd f (sequencesStart f)) (length f)) 3 _ (both-pass f h .1) in
+      let b = passed (leb (programsEnd f (programsStart f)) (length f)) 4 _ (a .1) in
+      let c = passed (cpiIn f (cpiStart f)) 5 _ (b .1) in
+      let d = passed (mapsIn f (cpiStart f)) 6 _ (c .1) in
+      let e = passed (marksIn f (marksStart f)) 7 0 (d .1) in
+      record {
+        sequences-in = leb-true (sequencesEnd f (sequencesStart f)) (length f) (a .0);
+        programs-in = leb-true (programsEnd f (programsStart f)) (length f) (b .0);
+        cpi-in = c .0;
+        maps-in = d .0;
+        marks-in = e .0;
       }
-      go true true true true false pa pb pc pd pe h = absurd (omega arith)
-      go true true true false e pa pb pc pd pe h = absurd (omega arith)
-      go true true false d e pa pb pc pd pe h = absurd (omega arith)
-      go true false c d e pa pb pc pd pe h = absurd (omega arith)
-      go false b c d e pa pb pc pd pe h = absurd (omega arith)
 
 -- the maps counted are those that the section says
 pub maps-counted : (f : List ℕ) {count : ℕ} → count ≡ length (clipOf f .maps) → count ≡ mapCount f (cpiStart f)
@@ -134,16 +122,6 @@ module _ (f : List ℕ) (start : ℕ) where
 
 -- ---- the list
 
--- a test that was turned round
-not-so : (b : Bool) → not b ≡ true → b ≡ false
-not-so false h = refl
-not-so true h = let z : _≡_ {A = ℕ} 0 1 = cc in absurd (omega arith)
-
--- and the other way
-so : (b : Bool) → not b ≡ false → b ≡ true
-so true h = refl
-so false h = let z : _≡_ {A = ℕ} 0 1 = cc in absurd (omega arith)
-
 module _ (f : List ℕ) (list : ListData) {has : Bool} {programs streams : List ℕ} (fits : ListFits f list has programs streams) where
   abbrev D : Found
   D = listData (extensionsFrom f (extensionsStart f))
@@ -160,7 +138,7 @@ module _ (f : List ℕ) (list : ListData) {has : Bool} {programs streams : List 
 
   -- so where the flag says that there is none
   pub not-listed : not has ≡ true → (programs ≡ overwritten (tableBytes (recordOf f .listPrograms)) programs) × (streams ≡ overwritten (tableBytes (recordOf f .listStreams)) streams)
-  not-listed h = left (sym has-in ∙ not-so has h)
+  not-listed h = left (sym has-in ∙ not-true has h)
 
   -- and where no data was found
   pub no-list : list ≡ ListData.Absent → (programs ≡ overwritten (tableBytes (recordOf f .listPrograms)) programs) × (streams ≡ overwritten (tableBytes (recordOf f .listStreams)) streams)
@@ -177,7 +155,7 @@ module _ (f : List ℕ) (list : ListData) {has : Bool} {programs streams : List 
 
     -- the flag says that it is a list
     listed : listIn D ≡ true
-    listed = sym has-in ∙ so has there
+    listed = sym has-in ∙ not-false has there
 
     -- the list ends within its data
     pub list-ends : programsEnd P 0 ≤ length P

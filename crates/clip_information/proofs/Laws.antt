@@ -1,26 +1,25 @@
 -- The chain of refusals, test by test.
-use Prim.Native.Nat.{ℕ, suc, _+_, _-_, _<_, _≤_}
-use mathlib.Core.Path.{_≡_, refl, sym, ap, _∙_}
+use Prim.Native.Nat.{ℕ, zero, suc, _+_, _-_, _<_, _≤_}
+use mathlib.Core.Path.{_≡_, refl, sym, _∙_}
 use mathlib.Core.List.{List}
-use mathlib.Core.Bool.{Bool, true, false, not}
+use mathlib.Core.Bool.{Bool, true, false}
 use native.Mathlib.Omega.{arith}
 use lib.ListN.{length}
-use lib.Dec.{leb, ltb, eqb, eqb·suc-zero}
+use lib.Dec.{leb, eqb, eqb·suc-zero}
 use borrow.Author.Tests.{eq-eqb, ne-eqb, le-leb, lt-leb, lt-ltb, le-ltb, leb-true}
-use Rattle.format.specs.Bytes.{pick, both, unless, beAt}
+use Rattle.format.specs.Bytes.{pick, unless, beAt}
 use Rattle.format.specs.ClipRecord.{scalarsOf, lettersRight, clipInfoIn, sequencesStart, programsStart, cpiStart, marksStart, atcsFrom, stcsFrom, sequencesEnd, marksIn}
 use Rattle.format.specs.Programs.{programsFrom, streamsFrom, programsEnd}
 use Rattle.format.specs.EntryPoints.{cpiIn, mapsIn, mapsFrom, entriesFrom}
 use Rattle.format.specs.Reading.{clipOf}
 use Rattle.format.specs.Refusals.{refusalOf}
-use Rattle.format.proofs.Tests.{both-true}
+use Rattle.format.proofs.Tests.{split-both, passed}
 use Rattle.common.specs.Header.{headerOf}
 use Rattle.common.specs.declared.header.BdmvHeader.{BdmvHeader}
 use Rattle.common.proofs.Laws.{rest}
 use Rattle.cpi.specs.Maps.{measured as cpiMeasured, mapsMeasured}
 use Rattle.cpi.specs.declared.maps.Measured.{Measured as CpiMeasured}
 use Rattle.clip_information.specs.Clips.{clipInfoOf, frontOf, sectionsOf}
-use Rattle.clip_information.specs.declared.sections.ClipInfo.{ClipInfo}
 use Rattle.clip_information.specs.declared.sections.Sections.{Sections}
 
 -- ---- ClipInfo
@@ -111,16 +110,13 @@ module _ (f : List ℕ) where
 -- what a front that passes says
 pub front-facts : (f : List ℕ) → frontOf f ≡ 0 → (length f ≤ 536870912) × (194 ≤ length f)
 unfolding frontOf clipInfoIn
-front-facts f h = go (leb (length f) 536870912) (leb 8 (length f)) (lettersRight f) (leb 40 (length f)) (leb 194 (length f)) (leb (44 + beAt f 40 4) (length f)) refl refl h
-  where
-    go : (a b c d e g : Bool) → leb (length f) 536870912 ≡ a → leb 194 (length f) ≡ e
-        → unless a 20 (unless b 1 (unless c 2 (unless d 1 (unless (both e g) 3 0)))) ≡ 0 → (length f ≤ 536870912) × (194 ≤ length f)
-    go true true true true true g p q h = (leb-true (length f) 536870912 p, leb-true 194 (length f) q)
-    go true true true true false g p q h = absurd (omega arith)
-    go true true true false e g p q h = absurd (omega arith)
-    go true true false d e g p q h = absurd (omega arith)
-    go true false c d e g p q h = absurd (omega arith)
-    go false b c d e g p q h = absurd (omega arith)
+front-facts f h =
+    let a = passed (leb (length f) 536870912) 19 _ h in
+    let b = passed (leb 8 (length f)) 0 _ (a .1) in
+    let c = passed (lettersRight f) 1 _ (b .1) in
+    let d = passed (leb 40 (length f)) 0 _ (c .1) in
+    let e = passed (clipInfoIn f) 2 0 (d .1) in
+    (leb-true (length f) 536870912 (a .0), leb-true 194 (length f) (split-both (e .0) .0))
 
 -- ---- the sections behind it
 
@@ -145,6 +141,14 @@ front-then f = go (leb (length f) 536870912) (leb 8 (length f)) (lettersRight f)
     go true true false d e x = refl
     go true false c d e x = refl
     go false b c d e x = refl
+
+-- of an accepted file the front passes, and so does all behind it
+pub both-pass : (f : List ℕ) → refusalOf f ≡ 0 → (frontOf f ≡ 0) × (laterOf f ≡ 0)
+both-pass f h = go (frontOf f) (laterOf f) (sym (front-then f) ∙ h)
+  where
+    go : (r x : ℕ) → pick (eqb r 0) x r ≡ 0 → (r ≡ 0) × (x ≡ 0)
+    go zero x h = (refl, h)
+    go (suc r) x h = let g = rw (eqb·suc-zero r) at h in absurd (omega arith)
 
 module _ (f : List ℕ) where
   -- a refusal is not 0

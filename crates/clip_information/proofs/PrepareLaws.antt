@@ -12,19 +12,18 @@ use Rattle.format.specs.Programs.{programsFrom, streamsFrom}
 use Rattle.format.specs.Extensions.{Found, nothing, found, extensionRows, extensionsFrom, listData, listIn, listProgramsOf, listStreamsOf}
 use Rattle.format.specs.Reading.{clipOf, recordOf}
 use Rattle.format.specs.Refusals.{refused, tooShort, accepted, refusalOf, tablesOf, statedOf}
-use Rattle.extension.specs.Block.{foundIn, listEnd, MeasuredIs}
-use Rattle.extension.specs.declared.ListData.{ListData}
+use Rattle.format.proofs.Tests.{ap-pick}
+use Rattle.extension.specs.Block.{foundIn, MeasuredIs}
 use Rattle.extension.specs.declared.Measured.{Measured}
-use Rattle.clip_information.specs.Clips.{frontOf, sectionsOf}
+use Rattle.clip_information.specs.Clips.{sectionsOf}
 use Rattle.clip_information.specs.Lists.{listRowsOf}
 use Rattle.clip_information.specs.Room.{roomOf}
-use Rattle.clip_information.specs.Prepare.{listPrograms, listStreams, isList, neededRows, roomAnswer, answerFor, ReadyIs, PreparedIs}
+use Rattle.clip_information.specs.Prepare.{listPrograms, listStreams, isList, neededRows, roomAnswer, answerFor, ReadyIs}
 use Rattle.clip_information.specs.declared.sections.Sections.{Sections}
 use Rattle.clip_information.specs.declared.list.ListRows.{ListRows}
 use Rattle.clip_information.specs.declared.tables.Rows.{Rows}
 use Rattle.clip_information.specs.declared.tables.Room.{Room}
-use Rattle.clip_information.specs.declared.prepare.Prepared.{Prepared}
-use Rattle.clip_information.proofs.Laws.{front-then, laterOf, front-facts}
+use Rattle.clip_information.proofs.Laws.{both-pass, front-facts}
 
 -- ---- the sections
 
@@ -73,11 +72,7 @@ module _ (f : List ℕ) where
 
   -- an accepted file's front passes
   pub accepted-bounds : refusalOf f ≡ 0 → (length f ≤ 536870912) × (194 ≤ length f)
-  accepted-bounds h = front-facts f (go (frontOf f) (laterOf f) (sym (front-then f) ∙ h))
-    where
-      go : (r x : ℕ) → pick (eqb r 0) x r ≡ 0 → r ≡ 0
-      go zero x h = refl
-      go (suc r) x h = let g = rw (eqb·suc-zero r) at h in absurd (omega arith)
+  accepted-bounds h = front-facts f (both-pass f h .0)
 
 -- ---- the list
 
@@ -85,21 +80,13 @@ module _ (f : List ℕ) where
 pub programs-listed : (d : Found) → listPrograms (listRowsOf d) ≡ length (pick (listIn d) (listProgramsOf d) [])
 unfolding listRowsOf listIn
 programs-listed nothing = refl
-programs-listed (found d) = go (listIn (found d))
-  where
-    go : (b : Bool) → listPrograms (pick b (ListRows.Rows (length (programsFrom d 0)) (length (streamsFrom d 0))) ListRows.Absent) ≡ length (pick b (programsFrom d 0) [])
-    go true = refl
-    go false = refl
+programs-listed (found d) = ap-pick listPrograms (listIn (found d)) _ _ ∙ sym (ap-pick length (listIn (found d)) (programsFrom d 0) [])
 
 -- and so the streams
 pub streams-listed : (d : Found) → listStreams (listRowsOf d) ≡ length (pick (listIn d) (listStreamsOf d) [])
 unfolding listRowsOf listIn
 streams-listed nothing = refl
-streams-listed (found d) = go (listIn (found d))
-  where
-    go : (b : Bool) → listStreams (pick b (ListRows.Rows (length (programsFrom d 0)) (length (streamsFrom d 0))) ListRows.Absent) ≡ length (pick b (streamsFrom d 0) [])
-    go true = refl
-    go false = refl
+streams-listed (found d) = ap-pick listStreams (listIn (found d)) _ _ ∙ sym (ap-pick length (listIn (found d)) (streamsFrom d 0) [])
 
 -- and whether there is a list
 pub list-is-there : (d : Found) → isList (listRowsOf d) ≡ listIn d

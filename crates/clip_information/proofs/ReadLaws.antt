@@ -8,11 +8,12 @@ use lib.ListN.{length}
 use lib.Dec.{leb, eqb}
 use borrow.Author.Tests.{leb-true}
 use Rattle.format.specs.Bytes.{pick}
-use Rattle.format.specs.ClipRecord.{Row, extensionsStart, marksStart, marksFrom}
+use Rattle.format.specs.ClipRecord.{extensionsStart, marksStart, marksFrom}
 use Rattle.format.specs.Extensions.{extensionRows}
 use Rattle.format.specs.Reading.{clipOf, recordOf}
-use Rattle.format.specs.Refusals.{ReadAnswer, refused, tooShort, accepted, refusalOf, tablesOf, statedOf, tablesAnswer, readAnswer}
-use Rattle.format.specs.Tables.{Nine, rowRoom, atcCells, stcCells, programCells, streamCells, mapCells, entryCells, extensionCells}
+use Rattle.format.specs.Refusals.{refused, accepted, refusalOf, tablesOf, statedOf, tablesAnswer, readAnswer}
+use Rattle.format.specs.Tables.{Nine, rowRoom, extensionCells}
+use Rattle.format.proofs.Tests.{ap-pick}
 use Rattle.extension.specs.declared.ListData.{ListData}
 use Rattle.clip_information.specs.Clips.{clipInfoOf}
 use Rattle.clip_information.specs.Room.{roomOf, roomBehind}
@@ -33,26 +34,7 @@ use Rattle.clip_information.proofs.FillLaws.{sound}
 pub answer-tables : (f : List ℕ) (tables : Nine (List ℕ)) → answerFor f (lengthsOf tables) ≡ readAnswer f tables
 unfolding answerFor readAnswer tablesAnswer roomOf roomBehind
 answer-tables f tables =
-    let rows = tablesOf f in
-    ap (λ a. pick (eqb (refusalOf f) 0) a (refused (refusalOf f)))
-    (go (length (rows .atcs)) (length (rows .stcs)) (length (rows .programs)) (length (rows .streams)) (length (rows .maps)) (length (rows .entries)) (length (rows .extensions)) (length (rows .listPrograms)) (length (rows .listStreams))
-    (leb (length (rows .atcs)) (rowRoom atcCells (tables .atcs))) (leb (length (rows .stcs)) (rowRoom stcCells (tables .stcs))) (leb (length (rows .programs)) (rowRoom programCells (tables .programs)))
-    (leb (length (rows .streams)) (rowRoom streamCells (tables .streams))) (leb (length (rows .maps)) (rowRoom mapCells (tables .maps))) (leb (length (rows .entries)) (rowRoom entryCells (tables .entries)))
-    (leb (length (rows .extensions)) (rowRoom extensionCells (tables .extensions))) (leb (length (rows .listPrograms)) (rowRoom programCells (tables .listPrograms))) (leb (length (rows .listStreams)) (rowRoom streamCells (tables .listStreams))))
-  where
-    go : (m n o p q r s t u : ℕ) (a b c d e g h i j : Bool)
-        → roomAnswer f (pick a (pick b (pick c (pick d (pick e (pick g (pick h (pick i (pick j Room.Enough (Room.Short 9 u)) (Room.Short 8 t)) (Room.Short 7 s)) (Room.Short 6 r)) (Room.Short 5 q)) (Room.Short 4 p)) (Room.Short 3 o)) (Room.Short 2 n)) (Room.Short 1 m))
-        ≡ pick a (pick b (pick c (pick d (pick e (pick g (pick h (pick i (pick j (accepted (statedOf f)) (tooShort 9 u)) (tooShort 8 t)) (tooShort 7 s)) (tooShort 6 r)) (tooShort 5 q)) (tooShort 4 p)) (tooShort 3 o)) (tooShort 2 n)) (tooShort 1 m)
-    go m n o p q r s t u true true true true true true true true true = refl
-    go m n o p q r s t u true true true true true true true true false = refl
-    go m n o p q r s t u true true true true true true true false j = refl
-    go m n o p q r s t u true true true true true true false i j = refl
-    go m n o p q r s t u true true true true true false h i j = refl
-    go m n o p q r s t u true true true true false g h i j = refl
-    go m n o p q r s t u true true true false e g h i j = refl
-    go m n o p q r s t u true true false d e g h i j = refl
-    go m n o p q r s t u true false c d e g h i j = refl
-    go m n o p q r s t u false b c d e g h i j = refl
+    ap (λ a. pick (eqb (refusalOf f) 0) a (refused (refusalOf f))) (simp (ap-pick (roomAnswer f)))
 
 -- ---- room
 

@@ -187,6 +187,13 @@ not-got f p n e =
     (λ t. leb-false (p + n) (length f) (t .0))
     (either-way (p + n) (length f) read Number.PastEnd (sym e))
 
+-- a place within the file is reached, and one past its end is not
+pub reached : (f : List ℕ) {p q : ℕ} → p ≡ q → p ≤ length f → Moved.At (record { pos = p }) ≡ movedTo f q
+reached f {p} e h = rw (← e, le-leb p (length f) h)
+
+pub beyond : (f : List ℕ) (p : ℕ) → length f < p → Moved.PastEnd ≡ movedTo f p
+beyond f p h = rw (lt-leb p (length f) h)
+
 -- what a caller learns of a reader that moved
 pub went : (f : List ℕ) (p : ℕ) {r : Reader} → Moved.At r ≡ movedTo f p → (p ≤ length f) × (r .pos ≡ p)
 went f p {r} e =

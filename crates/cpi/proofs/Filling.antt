@@ -1,25 +1,25 @@
 -- Both tables filled map by map: a turn, and the end.
-use Prim.Native.Nat.{ℕ, zero, suc, _+_, _*_, _-_, _<_, _≤_}
+use Prim.Native.Nat.{ℕ, suc, _+_, _*_, _-_, _<_, _≤_}
 use mathlib.Core.Path.{_≡_, refl, sym, ap, _∙_}
 use mathlib.Core.List.{List, [], _∷_}
 use mathlib.Core.Bool.{Bool, true, false}
-use native.Mathlib.Nat.{le-div-iff-mul-le}
 use native.Mathlib.Omega.{arith}
-use lib.ListN.{length, length-append}
+use lib.ListN.{length}
 use lib.Seq.{sets}
-use lib.Dec.{leb, ltb, lit<}
+use lib.Dec.{lit<}
 use borrow.Author.Tests.{leb-true, ltb-true}
-use Rattle.format.specs.Bytes.{pick, both, every, beAt, rowsAt, gather, total}
-use Rattle.format.specs.ClipRecord.{Row, entryCount, present}
-use Rattle.format.specs.EntryPoints.{coarseAt, fineAt, nextCoarse, nextFine, mapTypeAt, coarseCountAt, fineCountAt, mapAt, nextMap, bodyAt, fineStart, coarseFor, entryOf, entriesFor, entriesOf, cpiEnd, hasMaps, mapCount, mapsFrom, entriesFrom, cpiLengthIn, mapHeadersIn, cpiIn, addressIn, coarseRowsIn, fineAddressIn, fineRowsIn, mapIn, mapsIn}
-use Rattle.format.specs.Tables.{cellBytes, rowBytes, tableBytes, rowRoom, overwritten, mapCells, entryCells}
+use Rattle.format.specs.Bytes.{pick, both, every, beAt, rowsAt, gather}
+use Rattle.format.specs.ClipRecord.{Row, present}
+use Rattle.format.specs.EntryPoints.{coarseAt, fineAt, nextCoarse, nextFine, mapTypeAt, coarseCountAt, fineCountAt, mapAt, nextMap, bodyAt, fineStart, entriesFor, entriesOf, cpiEnd, hasMaps, mapCount, mapsFrom, entriesFrom, cpiLengthIn, mapHeadersIn, cpiIn, addressIn, coarseRowsIn, fineAddressIn, fineRowsIn, mapIn, mapsIn}
+use Rattle.format.specs.Tables.{rowBytes, tableBytes, overwritten}
 use Rattle.format.proofs.Tests.{both-true, split-both}
-use Rattle.format.proofs.Lists.{All, none, more}
-use Rattle.format.proofs.Rows.{rows-length, rows-all, gather-adds, flat-length, all-rows}
+use Rattle.format.proofs.Lists.{none, more}
+use Rattle.format.proofs.Rows.{rows-all, gather-all}
 use Rattle.format.proofs.Read.{own-length}
-use Rattle.format.proofs.Cells.{low-length}
-use Rattle.format.proofs.Loops.{one-left, none-left, flat-append, put-more, sets-front, rows-turn, rows-done, gather-turn, gather-done}
-use Rattle.cpi.specs.Maps.{OneMap, Fill}
+use Rattle.format.proofs.Loops.{one-left}
+use Rattle.format.proofs.Sweep as Sweep
+use Rattle.format.proofs.Sweep.{HaveCells, table-bytes, filling-front, filled, row-room, row-put, group-room, group-put}
+use Rattle.cpi.specs.Maps.{Fill}
 
 -- ---- one map's body
 
@@ -44,38 +44,19 @@ body-in f c p h =
 
 -- ---- how many bytes rows take
 
-cells-length : (row : Row) → length (rowBytes row) ≡ 4 * length row
-cells-length row = flat-length 4 cellBytes (all-rows (λ v. low-length 4 v) row)
+-- entries have five cells
+entries-cells : (type : ℕ) (cs : List Row) (k : ℕ) (xs : List Row) → HaveCells 5 (entriesFor type cs k xs)
+entries-cells type cs k [] = none
+entries-cells type cs k (x ∷ xs) = more refl (entries-cells type cs (suc k) xs)
 
-pub map-bytes : (f : List ℕ) (p : ℕ) → length (rowBytes (mapAt f p)) ≡ 12
-map-bytes f p = cells-length (mapAt f p)
+-- so do a map's own
+own-cells : (f : List ℕ) (c p : ℕ) → HaveCells 5 (entriesOf f c p)
+own-cells f c p =
+    entries-cells (mapTypeAt f p) (rowsAt (coarseAt f) nextCoarse (bodyAt f c p + 4) (coarseCountAt f p)) 0 (rowsAt (fineAt f) nextFine (fineStart f c p) (fineCountAt f p))
 
-maps-bytes : (f : List ℕ) (p n : ℕ) → length (tableBytes (rowsAt (mapAt f) nextMap p n)) ≡ 12 * n
-maps-bytes f p n =
-    flat-length 12 rowBytes (rows-all (mapAt f) nextMap (map-bytes f) p n) ∙ ap (λ (m : ℕ). 12 * m) (rows-length (mapAt f) nextMap p n)
-
-entries-bytes : (type : ℕ) (cs : List Row) (k : ℕ) (xs : List Row) → length (tableBytes (entriesFor type cs k xs)) ≡ 20 * length (entriesFor type cs k xs)
-entries-bytes type cs k xs = flat-length 20 rowBytes (fives k xs)
-  where
-    fives : (k : ℕ) (xs : List Row) → All (λ row. length (rowBytes row) ≡ 20) (entriesFor type cs k xs)
-    fives k [] = none
-    fives k (x ∷ xs) = more (cells-length (entryOf type (coarseFor cs k) x)) (fives (suc k) xs)
-
+-- the bytes of a map's entries
 pub own-bytes : (f : List ℕ) (c p : ℕ) → length (tableBytes (entriesOf f c p)) ≡ 20 * fineCountAt f p
-own-bytes f c p =
-    entries-bytes (mapTypeAt f p) (rowsAt (coarseAt f) nextCoarse (bodyAt f c p + 4) (coarseCountAt f p)) 0 (rowsAt (fineAt f) nextFine (fineStart f c p) (fineCountAt f p))
-    ∙ ap (λ (n : ℕ). 20 * n) (own-length f c p)
-
--- all entries of n maps
-gather-bytes : (f : List ℕ) (c p n : ℕ) → length (tableBytes (gather (entriesOf f c) nextMap p n)) ≡ 20 * length (gather (entriesOf f c) nextMap p n)
-gather-bytes f c p zero = refl
-gather-bytes f c p (suc n) =
-    let own = entriesOf f c p in
-    let rest = gather (entriesOf f c) nextMap (nextMap p) n in
-    let r = gather-bytes f c (nextMap p) n in
-    let o = own-bytes f c p in
-    let l = own-length f c p in
-    rw (flat-append rowBytes own rest, length-append (tableBytes own) (tableBytes rest), length-append own rest) (omega arith)
+own-bytes f c p = table-bytes 5 (own-cells f c p) ∙ ap (λ (n : ℕ). 20 * n) (own-length f c p)
 
 -- ---- one map's row, and one map's entries
 
@@ -115,91 +96,64 @@ there f c count e h some =
 
 -- ---- the loop
 
--- what holds before each turn: what is left, put from here, gives the whole
+-- what holds before each turn: the maps that are left are good, and both tables are filled up to here
 pub record Filling (f : List ℕ) (c count : ℕ) (maps₀ entries₀ maps entries : List ℕ) (at k : ℕ) : Type 0 where
   pub good : every (λ b. b) (rowsAt (mapIn f c) nextMap (c + 8 + 12 * k) (count - k)) ≡ true
-  pub place : at + 20 * total entryCount (rowsAt (mapAt f) nextMap (c + 8 + 12 * k) (count - k)) ≡ 20 * length (entriesFrom f c)
-  pub maps-same : length maps ≡ length maps₀
-  pub entries-same : length entries ≡ length entries₀
-  pub maps-left : sets maps (12 * k) (tableBytes (rowsAt (mapAt f) nextMap (c + 8 + 12 * k) (count - k))) ≡ sets maps₀ 0 (tableBytes (mapsFrom f c))
-  pub entries-left : sets entries at (tableBytes (gather (entriesOf f c) nextMap (c + 8 + 12 * k) (count - k))) ≡ sets entries₀ 0 (tableBytes (entriesFrom f c))
+  pub maps-left : Sweep.Filling (rowsAt (mapAt f) nextMap) maps₀ (overwritten (tableBytes (mapsFrom f c)) maps₀) maps (12 * k) (c + 8 + 12 * k) count k
+  pub entries-left : Sweep.Filling (gather (entriesOf f c) nextMap) entries₀ (overwritten (tableBytes (entriesFrom f c)) entries₀) entries at (c + 8 + 12 * k) count k
 
-module _ (f : List ℕ) (c count : ℕ) (maps₀ entries₀ : List ℕ) (fill : Fill f c count maps₀ entries₀) where
-  -- the tables are long enough
-  pub maps-long : 12 * count ≤ length maps₀
-  unfolding mapsFrom
-  maps-long =
-      let r = fill .maps-room in
-      let e = rows-length (mapAt f) nextMap (c + 8) (mapCount f c) in
-      let m = fill .counted in
-      omega (arith, le-div-iff-mul-le {k = 12} (lit< tt) .0 r)
+-- before the first turn
+pub filling-first : (f : List ℕ) (c count : ℕ) (maps₀ entries₀ : List ℕ) → Fill f c count maps₀ entries₀
+    → Filling f c count maps₀ entries₀ maps₀ entries₀ 0 0
+unfolding mapsIn mapsFrom entriesFrom
+filling-first f c count maps₀ entries₀ fill =
+    let p : c + 8 + 12 * 0 ≡ c + 8 = omega arith in
+    let n : count - 0 ≡ mapCount f c = omega (arith, fill .counted) in
+    let have = rows-all (mapAt f) nextMap (λ q. refl) (c + 8) (mapCount f c) in
+    let own = gather-all (entriesOf f c) nextMap (own-cells f c) (c + 8) (mapCount f c) in
+    record {
+      good = rw (p, n) (fill .maps-in);
+      maps-left = rw p (filling-front 3 (rowsAt (mapAt f) nextMap) maps₀ (lit< tt) have (fill .maps-room) (ap (rowsAt (mapAt f) nextMap (c + 8)) (fill .counted)));
+      entries-left = rw p (filling-front 5 (gather (entriesOf f c) nextMap) entries₀ (lit< tt) own (fill .entries-room) (ap (gather (entriesOf f c) nextMap (c + 8)) (fill .counted)));
+    }
 
-  pub entries-long : 20 * length (entriesFrom f c) ≤ length entries₀
-  entries-long = omega (arith, le-div-iff-mul-le {k = 20} (lit< tt) .0 (fill .entries-room))
+module _ {f : List ℕ} {c count : ℕ} {maps₀ entries₀ maps entries : List ℕ} {at k : ℕ} (i : Filling f c count maps₀ entries₀ maps entries at k) where
+  abbrev q : ℕ
+  q = c + 8 + 12 * k
 
-  maps-fit : length (tableBytes (mapsFrom f c)) ≤ length maps₀
-  unfolding mapsFrom
-  maps-fit =
-      let m = fill .counted in
-      omega (arith, maps-bytes f (c + 8) (mapCount f c), maps-long)
+  next-at : q + 12 ≡ c + 8 + 12 * (k + 1)
+  next-at = omega arith
 
-  entries-fit : length (tableBytes (entriesFrom f c)) ≤ length entries₀
-  unfolding entriesFrom
-  entries-fit = omega (arith, gather-bytes f c (c + 8) (mapCount f c), entries-long)
+  module _ (h : k < count) where
+    -- the map of this turn and the later ones are good
+    goods : (mapIn f c q ≡ true) × (every (λ b. b) (rowsAt (mapIn f c) nextMap (nextMap q) (count - (k + 1))) ≡ true)
+    goods = split-both (rw (one-left count k h) at (i .good))
 
-  pub filling-first : Filling f c count maps₀ entries₀ maps₀ entries₀ 0 0
-  unfolding mapsIn mapsFrom entriesFrom
-  filling-first =
-      let p : c + 8 + 12 * 0 ≡ c + 8 = omega arith in
-      let m = fill .counted in
-      let n : count - 0 ≡ mapCount f c = omega arith in
-      let adds = gather-adds (mapAt f) entryCount (entriesOf f c) nextMap (own-length f c) (c + 8) (mapCount f c) in
-      record {
-        good = rw (p, n) (fill .maps-in);
-        place = rw (p, n) (omega (arith, adds));
-        maps-same = refl;
-        entries-same = refl;
-        maps-left = rw (p, n);
-        entries-left = rw (p, n);
-      }
+    -- the map of this turn
+    pub filling-map : mapIn f c q ≡ true
+    filling-map = goods .0
 
-  module _ (maps entries : List ℕ) (at k : ℕ) (i : Filling f c count maps₀ entries₀ maps entries at k) where
-    abbrev q : ℕ
-    q = c + 8 + 12 * k
+    -- there is room for its row
+    pub map-room : 12 * k + 12 ≤ length maps
+    map-room = row-room (mapAt f) nextMap (i .maps-left) h
 
-    next-at : q + 12 ≡ c + 8 + 12 * (k + 1)
-    next-at = omega arith
+    -- and for its entries
+    pub entries-room : at + 20 * fineCountAt f q ≤ length entries
+    entries-room = group-room (entriesOf f c) nextMap (i .entries-left) h (own-bytes f c q)
 
-    -- the map of this turn, and the room for its entries
-    pub filling-map : k < count → (mapIn f c q ≡ true) × (at + 20 * fineCountAt f q ≤ 20 * length (entriesFrom f c))
-    filling-map h =
-        let g = rw (one-left count k h) at (i .good) in
-        let t = rw (one-left count k h) at (i .place) in
-        (both-true (mapIn f c q) (every (λ b. b) (rowsAt (mapIn f c) nextMap (nextMap q) (count - (k + 1)))) g .0, omega arith)
-
-    pub filling-next : (n : ℕ) {maps′ entries′ : List ℕ} → k < count → n ≡ fineCountAt f q → length maps′ ≡ length maps → length entries′ ≡ length entries
+    -- a turn
+    pub filling-next : (n : ℕ) {maps′ entries′ : List ℕ} → n ≡ fineCountAt f q
         → maps′ ≡ sets maps (12 * k) (rowBytes (mapAt f q)) → entries′ ≡ sets entries at (tableBytes (entriesOf f c q))
         → Filling f c count maps₀ entries₀ maps′ entries′ (at + 20 * n) (k + 1)
-    filling-next n h e lm le em ee =
-        let g = rw (one-left count k h) at (i .good) in
-        let t = rw (one-left count k h) at (i .place) in
+    filling-next n e em ee =
         let a : 12 * (k + 1) ≡ 12 * k + 12 = omega arith in
-        let left = total entryCount (rowsAt (mapAt f) nextMap (nextMap q) (count - (k + 1))) in
-        let place : at + 20 * n + 20 * left ≡ 20 * length (entriesFrom f c) = omega arith in
-        let ml = rows-turn (mapAt f) nextMap rowBytes maps (12 * k) q count k 12 h (map-bytes f q) em (i .maps-left) in
         let w : length (tableBytes (entriesOf f c q)) ≡ 20 * n = own-bytes f c q ∙ ap (λ (x : ℕ). 20 * x) (sym e) in
-        let el = gather-turn (entriesOf f c) nextMap rowBytes entries at q count k (20 * n) h w ee (i .entries-left) in
         record {
-          good = rw next-at at (both-true (mapIn f c q) (every (λ b. b) (rowsAt (mapIn f c) nextMap (nextMap q) (count - (k + 1)))) g .1);
-          place = rw next-at at place;
-          maps-same = lm ∙ i .maps-same;
-          entries-same = le ∙ i .entries-same;
-          maps-left = rw (next-at, ← a) at ml;
-          entries-left = rw next-at at el;
+          good = rw next-at at (goods .1);
+          maps-left = rw a (row-put (mapAt f) nextMap (i .maps-left) h em (omega arith));
+          entries-left = group-put (entriesOf f c) nextMap (i .entries-left) h w ee (sym next-at);
         }
 
-    pub filling-done : count ≤ k → (maps ≡ overwritten (tableBytes (mapsFrom f c)) maps₀) × (entries ≡ overwritten (tableBytes (entriesFrom f c)) entries₀)
-    filling-done h =
-        let m = rows-done (mapAt f) nextMap rowBytes maps (12 * k) q count k h (i .maps-left) in
-        let e = gather-done (entriesOf f c) nextMap rowBytes entries at q count k h (i .entries-left) in
-        (sets-front maps₀ (tableBytes (mapsFrom f c)) maps-fit m, sets-front entries₀ (tableBytes (entriesFrom f c)) entries-fit e)
+  -- after the last turn
+  pub filling-done : count ≤ k → (maps ≡ overwritten (tableBytes (mapsFrom f c)) maps₀) × (entries ≡ overwritten (tableBytes (entriesFrom f c)) entries₀)
+  filling-done h = (filled (λ p. refl) (i .maps-left) h, filled (λ p. refl) (i .entries-left) h)

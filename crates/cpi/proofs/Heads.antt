@@ -1,15 +1,17 @@
 -- What the head of the section says, test by test.
-use Prim.Native.Nat.{ℕ, suc, _+_, _*_, _%_, _^_, _<_, _≤_}
-use mathlib.Core.Path.{_≡_, refl, sym, ap, _∙_}
+use Prim.Native.Nat.{ℕ, _+_, _*_, _<_, _≤_}
+use mathlib.Core.Path.{_≡_}
 use mathlib.Core.List.{List}
-use mathlib.Core.Bool.{Bool, true, false, not}
+use mathlib.Core.Bool.{true, false, not}
 use native.Mathlib.Omega.{arith}
 use lib.ListN.{length}
-use lib.Dec.{eqb, leb, ltb}
-use borrow.Author.Tests.{eq-eqb, ne-eqb, le-leb, lt-leb, lt-ltb, le-ltb}
-use Rattle.format.specs.Bytes.{pick, both, beAt}
+use lib.Dec.{eqb}
+use borrow.Author.Tests.{eq-eqb, ne-eqb, le-leb, lt-leb, le-ltb}
+use Rattle.format.specs.Bytes.{beAt}
 use Rattle.format.specs.ClipRecord.{present}
 use Rattle.format.specs.EntryPoints.{cpiLength, cpiEnd, cpiType, hasMaps, mapCount, cpiIn}
+use Rattle.format.proofs.Tests.{right-fails}
+use Rattle.format.proofs.Cpi.{is-present}
 use Rattle.cpi.specs.Maps.{headOf}
 use Rattle.cpi.specs.declared.maps.Head.{Head}
 
@@ -23,51 +25,44 @@ module _ (f : List ℕ) (c : ℕ) where
   head-zero h = absent (rw (eq-eqb c 0 h))
 
   pub head-far : length f ≤ c → Head.NoMaps ≡ headOf f c
-  head-far h = absent (go (eqb c 0))
-    where
-      go : (b : Bool) → both (not b) (ltb c (length f)) ≡ false
-      go true = refl
-      go false = le-ltb c (length f) h
-
-  is-present : (c ≡ 0 → ⊥) → c < length f → present f c ≡ true
-  is-present h k = rw (ne-eqb c 0 h, lt-ltb c (length f) k)
+  head-far h = absent (right-fails (not (eqb c 0)) (le-ltb c (length f) h))
 
   module _ (some : c ≡ 0 → ⊥) (near : c < length f) where
     -- a length that passes the file's end
     pub head-past : length f < cpiEnd f c → Head.PastEnd ≡ headOf f c
     unfolding headOf cpiIn
-    head-past h = rw (is-present some near, lt-leb (cpiEnd f c) (length f) h)
+    head-past h = rw (is-present f c some near, lt-leb (cpiEnd f c) (length f) h)
 
     module _ (inside : cpiEnd f c ≤ length f) where
       -- no maps: N below 2, another type, N below 4
       none : hasMaps f c ≡ false → Head.NoMaps ≡ headOf f c
       unfolding headOf cpiIn
-      none h = rw (is-present some near, le-leb (cpiEnd f c) (length f) inside, h)
+      none h = rw (is-present f c some near, le-leb (cpiEnd f c) (length f) inside, h)
 
       pub head-two : cpiLength f c < 2 → Head.NoMaps ≡ headOf f c
       unfolding hasMaps
-      head-two h = none (rw (is-present some near, lt-leb 2 (cpiLength f c) h))
+      head-two h = none (rw (is-present f c some near, lt-leb 2 (cpiLength f c) h))
 
       pub head-type : 2 ≤ cpiLength f c → (cpiType f c ≡ 1 → ⊥) → Head.NoMaps ≡ headOf f c
       unfolding hasMaps
-      head-type h t = none (rw (is-present some near, le-leb 2 (cpiLength f c) h, ne-eqb (cpiType f c) 1 t))
+      head-type h t = none (rw (is-present f c some near, le-leb 2 (cpiLength f c) h, ne-eqb (cpiType f c) 1 t))
 
       pub head-four : 2 ≤ cpiLength f c → cpiType f c ≡ 1 → cpiLength f c < 4 → Head.NoMaps ≡ headOf f c
       unfolding hasMaps
-      head-four h t l = none (rw (is-present some near, le-leb 2 (cpiLength f c) h, eq-eqb (cpiType f c) 1 t, lt-leb 4 (cpiLength f c) l))
+      head-four h t l = none (rw (is-present f c some near, le-leb 2 (cpiLength f c) h, eq-eqb (cpiType f c) 1 t, lt-leb 4 (cpiLength f c) l))
 
       module _ (one : cpiType f c ≡ 1) (four : 4 ≤ cpiLength f c) where
         pub has-maps : hasMaps f c ≡ true
         unfolding hasMaps
-        has-maps = rw (is-present some near, le-leb 2 (cpiLength f c) (omega arith), eq-eqb (cpiType f c) 1 one, le-leb 4 (cpiLength f c) four)
+        has-maps = rw (is-present f c some near, le-leb 2 (cpiLength f c) (omega arith), eq-eqb (cpiType f c) 1 one, le-leb 4 (cpiLength f c) four)
 
         -- headers that pass the file's end, and headers that do not
         pub head-headers : length f < c + 8 + 12 * beAt f (c + 7) 1 → Head.PastEnd ≡ headOf f c
         unfolding headOf cpiIn mapCount
         head-headers h =
-            rw (is-present some near, le-leb (cpiEnd f c) (length f) inside, has-maps, lt-leb (c + 8 + 12 * beAt f (c + 7) 1) (length f) h)
+            rw (is-present f c some near, le-leb (cpiEnd f c) (length f) inside, has-maps, lt-leb (c + 8 + 12 * beAt f (c + 7) 1) (length f) h)
 
         pub head-maps : c + 8 + 12 * beAt f (c + 7) 1 ≤ length f → Head.Maps (beAt f (c + 7) 1) (cpiEnd f c) ≡ headOf f c
         unfolding headOf cpiIn mapCount
         head-maps h =
-            rw (is-present some near, le-leb (cpiEnd f c) (length f) inside, has-maps, le-leb (c + 8 + 12 * beAt f (c + 7) 1) (length f) h)
+            rw (is-present f c some near, le-leb (cpiEnd f c) (length f) inside, has-maps, le-leb (c + 8 + 12 * beAt f (c + 7) 1) (length f) h)

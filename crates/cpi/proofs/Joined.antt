@@ -1,26 +1,20 @@
 -- The loop that joins coarse and fine rows: a turn, and the end.
-use Prim.Native.Nat.{ℕ, suc, _+_, _*_, _-_, _/_, _%_, _^_, _<_, _≤_}
-use mathlib.Core.Path.{_≡_, refl, sym, ap, _∙_}
+use Prim.Native.Nat.{ℕ, suc, _+_, _*_, _-_, _^_, _<_, _≤_}
+use mathlib.Core.Path.{_≡_, ap, _∙_}
 use mathlib.Core.List.{List, [], _∷_}
 use native.Mathlib.Omega.{arith}
-use lib.ListN.{length}
 use lib.Seq.{sets}
 use Rattle.format.specs.Bytes.{beAt, unpacked, rowsAt}
 use Rattle.format.specs.ClipRecord.{Row}
 use Rattle.format.specs.EntryPoints.{fineWidths, fineAt, nextFine, joinTime, joinPacket, coarseFor, entryOf, entriesFor}
-use Rattle.format.specs.Tables.{cellBytes, rowBytes, tableBytes}
-use Rattle.format.proofs.Rows.{flat-length, all-rows}
-use Rattle.format.proofs.Cells.{low-length}
+use Rattle.format.specs.Tables.{rowBytes, tableBytes}
 use Rattle.format.proofs.Loops.{one-left, none-left, put-more}
+use Rattle.format.proofs.Sweep.{row-bytes}
 use Rattle.bits.specs.Rows.{fineOf}
 use Rattle.bits.specs.declared.FineRow.{FineRow}
 use Rattle.cpi.specs.Entries.{entryBy}
 use Rattle.cpi.specs.Walks.{Reaches}
 use Rattle.cpi.specs.declared.walk.Walk.{Walk}
-
--- a row of five cells has 20 bytes
-five-cells : (a b c d e : ℕ) → length (rowBytes (a ∷ b ∷ c ∷ d ∷ e ∷ [])) ≡ 20
-five-cells a b c d e = flat-length 4 cellBytes (all-rows (λ v. low-length 4 v) (a ∷ b ∷ c ∷ d ∷ e ∷ []))
 
 -- the bytes of the entries that are left, from fine row k on
 abbrev pub leftFrom : List ℕ → ℕ → List Row → ℕ → ℕ → ℕ → List ℕ
@@ -46,7 +40,7 @@ module _ (f : List ℕ) (type : ℕ) (coarse : List Row) (fine n k : ℕ) where
       let here : entryBy type (w .time) (w .packet) (unpacked fineWidths x) ≡ row = rw (e, r .time-of, r .packet-of) in
       let p′ = p ∙ ap (λ (r : Row). sets t (at + 20 * k) (rowBytes r)) here in
       let i′ = rw (one-left n k h) at i in
-      let done = put-more t (at + 20 * k) 20 (rowBytes row) rest (five-cells _ _ _ _ _) p′ i′ in
+      let done = put-more t (at + 20 * k) 20 (rowBytes row) rest (row-bytes row) p′ i′ in
       let a : at + 20 * (k + 1) ≡ at + 20 * k + 20 = omega arith in
       let b : fine + 4 * (k + 1) ≡ fine + 4 * k + 4 = omega arith in
       let d : k + 1 ≡ suc k = omega arith in

@@ -1,17 +1,17 @@
 -- Maps measured one by one, and what the section's measure says.
-use Prim.Native.Nat.{ℕ, zero, suc, _+_, _*_, _-_, _<_, _≤_}
-use mathlib.Core.Path.{_≡_, refl, sym, ap, _∙_}
-use mathlib.Core.List.{List, [], _∷_}
+use Prim.Native.Nat.{ℕ, _+_, _*_, _-_, _<_, _≤_}
+use mathlib.Core.Path.{_≡_, refl, sym, _∙_}
+use mathlib.Core.List.{List}
 use mathlib.Core.Bool.{Bool, true, false}
 use native.Mathlib.Omega.{arith}
 use lib.ListN.{length}
-use lib.Dec.{eqb, leb, ltb}
-use borrow.Author.Tests.{le-leb, lt-leb, lt-ltb, le-ltb, leb-true, ltb-true}
-use Rattle.format.specs.Bytes.{pick, both, every, beAt, unpacked, rowsAt, gather, total}
-use Rattle.format.specs.ClipRecord.{Row, entryCount, present}
+use borrow.Author.Tests.{le-leb, lt-leb, lt-ltb, le-ltb, leb-true}
+use Rattle.format.specs.Bytes.{pick, both, every, beAt, unpacked, rowsAt, total}
+use Rattle.format.specs.ClipRecord.{entryCount, present}
 use Rattle.format.specs.EntryPoints.{headerWidths, mapTypeAt, coarseCountAt, fineCountAt, mapAt, nextMap, bodyAt, fineStart, entriesOf, cpiEnd, hasMaps, mapCount, mapsFrom, entriesFrom, cpiLengthIn, mapHeadersIn, cpiIn, mapIn, mapsIn}
-use Rattle.format.proofs.Tests.{both-true, split-both}
+use Rattle.format.proofs.Tests.{split-both}
 use Rattle.format.proofs.Rows.{rows-length, gather-adds}
+use Rattle.format.proofs.Cpi.{count-by}
 use Rattle.format.proofs.Read.{own-length}
 use Rattle.format.proofs.Loops.{one-left, none-left}
 use Rattle.bits.specs.Rows.{headerOf}
@@ -139,10 +139,6 @@ module _ (f : List ℕ) (c count : ℕ) (counted : count ≡ mapCount f c) where
 -- ---- the section
 
 module _ (f : List ℕ) (c : ℕ) where
-  counted : hasMaps f c ≡ true → mapCount f c ≡ beAt f (c + 7) 1
-  unfolding mapCount
-  counted q = rw q
-
   present-of : hasMaps f c ≡ true → present f c ≡ true
   unfolding hasMaps
   present-of q = split-both q .0
@@ -165,7 +161,7 @@ module _ (f : List ℕ) (c : ℕ) where
       go true true true p q r h =
           let is-n : n ≡ beAt f (c + 7) 1 = cc in
           let is-e : e ≡ cpiEnd f c = cc in
-          let count : mapCount f c ≡ beAt f (c + 7) 1 = counted q in
+          let count : mapCount f c ≡ beAt f (c + 7) 1 = count-by f c true q in
           let there : present f c ≡ true = present-of q in
           let l : cpiEnd f c ≤ length f = leb-true (cpiEnd f c) (length f) (rw there at p) in
           let m : c + 8 + 12 * mapCount f c ≤ length f = leb-true (c + 8 + 12 * mapCount f c) (length f) (rw q at r) in

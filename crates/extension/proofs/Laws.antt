@@ -10,18 +10,18 @@ use lib.ListN.{length, take, drop, length-append}
 use lib.Seq.{sets}
 use lib.Dec.{leb, ltb, eqb, lit<}
 use borrow.Author.Tests.{eq-eqb, ne-eqb, le-leb, lt-leb, lt-ltb, le-ltb, leb-true}
-use Rattle.format.specs.Bytes.{IsBytes, both, pick, unless, beAt, gather}
+use Rattle.format.specs.Bytes.{IsBytes, both, pick, unless, gather}
 use Rattle.format.specs.ClipRecord.{Row}
 use Rattle.format.specs.Extensions.{blockLength, blockEnd, extensionCount, addressAt, dataLengthAt, nextExtension, extensionAt, isKept, keptAt, hasExtensions, extensionRows, extensionsFrom, dataIn, dataStart, dataLength, Found, nothing, found, listData}
-use Rattle.format.specs.Tables.{cellBytes, rowBytes, tableBytes, rowRoom, overwritten, Table, isStated, extensionCells}
+use Rattle.format.specs.Tables.{rowBytes, tableBytes, rowRoom, overwritten, Table, isStated, extensionCells}
 use Rattle.format.specs.Refusals.{extensionRow, dataRefusal, dataAsked}
-use Rattle.format.proofs.Tests.{both-true}
-use Rattle.format.proofs.Lists.{All, none, more}
+use Rattle.format.proofs.Tests.{both-true, left-fails, right-fails, ap-pick}
+use Rattle.format.proofs.Lists.{none, more}
 use Rattle.format.proofs.Stores.{be-below}
 use Rattle.format.proofs.Cell.{cell-of}
-use Rattle.format.proofs.Cells.{low-length}
-use Rattle.format.proofs.Rows.{all-rows, gather-all, flat-length}
-use Rattle.format.proofs.Loops.{one-left, none-left, flat-append, put-more, gather-done, sets-front}
+use Rattle.format.proofs.Rows.{gather-all}
+use Rattle.format.proofs.Loops.{one-left, none-left, sets-front}
+use Rattle.format.proofs.Sweep.{row-bytes, HaveCells, table-bytes, Filling, filled, group-room, group-put}
 use Rattle.common.specs.Reads.{ReadIs, CellIs}
 use Rattle.extension.specs.Block.{headOf, Block, InBlock, rowsIn, extensionsIn, entryRows, entryEnd, EntryIs, entryList, orList, foundIn, listEnd, MeasuredIs, PutIs}
 use Rattle.extension.specs.Part.{partOf, PartIs}
@@ -32,15 +32,6 @@ use Rattle.extension.specs.declared.ListData.{ListData}
 use Rattle.extension.specs.declared.ListData.the-variants.{At, Absent}
 use Rattle.extension.specs.declared.Measured.{Measured}
 use Rattle.extension.specs.declared.Part.{Part}
-
--- a test that fails fails both
-left-fails : {a : Bool} (b : Bool) → a ≡ false → both a b ≡ false
-left-fails b h = rw h
-
--- whatever the other says
-right-fails : (a : Bool) {b : Bool} → b ≡ false → both a b ≡ false
-right-fails true h = h
-right-fails false h = refl
 
 -- ---- the head
 
@@ -186,11 +177,8 @@ listed-first : (f : List ℕ) (list : ListData) (e : ExtensionDataEntry) (rest :
 unfolding listData
 listed-first f (At start len) e rest = refl
 listed-first f Absent LeftOut rest = refl
-listed-first f Absent (Kept id1 id2 start len) rest = by-test (both (eqb id1 2) (eqb id2 5))
-  where
-    by-test : (t : Bool) → orFound (foundIn f (pick t (At start len) Absent)) (listFrom f rest) ≡ pick t (found (take len (drop start f))) (listFrom f rest)
-    by-test true = refl
-    by-test false = refl
+listed-first f Absent (Kept id1 id2 start len) rest =
+    ap-pick (λ (l : ListData). orFound (foundIn f l) (listFrom f rest)) (both (eqb id1 2) (eqb id2 5)) (At start len) Absent
 
 -- the place lies inside the file, as each entry's data does
 listed-inside : (f : List ℕ) (list : ListData) (e : ExtensionDataEntry) → listEnd list ≤ length f → entryEnd e ≤ length f
@@ -225,10 +213,6 @@ pub one-row : (e : ExtensionDataEntry) → length (entryRows e) ≤ 1
 one-row LeftOut = omega arith
 one-row (Kept id1 id2 start len) = omega arith
 
--- the bytes of a row of four cells
-row-bytes : (id1 id2 start len : ℕ) → length (rowBytes (id1 ∷ id2 ∷ start ∷ len ∷ [])) ≡ 16
-row-bytes id1 id2 start len = flat-length 4 cellBytes (all-rows (λ v. low-length 4 v) (id1 ∷ id2 ∷ start ∷ len ∷ []))
-
 -- what an entry stores: nothing where it is left out
 pub none-put : (e : ExtensionDataEntry) (at : ℕ) (t : List ℕ) → e ≡ LeftOut
     → PutIs (entryRows e) at t t at
@@ -246,7 +230,7 @@ module _ (e : ExtensionDataEntry) {id1 id2 start len : ℕ} (is : e ≡ Kept id1
 
   -- how many they are
   pub entry-size : length (tableBytes (entryRows e)) ≡ 16
-  entry-size = rw entry-bytes (row-bytes id1 id2 start len)
+  entry-size = rw entry-bytes (row-bytes (id1 ∷ id2 ∷ start ∷ len ∷ []))
 
   -- they are stored
   pub one-put : (at : ℕ) (t : List ℕ) {t′ : List ℕ} → t′ ≡ sets t at row → PutIs (entryRows e) at t t′ (at + 16)
@@ -305,54 +289,40 @@ module _ (f : List ℕ) (start n : ℕ) where
         inside = c .inside;
       }
 
-  -- of the storing pass: what is left, put from here, gives the whole, and there is room
+  -- of the storing pass: where it stands, and the table while it is filled
   pub record Stored (p k at : ℕ) (t₀ t : List ℕ) : Type 0 where
     pub turns : k ≤ n
     pub place : p ≡ start + 12 + 12 * k
-    pub size : length t ≡ length t₀
-    pub room : at + length (tableBytes (left p k)) ≤ length t₀
-    pub puts : sets t at (tableBytes (left p k)) ≡ sets t₀ 0 (tableBytes (rowsIn f start n))
+    pub fills : Filling (gather (keptAt f start) nextExtension) t₀ (sets t₀ 0 (tableBytes (rowsIn f start n))) t at p n k
 
   -- before the first turn
   pub none-stored : (t : List ℕ) → length (tableBytes (rowsIn f start n)) ≤ length t → Stored (start + 12) 0 0 t t
   none-stored t h = record {
     turns = omega arith;
     place = omega arith;
-    size = refl;
-    room = rw sub-zero (omega arith);
-    puts = rw sub-zero;
+    fills = record { long = refl; room = rw sub-zero (omega arith); rest = rw sub-zero };
   }
 
   module _ {p k at : ℕ} {t₀ t : List ℕ} (e : ExtensionDataEntry) (h : k < n) (is : EntryIs f start p e) (c : Stored p k at t₀ t) where
-    -- what is left after this turn
-    abbrev rest : List Row
-    rest = gather (keptAt f start) nextExtension (p + 12) (n - (k + 1))
-
-    -- the bytes that were left are the entry's and these
-    parts : tableBytes (left p k) ≡ tableBytes (entryRows e) ++ tableBytes rest
-    parts = rw (one-left n k h, ← is .rows) (flat-append rowBytes (entryRows e) rest)
-
-    -- so is the room
-    room-parts : at + (length (tableBytes (entryRows e)) + length (tableBytes rest)) ≤ length t₀
-    room-parts = rw (parts, length-append) at (c .room)
+    -- the entry's bytes are those of the item that comes next
+    size : length (tableBytes (keptAt f start p)) ≡ length (tableBytes (entryRows e))
+    size = ap (λ (rows : List Row). length (tableBytes rows)) (sym (is .rows))
 
     -- the next row has room
     pub room-stored : at + length (tableBytes (entryRows e)) ≤ length t
-    room-stored = omega (arith, room-parts, c .size)
+    room-stored = group-room (keptAt f start) nextExtension (c .fills) h size
 
     -- a turn
-    pub one-stored : {at′ : ℕ} {t′ : List ℕ} → PutIs (entryRows e) at t t′ at′ → length t′ ≡ length t → Stored (p + 12) (k + 1) at′ t₀ t′
-    one-stored {at′} {t′} put same = record {
+    pub one-stored : {at′ : ℕ} {t′ : List ℕ} → PutIs (entryRows e) at t t′ at′ → Stored (p + 12) (k + 1) at′ t₀ t′
+    one-stored put = record {
       turns = omega arith;
       place = omega (arith, c .place);
-      size = same ∙ c .size;
-      room = rw (put .next) (omega (arith, room-parts));
-      puts = rw (put .next) (put-more t at (length (tableBytes (entryRows e))) (tableBytes (entryRows e)) (tableBytes rest) refl (put .stored) (rw parts at (c .puts)));
+      fills = rw (put .next) (group-put (keptAt f start) nextExtension (c .fills) h size (rw (is .rows) at (put .stored)) refl);
     }
 
   -- after the last turn
   pub all-stored : {p k at : ℕ} {t₀ t : List ℕ} → n ≤ k → Stored p k at t₀ t → t ≡ sets t₀ 0 (tableBytes (rowsIn f start n))
-  all-stored {p} {k} {at} {t₀} {t} h c = gather-done (keptAt f start) nextExtension rowBytes t at p n k h (c .puts)
+  all-stored h c = filled (λ q. refl) (c .fills) h
 
 -- ---- the measuring pass
 
@@ -372,22 +342,18 @@ module _ (f : List ℕ) (start : ℕ) where
 -- ---- table 7
 
 module _ (f : List ℕ) (start n : ℕ) where
-  -- an entry's row takes 16 bytes
-  kept-bytes : (p : ℕ) → All (λ row. length (rowBytes row) ≡ 16) (keptAt f start p)
-  kept-bytes p = by-test (isKept f start p)
+  -- an entry's row has four cells
+  kept-cells : (p : ℕ) → HaveCells 4 (keptAt f start p)
+  kept-cells p = by-test (isKept f start p)
     where
-      by-test : (t : Bool) → All (λ row. length (rowBytes row) ≡ 16) (pick t (extensionAt f start p ∷ []) [])
-      by-test true = more (row-bytes (beAt f p 2) (beAt f (p + 2) 2) (start + addressAt f p) (dataLengthAt f p)) none
+      by-test : (t : Bool) → HaveCells 4 (pick t (extensionAt f start p ∷ []) [])
+      by-test true = more refl none
       by-test false = none
-
-  -- so does each row of the table
-  table-bytes : length (tableBytes (rowsIn f start n)) ≡ 16 * length (rowsIn f start n)
-  table-bytes = flat-length 16 rowBytes (gather-all (keptAt f start) nextExtension kept-bytes (start + 12) n)
 
   module _ (t : List ℕ) (is : extensionRows f start ≡ rowsIn f start n) (h : length (extensionRows f start) ≤ rowRoom extensionCells t) where
     -- a table with room for the rows has room for their bytes
     pub table-room : length (tableBytes (rowsIn f start n)) ≤ length t
-    table-room = omega (arith, table-bytes, rw is at h)
+    table-room = omega (arith, table-bytes 4 (gather-all (keptAt f start) nextExtension kept-cells (start + 12) n), rw is at h)
 
     -- stored from its front they leave what stands beyond them
     pub table-filled : {t′ : List ℕ} → t′ ≡ sets t 0 (tableBytes (rowsIn f start n)) → t′ ≡ overwritten (tableBytes (extensionRows f start)) t

@@ -9,7 +9,7 @@ use Rattle.format.specs.Bytes.{rowsAt}
 use Rattle.format.specs.Tables.{cellAt, cellsAt, tableRows, rowRoom}
 
 -- item k of items that stand w apart from p
-item-at : {A : Type 0} (row : ℕ → A) (none : A) (w p n k : ℕ) → k < n → getD (rowsAt row (λ q. q + w) p n) k none ≡ row (p + w * k)
+pub item-at : {A : Type 0} (row : ℕ → A) (none : A) (w p n k : ℕ) → k < n → getD (rowsAt row (λ q. q + w) p n) k none ≡ row (p + w * k)
 item-at row none w p zero k h = absurd (omega arith)
 item-at row none w p (suc n) zero h = rw (mul-zero w, add-zero p)
 item-at row none w p (suc n) (suc k) h =

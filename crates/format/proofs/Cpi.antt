@@ -1,13 +1,12 @@
 -- The entry index is read back from its bytes.
-use Prim.Native.Nat.{ℕ, zero, suc, _+_, _*_, _/_, _%_, _^_, _<_, _≤_}
-use mathlib.Core.Path.{_≡_, refl, sym, ap, ap₂, _∙_}
+use Prim.Native.Nat.{ℕ, suc, _+_, _*_, _/_, _%_, _^_, _<_, _≤_}
+use mathlib.Core.Path.{_≡_, refl, ap, ap₂, _∙_}
 use mathlib.Core.List.{List, [], _∷_, _++_}
 use mathlib.Core.Bool.{Bool, true, false, not}
-use native.Mathlib.Nat.{add-zero, add-assoc, add-comm, mul-zero, mul-suc}
 use native.Mathlib.Omega.{arith}
 use lib.ListN.{length, getD, take, drop, length-append}
 use lib.Seq.{take-at, drop-at}
-use lib.Dec.{eqb, leb, ltb}
+use lib.Dec.{leb, ltb}
 use borrow.Author.Tests.{lt-ltb, le-leb, ne-eqb}
 use Rattle.format.specs.Bytes.{both, pick, every, beAt, bytesOf, fieldBytes, unpacked, packed, fits, rowsAt, gather, flat}
 use Rattle.format.specs.ClipRecord.{Row, mapType, entryCount, present}
@@ -185,8 +184,9 @@ module _ (s : List ℕ) (c : ℕ) (outer : cpiEnd s c ≤ length s) (small : cpi
 
 -- ---- the section
 
-pub is-present : (s : List ℕ) (p : ℕ) → 0 < p → p < length s → present s p ≡ true
-is-present s p h k = true-both (ap not (ne-eqb p 0 (λ e. omega arith))) (lt-ltb p (length s) k)
+-- a section stands at a place within the file that is not 0
+pub is-present : (s : List ℕ) (p : ℕ) → (p ≡ 0 → ⊥) → p < length s → present s p ≡ true
+is-present s p h k = true-both (ap not (ne-eqb p 0 h)) (lt-ltb p (length s) k)
 
 no-maps : (s : List ℕ) (p : ℕ) → present s p ≡ true → beAt s p 4 ≡ 0 → hasMaps s p ≡ false
 unfolding hasMaps
@@ -196,7 +196,8 @@ some-maps : (s : List ℕ) (p : ℕ) → present s p ≡ true → 4 ≤ beAt s p
 unfolding hasMaps
 some-maps s p h k e = rw (h, le-leb 2 (beAt s p 4) (omega arith), le-leb 4 (beAt s p 4) k, e)
 
-count-by : (s : List ℕ) (p : ℕ) (b : Bool) → hasMaps s p ≡ b → mapCount s p ≡ pick b (beAt s (p + 7) 1) 0
+-- how many maps there are, where `b` tells whether there are maps
+pub count-by : (s : List ℕ) (p : ℕ) (b : Bool) → hasMaps s p ≡ b → mapCount s p ≡ pick b (beAt s (p + 7) 1) 0
 unfolding mapCount
 count-by s p b h = rw h
 
@@ -207,7 +208,7 @@ module _ (s : List ℕ) (p : ℕ) (pos : 0 < p) where
   cpi-back Maps.none few small t =
       let z : beAt s p 4 ≡ 0 = number-back 4 0 t (omega arith) in
       let e : p + 4 ≤ length s = rw (bytes-length 4 0) at (ends-in t) in
-      let pr = is-present s p pos (omega arith) in
+      let pr = is-present s p (λ e. omega arith) (omega arith) in
       let no = no-maps s p pr z in
       let k : mapCount s p ≡ 0 = count-by s p false no in
       (rw k, rw k, rw (pr, no, z) (true-both (le-leb (p + 4 + 0) (length s) (omega arith)) refl), rw k)
@@ -231,7 +232,7 @@ module _ (s : List ℕ) (p : ℕ) (pos : 0 < p) where
       let e0 : beAt s p 4 ≡ word = ap (λ (l : List ℕ). getD l 0 0) b′ in
       let e1 : beAt s (p + 4) 2 ≡ 1 = ap (λ (l : List ℕ). getD l 1 0) b′ in
       let e3 : beAt s (p + 7) 1 ≡ n = ap (λ (l : List ℕ). getD l 3 0) b′ in
-      let pr = is-present s p pos (omega arith) in
+      let pr = is-present s p (λ e. omega arith) (omega arith) in
       let yes′ = some-maps s p pr (omega arith) e1 in
       let k : mapCount s p ≡ n = count-by s p true yes′ ∙ e3 in
       let stop : cpiEnd s p ≡ p + 4 + word = rw e0 in

@@ -8,6 +8,7 @@ pub mod Cells
 pub mod Rows
 pub mod Loops
 pub mod Sweep
+pub mod Places
 pub mod Tables
 pub mod Cell
 pub mod ReadByRead

@@ -1,12 +1,12 @@
 -- Loops over items that stand one behind the other, of any kind: what a turn does to what is left, and what is left at the end.
 use Prim.Native.Nat.{ℕ, zero, suc, _+_, _-_, _<_, _≤_}
-use mathlib.Core.Path.{_≡_, refl, sym, ap, _∙_}
+use mathlib.Core.Path.{_≡_, refl, sym, _∙_}
 use mathlib.Core.List.{List, [], _∷_, _++_, append-assoc}
-use native.Mathlib.Nat.{le-refl, le-trans, add-assoc}
+use native.Mathlib.Nat.{le-refl, le-trans}
 use native.Mathlib.Omega.{arith}
-use lib.ListN.{length, drop, length-append}
+use lib.ListN.{length}
 use lib.Seq.{sets, sets-eq}
-use Rattle.format.specs.Bytes.{rowsAt, gather, endOf, flat, total}
+use Rattle.format.specs.Bytes.{rowsAt, endOf, flat, total}
 use Rattle.format.specs.Tables.{overwritten}
 use Rattle.format.proofs.Stores.{sets-append}
 
@@ -38,26 +38,6 @@ sets-front t new h p =
     let e : 0 + length new ≡ length new = omega arith in
     p ∙ sets-eq new t 0 (rw e h) ∙ rw e
 
-module _ {A : Type 0} (row : ℕ → A) (next : ℕ → ℕ) (bytes : A → List ℕ) (t : List ℕ) (at q n k : ℕ) where
-  -- a turn that stores the row at q
-  pub rows-turn : (w : ℕ) {t′ whole : List ℕ} → k < n → length (bytes (row q)) ≡ w → t′ ≡ sets t at (bytes (row q))
-      → sets t at (flat bytes (rowsAt row next q (n - k))) ≡ whole → sets t′ (at + w) (flat bytes (rowsAt row next (next q) (n - (k + 1)))) ≡ whole
-  rows-turn w h e p i = put-more t at w (bytes (row q)) (flat bytes (rowsAt row next (next q) (n - (k + 1)))) e p (rw (one-left n k h) at i)
-
-  pub rows-done : {whole : List ℕ} → n ≤ k → sets t at (flat bytes (rowsAt row next q (n - k))) ≡ whole → t ≡ whole
-  rows-done h i = rw (none-left n k h) at i
-
-module _ {A : Type 0} (rows : ℕ → List A) (next : ℕ → ℕ) (bytes : A → List ℕ) (t : List ℕ) (at q n k : ℕ) where
-  -- a turn that stores the rows of the item at q
-  pub gather-turn : (w : ℕ) {t′ whole : List ℕ} → k < n → length (flat bytes (rows q)) ≡ w → t′ ≡ sets t at (flat bytes (rows q))
-      → sets t at (flat bytes (gather rows next q (n - k))) ≡ whole → sets t′ (at + w) (flat bytes (gather rows next (next q) (n - (k + 1)))) ≡ whole
-  gather-turn w h e p i =
-      let rest = gather rows next (next q) (n - (k + 1)) in
-      put-more t at w (flat bytes (rows q)) (flat bytes rest) e p (rw (one-left n k h, flat-append bytes (rows q) rest) at i)
-
-  pub gather-done : {whole : List ℕ} → n ≤ k → sets t at (flat bytes (gather rows next q (n - k))) ≡ whole → t ≡ whole
-  gather-done h i = rw (none-left n k h) at i
-
 -- ---- ends and counts
 
 -- items end at or past where they start
@@ -80,6 +60,3 @@ module _ {A : Type 0} (row : ℕ → A) (next : ℕ → ℕ) (count : A → ℕ)
   -- the counts of the rows that are left
   pub total-turn : k < n → total count (rowsAt row next q (n - k)) ≡ count (row q) + total count (rowsAt row next (next q) (n - (k + 1)))
   total-turn h = rw (one-left n k h)
-
-  pub total-done : n ≤ k → total count (rowsAt row next q (n - k)) ≡ 0
-  total-done h = rw (none-left n k h)

@@ -15,7 +15,9 @@ use Rattle.format.specs.EntryPoints.{nextCoarse, nextMap, cpiLength, cpi
 use Rattle.format.specs.Extensions.{found, listIn, blockLength, extensionCount, hasExtensions}
 use Rattle.format.specs.Refusals.{refusalOf}
 use Rattle.format.specs.ReadByRead.{startIn, readsIn, itemsIn, clipInfoRead, stcRead, atcRead, sequencesRead, streamRead, programRead, programsRead, mapHeaderRead, cpiHeadersRead, cpiTypeRead, cpiRead, mapRead, mapsRead, marksRead, refusalRead, extensionRead, blockRead, extensionsRead}
+use Rattle.format.proofs.Tests.{right-fails}
 use Rattle.format.proofs.Loops.{end-ge}
+use Rattle.format.proofs.Places.{up-stc, up-atc, up-stream, up-program}
 use Rattle.format.proofs.Sweep.{end-steps}
 
 -- ---- tests of places, each at or past the one before
@@ -41,14 +43,10 @@ reads-some f p w ws =
     let e : p + w + widthOf ws ≡ p + (w + widthOf ws) = add-assoc p w (widthOf ws) in
     rw (← e) (then (length f) (p + w) (p + w + widthOf ws) (readsIn f (p + w) ws) (omega arith) (λ k. reads f (p + w) ws k))
 
--- tests in a row, grouped otherwise; a row that ends in a failed test; rows read by equal tests
+-- tests in a row, grouped otherwise; rows read by equal tests
 both-inner : (a b c d : Bool) → both a (both b (both c d)) ≡ both a (both (both b c) d)
 both-inner a true c d = refl
 both-inner a false c d = refl
-
-both-false : (b : Bool) → both b false ≡ false
-both-false true = refl
-both-false false = refl
 
 rows-same : (g h : ℕ → Bool) → ((p : ℕ) → g p ≡ h p) → (next : ℕ → ℕ) (p n : ℕ) → rowsAt g next p n ≡ rowsAt h next p n
 rows-same g h e next p zero = refl
@@ -74,21 +72,9 @@ module _ (f : List ℕ) where
 
   -- ---- sequences and programs
 
-  up-stc : (p : ℕ) → p ≤ nextStc p
-  up-stc p = omega arith
-
-  up-atc : (p : ℕ) → p ≤ nextAtc f p
-  up-atc p = let h = end-ge nextStc up-stc (p + 6) (beAt f (p + 4) 1) in omega arith
-
   atc-read : (p : ℕ) → atcRead f p ≡ leb (nextAtc f p) (length f)
   atc-read p =
       headed 4 (1 ∷ 1 ∷ []) (stcRead f) nextStc up-stc (λ q. reads-some f q 2 (4 ∷ 4 ∷ 4 ∷ [])) p (p + 6) (beAt f (p + 4) 1) refl
-
-  up-stream : (p : ℕ) → p ≤ nextStream f p
-  up-stream p = omega arith
-
-  up-program : (p : ℕ) → p ≤ nextProgram f p
-  up-program p = let h = end-ge (nextStream f) up-stream (p + 8) (beAt f (p + 6) 1) in omega arith
 
   stream-read : (p : ℕ) → streamRead f p ≡ leb (nextStream f p) (length f)
   stream-read p =
@@ -99,7 +85,7 @@ module _ (f : List ℕ) where
 
   program-read : (p : ℕ) → programRead f p ≡ leb (nextProgram f p) (length f)
   program-read p =
-      headed 4 (2 ∷ 1 ∷ 1 ∷ []) (streamRead f) (nextStream f) up-stream stream-read p (p + 8) (beAt f (p + 6) 1) refl
+      headed 4 (2 ∷ 1 ∷ 1 ∷ []) (streamRead f) (nextStream f) (up-stream f) stream-read p (p + 8) (beAt f (p + 6) 1) refl
 
   -- a section that starts at any place: the start, six bytes, items
   section : (test : ℕ → Bool) (next : ℕ → ℕ) → ((p : ℕ) → p ≤ next p) → ((p : ℕ) → test p ≡ leb (next p) (length f)) → (start n : ℕ)
@@ -110,11 +96,11 @@ module _ (f : List ℕ) where
 
   sequences : (start : ℕ) → sequencesRead f start ≡ leb (sequencesEnd f start) (length f)
   unfolding sequencesRead sequencesEnd
-  sequences start = section (atcRead f) (nextAtc f) up-atc atc-read start (beAt f (start + 5) 1)
+  sequences start = section (atcRead f) (nextAtc f) (up-atc f) atc-read start (beAt f (start + 5) 1)
 
   programs : (start : ℕ) → programsRead f start ≡ leb (programsEnd f start) (length f)
   unfolding programsRead programsEnd
-  programs start = section (programRead f) (nextProgram f) up-program program-read start (beAt f (start + 5) 1)
+  programs start = section (programRead f) (nextProgram f) (up-program f) program-read start (beAt f (start + 5) 1)
 
   -- ---- ClipInfo and marks
 
@@ -189,7 +175,7 @@ module _ (f : List ℕ) where
       ends true t =
           let h = leb-true (cpiEnd f c) (length f) t in
           rw (le-leb (c + 4) (length f) (omega arith)) (cpi-rest c h)
-      ends false t = both-false (leb (c + 4) (length f))
+      ends false t = right-fails (leb (c + 4) (length f)) refl
 
       go : (b : Bool)
           → pick b (both (readsIn f c (4 ∷ [])) (both (startIn f (cpiEnd f c)) (pick (ltb (cpiLength f c) 2) true (cpiTypeRead f c)))) true
@@ -256,5 +242,5 @@ module _ (f : List ℕ) where
       end = start + 12 + 12 * extensionCount f start
 
       go : (b : Bool) → both (leb (start + 4) (length f)) (pick b false (leb end (length f))) ≡ both (not b) (leb end (length f))
-      go true = both-false (leb (start + 4) (length f))
+      go true = right-fails (leb (start + 4) (length f)) refl
       go false = then (length f) (start + 4) end (leb end (length f)) (omega arith) (λ m. refl)

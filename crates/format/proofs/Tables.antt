@@ -1,22 +1,20 @@
 -- Lent tables: rows that were put into a table are the rows that it holds, whatever stands beyond them.
-use Prim.Native.Nat.{ℕ, zero, suc, _+_, _*_, _/_, _^_, _<_, _≤_}
+use Prim.Native.Nat.{ℕ, suc, _+_, _*_, _^_, _<_, _≤_}
 use mathlib.Core.Path.{_≡_, refl, sym, ap, _∙_}
-use mathlib.Core.List.{List, [], _∷_, _++_, append-nil}
-use mathlib.Core.Bool.{true}
+use mathlib.Core.List.{List, [], _++_}
 use native.Mathlib.Nat.{mul-comm, le-div-iff-mul-le, le-trans}
 use native.Mathlib.Omega.{arith}
 use lib.ListN.{length, length-append}
-use lib.Dec.{leb, lit<}
 use lib.Pow.{pow-mono}
-use borrow.Author.Tests.{le-leb}
 use Rattle.format.specs.Bytes.{rowsAt}
 use Rattle.format.specs.ClipRecord.{Row}
-use Rattle.format.specs.Tables.{lowBytes, cellAt, cellBytes, rowBytes, tableBytes, cellsAt, tableRows, rowRoom, Table, isStated, rowsOf}
+use Rattle.format.specs.Tables.{cellAt, cellBytes, rowBytes, tableBytes, cellsAt, tableRows, rowRoom}
 use Rattle.format.proofs.Lists.{All, none, more, all-map}
 use Rattle.format.proofs.Fields.{Fit, one}
-use Rattle.format.proofs.Numbers.{Stands, moved}
+use Rattle.format.proofs.Numbers.{Stands}
 use Rattle.format.proofs.Cells.{low-length, low-back}
-use Rattle.format.proofs.Rows.{as-is, map-as-is, rows-back, flat-length, all-rows}
+use Rattle.format.proofs.Rows.{as-is, map-as-is, rows-back}
+use Rattle.format.proofs.Sweep.{row-bytes, table-bytes}
 
 -- a row of so many cells, each of 32 bits
 pub record Cells (cells : ℕ) (row : Row) : Type 0 where
@@ -31,12 +29,6 @@ fit-cells (more {x = w} h hs) (one {v = v} k f) =
     let b : v < 2 ^ 32 = le-trans k (pow-mono h) in
     record { count = ap suc (r .count); narrow = more b (r .narrow) }
 
-pub row-length : {cells : ℕ} {row : Row} → Cells cells row → length (rowBytes row) ≡ 4 * cells
-row-length {cells} {row} c = flat-length 4 cellBytes (all-rows (λ v. low-length 4 v) row) ∙ ap (λ (n : ℕ). 4 * n) (c .count)
-
-pub table-length : {cells : ℕ} {rows : List Row} → All (Cells cells) rows → length (tableBytes rows) ≡ 4 * cells * length rows
-table-length {cells} h = flat-length (4 * cells) rowBytes (all-map (λ row c. row-length c) h)
-
 -- a row reads back, and so do rows one behind the other
 row-back : (t : List ℕ) (cells p : ℕ) (row : Row) → Cells cells row → Stands t p (rowBytes row)
     → (cellsAt t cells p ≡ as-is row) × (p + 4 * cells ≡ p + length (rowBytes row))
@@ -44,7 +36,7 @@ row-back t cells p row c st =
     let r = rows-back t (cellAt t) (λ q. q + 4) cellBytes as-is (λ v. v < 2 ^ 32)
     (λ q v h s. (low-back 4 v s h, ap (λ (n : ℕ). q + n) (sym (low-length 4 v)))) (c .narrow) p st in
     let e : rowsAt (cellAt t) (λ q. q + 4) p cells ≡ row = rw (c .count) at (r .0) ∙ map-as-is row in
-    (e, ap (λ (n : ℕ). p + n) (sym (row-length c)))
+    (e, ap (λ (n : ℕ). p + n) (sym (row-bytes row ∙ ap (λ (m : ℕ). 4 * m) (c .count))))
 
 pub table-back : (cells : ℕ) {rows : List Row} → All (Cells cells) rows → (beyond : List ℕ) → tableRows cells (tableBytes rows ++ beyond) (length rows) ≡ rows
 unfolding tableRows
@@ -58,7 +50,7 @@ table-back cells {rows} h beyond =
 pub table-room : (cells : ℕ) {rows : List Row} → 0 < cells → All (Cells cells) rows → (beyond : List ℕ)
     → length rows ≤ rowRoom cells (tableBytes rows ++ beyond)
 table-room cells {rows} pos h beyond =
-    let l = table-length h in
+    let l = table-bytes cells (all-map (λ row c. c .count) h) in
     let e = length-append (tableBytes rows) beyond in
     let c = mul-comm (4 * cells) (length rows) in
     let some : 0 < 4 * cells = omega arith in

@@ -14,6 +14,7 @@ both-true false b h = let z : _≡_ {A = ℕ} 0 1 = cc in absurd (omega arith)
 pub split-both : {a b : Bool} → both a b ≡ true → (a ≡ true) × (b ≡ true)
 split-both {a} {b} h = both-true a b h
 
+-- and both pass where each does
 pub true-both : {a b : Bool} → a ≡ true → b ≡ true → both a b ≡ true
 true-both h g = rw h g
 
@@ -30,3 +31,16 @@ passed false k later h = absurd (omega arith)
 -- a test that passes leaves the later ones
 pub pass : {b : Bool} (k : ℕ) {later : ℕ} → b ≡ true → later ≡ 0 → unless b k later ≡ 0
 pass k h e = rw h e
+
+-- a test that fails fails both, whatever the other says
+pub left-fails : {a : Bool} (b : Bool) → a ≡ false → both a b ≡ false
+left-fails b h = rw h
+
+pub right-fails : (a : Bool) {b : Bool} → b ≡ false → both a b ≡ false
+right-fails true h = h
+right-fails false h = refl
+
+-- a function of a choice is the choice of its values
+pub ap-pick : {A B : Type 0} (g : A → B) (b : Bool) (x y : A) → g (pick b x y) ≡ pick b (g x) (g y)
+ap-pick g true x y = refl
+ap-pick g false x y = refl

@@ -154,7 +154,7 @@ module _ (c : Clip) (good : GoodClip 65535 c) where
       let l = facts c good .long in
       let f : Fill (4 ∷ 2 ∷ []) (2 ∷ 0 ∷ []) = fill 4 2 (lit< tt) (fill 2 0 (lit< tt) Fill.none) in
       let b : beAt (encode c) (mk c good + 4) 2 ≡ 0 = ap (λ (l : List ℕ). getD l 1 0) (fields-back (mk c good) f (facts c good .marks-at)) in
-      rw (is-present (encode c) (mk c good) (omega arith) (omega arith)) b
+      rw (is-present (encode c) (mk c good) (λ e. omega arith) (omega arith)) b
 
   pub record-back : recordOf (encode c)
       ≡ record { clip = loweredClip c; marks = 0; extensions = []; hasList = false; listPrograms = []; listStreams = [] }
@@ -176,7 +176,7 @@ module _ (c : Clip) (good : GoodClip 65535 c) where
       let t6 : cpiIn (encode c) (beAt (encode c) 16 4) ≡ true = rw (at 4) (cpi .2) in
       let t7 : mapsIn (encode c) (beAt (encode c) 16 4) ≡ true = rw (at 4) (cpi .3) in
       let t8 : marksIn (encode c) (beAt (encode c) 20 4) ≡ true =
-      rw (at 5, is-present (encode c) (mk c good) (omega arith) (omega arith)) (le-leb (mk c good + 6) n (omega arith)) in
+      rw (at 5, is-present (encode c) (mk c good) (λ e. omega arith) (omega arith)) (le-leb (mk c good + 6) n (omega arith)) in
       pass 20 (le-leb n 536870912 (omega arith))
       (pass 1 (le-leb 8 n (omega arith))
       (pass 2 t2

@@ -14,6 +14,7 @@ use Rattle.format.specs.Bytes.{pick, flat, rowsAt, total}
 use Rattle.format.specs.ClipRecord.{Row, Record, entryCount}
 use Rattle.format.specs.Tables.{cellAt, cellsAt, mapCells, entryCells}
 use Rattle.format.specs.Listing.{digits, line, mapWord, epWord, epLine, mapLine, mapLines, recordLines}
+use Rattle.format.proofs.Cell.{item-at}
 use Rattle.format.proofs.Loops.{one-left, none-left, total-turn, sets-front}
 use Rattle.format.proofs.Stores.{sets-append}
 use Rattle.common.specs.Reads.{CellIs}
@@ -121,17 +122,9 @@ decimal-few n h = digits-few 20 9 n (omega arith)
 
 -- ---- rows of a table
 
--- cell j of the row at q stands 4 * j behind it
-row-cell : (t : List ℕ) (cells q j : ℕ) → j < cells → cellAt t (q + 4 * j) ≡ getD (cellsAt t cells q) j 0
-row-cell t zero q j h = absurd (omega arith)
-row-cell t (suc cells) q zero h = let e : q + 4 * 0 ≡ q = omega arith in ap (cellAt t) e
-row-cell t (suc cells) q (suc j) h =
-    let e : q + 4 * suc j ≡ q + 4 + 4 * j = omega arith in
-    ap (cellAt t) e ∙ row-cell t cells (q + 4) j (omega arith)
-
--- so a cell that was read is that of the row
+-- a cell that was read 4 * j behind the row's place is cell j of the row
 pub cell-is : (t : List ℕ) (cells q j : ℕ) {v : ℕ} → j < cells → CellIs t (q + 4 * j) v → v ≡ getD (cellsAt t cells q) j 0
-cell-is t cells q j h c = c .same ∙ row-cell t cells q j h
+cell-is t cells q j h c = c .same ∙ sym (item-at (cellAt t) 0 4 q cells j h)
 
 -- the line of an entry from its two cells
 pub entry-line : (t : List ℕ) (q : ℕ) {v w : ℕ} → CellIs t (q + 8) v → CellIs t (q + 12) w

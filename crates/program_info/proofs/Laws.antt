@@ -14,31 +14,22 @@ use Rattle.format.specs.Bytes.{both, pick, beAt, rowsAt, gather, endOf}
 use Rattle.format.specs.Programs.{isVideo, lower, lowered, codingAt, aspectAt, languageAt, streamAt, nextStream, programAt, streamsOf, nextProgram, programsFrom, streamsFrom, programsEnd}
 use Rattle.format.specs.ClipRecord.{Row}
 use Rattle.format.specs.Tables.{rowBytes, tableBytes, rowRoom, overwritten, programCells, streamCells}
+use Rattle.format.proofs.Tests.{ap-pick}
 use Rattle.format.proofs.Loops.{end-ge}
+use Rattle.format.proofs.Places.{program-head, up-program}
 use Rattle.format.proofs.Rows.{rows-all, gather-all}
 use Rattle.format.proofs.Sweep.{either-way, Filling, filling-front}
 use Rattle.common.specs.Reader.{movedTo}
 use Rattle.common.specs.declared.reader.Reader.{Reader}
 use Rattle.common.specs.declared.reader.Moved.{Moved}
 use Rattle.common.specs.Reads.{ReadIs}
-use Rattle.common.proofs.Laws.{Got, joined}
+use Rattle.common.proofs.Laws.{Got, beyond, joined}
 use Rattle.program_info.specs.Programs.{measured, BodyByte}
 use Rattle.program_info.specs.declared.Measured.{Measured}
 
 -- ---- the place behind a stream and behind a program
 
--- a place within the file is reached, and one past its end is not
-pub reached : (f : List ℕ) {p q : ℕ} → p ≡ q → p ≤ length f → Moved.At (record { pos = p }) ≡ movedTo f q
-reached f {p} e h = rw (← e, le-leb p (length f) h)
-
-pub beyond : (f : List ℕ) (p : ℕ) → length f < p → Moved.PastEnd ≡ movedTo f p
-beyond f p h = rw (lt-leb p (length f) h)
-
 module _ (f : List ℕ) (p : ℕ) where
-  -- a stream is not behind the next one
-  pub up-stream : p ≤ nextStream f p
-  up-stream = omega arith
-
   -- the body's length was read, and a move by so many bytes leads behind the body
   pub stream-passed : {v : ℕ} {r : Reader} {m : Moved} → Got f (p + 2) 1 v r → m ≡ movedTo f (r .pos + v) → m ≡ movedTo f (nextStream f p)
   stream-passed {v} {r} g e =
@@ -49,14 +40,6 @@ module _ (f : List ℕ) (p : ℕ) where
   pub stream-cut : length f < p + 2 + 1 → Moved.PastEnd ≡ movedTo f (nextStream f p)
   stream-cut h = beyond f (nextStream f p) (omega arith)
 
-module _ (f : List ℕ) (p : ℕ) where
-  -- the eight bytes of a program stand before the next one, and so does the program
-  pub program-head : p + 8 ≤ nextProgram f p
-  program-head = end-ge (nextStream f) (up-stream f) (p + 8) (beAt f (p + 6) 1)
-
-  pub up-program : p ≤ nextProgram f p
-  up-program = omega (arith, program-head)
-
   -- the stream count was read, a spare byte passed, and the streams passed
   pub program-passed : {v : ℕ} {r first : Reader} {m : Moved} → Got f (p + 6) 1 v r → first .pos ≡ r .pos + 1
       → m ≡ movedTo f (endOf (nextStream f) (first .pos) v) → m ≡ movedTo f (nextProgram f p)
@@ -66,7 +49,7 @@ module _ (f : List ℕ) (p : ℕ) where
 
   -- the eight bytes of the program pass the end
   pub program-cut : length f < p + 8 → Moved.PastEnd ≡ movedTo f (nextProgram f p)
-  program-cut h = beyond f (nextProgram f p) (omega (arith, program-head))
+  program-cut h = beyond f (nextProgram f p) (omega (arith, program-head f p))
 
 -- ---- letters
 
@@ -91,11 +74,7 @@ module _ (f : List ℕ) (p size : ℕ) where
 
   -- the aspect of a video body
   pub aspect-is : {video : Bool} {r : ℕ} → video ≡ true → BodyByte f p size 2 r → r / 16 ≡ aspectAt video f p size
-  aspect-is is b = rw (is, b .same) (go (leb 3 size))
-    where
-      go : (t : Bool) → pick t (beAt f (p + 2) 1) 0 / 16 ≡ pick t (beAt f (p + 2) 1 / 16) 0
-      go true = refl
-      go false = refl
+  aspect-is is b = rw (is, b .same) (ap-pick (λ (v : ℕ). v / 16) (leb 3 size) (beAt f (p + 2) 1) 0)
 
   -- the language of a body that is not video, where it has three bytes for it, and where not
   pub language-is : {video : Bool} {a b r : ℕ} → video ≡ false → 5 ≤ size → ReadIs f (p + 2) 1 a → ReadIs f (p + 3) 2 b

@@ -8,34 +8,23 @@ use native.Mathlib.Nat.{le-trans}
 use native.Mathlib.Omega.{arith}
 use lib.ListN.{length}
 use lib.Dec.{leb, lit<}
-use borrow.Author.Tests.{lt-leb}
 use Rattle.format.specs.Bytes.{beAt, rowsAt, gather}
 use Rattle.format.specs.ClipRecord.{atcAt, stcAt, nextStc, stcsOf, nextAtc, atcsFrom, stcsFrom, sequencesEnd}
 use Rattle.format.specs.Tables.{tableBytes, rowRoom, overwritten, atcCells, stcCells}
 use Rattle.format.proofs.Loops.{end-ge}
+use Rattle.format.proofs.Places.{atc-head, up-atc}
 use Rattle.format.proofs.Rows.{rows-all, gather-all}
 use Rattle.format.proofs.Sweep.{end-steps, either-way, Filling, filling-front}
 use Rattle.common.specs.Reader.{movedTo}
 use Rattle.common.specs.declared.reader.Reader.{Reader}
 use Rattle.common.specs.declared.reader.Moved.{Moved}
-use Rattle.common.proofs.Laws.{Got}
+use Rattle.common.proofs.Laws.{Got, beyond}
 use Rattle.sequence_info.specs.Sequences.{measured}
 use Rattle.sequence_info.specs.declared.Measured.{Measured}
 
 -- ---- the place behind an ATC
 
--- an STC is not behind the next one
-pub up-stc : (p : ℕ) → p ≤ nextStc p
-up-stc p = omega arith
-
 module _ (f : List ℕ) (p : ℕ) where
-  -- the six bytes of an ATC stand before the next one, and so does the ATC
-  pub atc-head : p + 6 ≤ nextAtc f p
-  atc-head = end-ge nextStc up-stc (p + 6) (beAt f (p + 4) 1)
-
-  pub up-atc : p ≤ nextAtc f p
-  up-atc = omega (arith, atc-head)
-
   -- each STC takes 14 bytes
   next-atc : nextAtc f p ≡ p + 6 + 14 * beAt f (p + 4) 1
   next-atc = end-steps 14 (p + 6) (beAt f (p + 4) 1)
@@ -48,7 +37,7 @@ module _ (f : List ℕ) (p : ℕ) where
 
   -- the STC count passes the end
   pub atc-cut : length f < p + 4 + 1 → Moved.PastEnd ≡ movedTo f (nextAtc f p)
-  atc-cut h = rw (lt-leb (nextAtc f p) (length f) (omega (arith, atc-head)))
+  atc-cut h = beyond f (nextAtc f p) (omega (arith, atc-head f p))
 
 -- ---- the section
 

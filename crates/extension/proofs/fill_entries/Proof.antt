@@ -41,10 +41,10 @@ loop-again : tie.Need-loop-again Inv-loop μ-loop
 loop-again c =
     let a = c .before .before .before .before .before .before .before .before .before .args in
     let put = c .before .before .put-entry in
-    one-stored (now (a .file)) (a .start) (a .n) (c .before .before .before .before .entry-at .result) (c .before .before .before .before .before .loop-test .taken) (c .before .before .before .before .entry-at .ensures) (c .before .before .before .before .before .before .loop .inv) (put .ensures) (put .kept .1 .0)
+    one-stored (now (a .file)) (a .start) (a .n) (c .before .before .before .before .entry-at .result) (c .before .before .before .before .before .loop-test .taken) (c .before .before .before .before .entry-at .ensures) (c .before .before .before .before .before .before .loop .inv) (put .ensures)
 
 same-length : tie.Need-same-length Inv-loop μ-loop
-same-length c = search needs
+same-length c = c .before .loop .inv .fills .long
 
 returns : tie.Need-returns Inv-loop μ-loop
 returns c =

@@ -9,7 +9,8 @@ use Rattle.format.specs.Bytes.{beAt, rowsAt, gather, endOf}
 use Rattle.format.specs.Programs.{streamAt, nextStream, programAt, streamsOf, nextProgram, programsFrom, streamsFrom, programsEnd}
 use Rattle.format.specs.Tables.{tableBytes, overwritten}
 use Rattle.format.proofs.Sweep.{Along, along-first, along-turn, along-within, Filling, rows-bytes, row-room, row-put, group-room, group-put, filled}
-use Rattle.program_info.proofs.Laws.{up-program, program-head, ends-within, programs-filling, streams-filling}
+use Rattle.format.proofs.Places.{program-head, up-program}
+use Rattle.program_info.proofs.Laws.{ends-within, programs-filling, streams-filling}
 use borrow.Author.Needs.{needs}
 use Rattle.program_info.proofs.fill.Statement.{statement}
 use Rattle.program_info.proofs.fill.Tie as tie

@@ -12,7 +12,7 @@ use Rattle.format.proofs.Sweep.{Along, along-first, along-turn, Counted, counte
 use Rattle.common.proofs.Laws.{Got, got, not-got, went, stayed}
 use Rattle.program_info.specs.Programs.{measured}
 use Rattle.program_info.specs.declared.Measured.{Measured}
-use Rattle.program_info.proofs.Laws.{up-program, program-head}
+use Rattle.format.proofs.Places.{program-head, up-program}
 use borrow.Author.Needs.{needs}
 use Rattle.program_info.proofs.measure.Statement.{statement}
 use Rattle.program_info.proofs.measure.Tie as tie

@@ -11,7 +11,7 @@ use Rattle.format.specs.Programs.{streamAt, nextStream}
 use Rattle.format.specs.Tables.{tableBytes}
 use Rattle.format.proofs.Loops.{end-ge}
 use Rattle.format.proofs.Sweep.{Along, along-first, along-turn, along-done, along-within, Filling, filling-rows, row-room, row-put, filled}
-use Rattle.program_info.proofs.Laws.{up-stream}
+use Rattle.format.proofs.Places.{up-stream}
 use borrow.Author.Needs.{needs}
 use Rattle.program_info.proofs.put_streams.Statement.{statement}
 use Rattle.program_info.proofs.put_streams.Tie as tie

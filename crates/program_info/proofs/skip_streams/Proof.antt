@@ -8,7 +8,8 @@ use Rattle.format.specs.Bytes.{endOf}
 use Rattle.format.specs.Programs.{nextStream}
 use Rattle.format.proofs.Sweep.{Along, along-first, along-turn, along-past, along-done}
 use Rattle.common.proofs.Laws.{went, stayed}
-use Rattle.program_info.proofs.Laws.{up-stream, reached, beyond}
+use Rattle.format.proofs.Places.{up-stream}
+use Rattle.common.proofs.Laws.{reached, beyond}
 use borrow.Author.Needs.{needs}
 use Rattle.program_info.proofs.skip_streams.Statement.{statement}
 use Rattle.program_info.proofs.skip_streams.Tie as tie

@@ -10,7 +10,8 @@ use Rattle.format.specs.Bytes.{beAt, rowsAt, gather, endOf}
 use Rattle.format.specs.ClipRecord.{atcAt, stcAt, nextStc, stcsOf, nextAtc, atcsFrom, stcsFrom, sequencesEnd}
 use Rattle.format.specs.Tables.{tableBytes, overwritten}
 use Rattle.format.proofs.Sweep.{Along, along-first, along-turn, along-within, Filling, rows-bytes, row-room, row-put, group-room, group-put, filled}
-use Rattle.sequence_info.proofs.Laws.{up-atc, atc-head, ends-within, atcs-filling, stcs-filling}
+use Rattle.format.proofs.Places.{atc-head, up-atc}
+use Rattle.sequence_info.proofs.Laws.{ends-within, atcs-filling, stcs-filling}
 use Rattle.sequence_info.proofs.fill.Statement.{statement}
 use Rattle.sequence_info.proofs.fill.Tie as tie
 

@@ -13,7 +13,7 @@ use Rattle.format.proofs.Sweep.{Along, along-first, along-turn, Counted, counte
 use Rattle.common.proofs.Laws.{Got, got, not-got, went, stayed}
 use Rattle.sequence_info.specs.Sequences.{measured}
 use Rattle.sequence_info.specs.declared.Measured.{Measured}
-use Rattle.sequence_info.proofs.Laws.{up-atc, atc-head}
+use Rattle.format.proofs.Places.{atc-head, up-atc}
 use Rattle.sequence_info.proofs.measure.Statement.{statement}
 use Rattle.sequence_info.proofs.measure.Tie as tie
 

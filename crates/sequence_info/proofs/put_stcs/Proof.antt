@@ -11,7 +11,7 @@ use Rattle.format.specs.ClipRecord.{stcAt, nextStc}
 use Rattle.format.specs.Tables.{tableBytes}
 use Rattle.format.proofs.Loops.{end-ge}
 use Rattle.format.proofs.Sweep.{Along, along-first, along-turn, along-done, along-within, Filling, filling-rows, row-room, row-put, filled}
-use Rattle.sequence_info.proofs.Laws.{up-stc}
+use Rattle.format.proofs.Places.{up-stc}
 use Rattle.sequence_info.proofs.put_stcs.Statement.{statement}
 use Rattle.sequence_info.proofs.put_stcs.Tie as tie
 
