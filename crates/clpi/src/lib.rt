@@ -1,3 +1,3 @@
 // The C interface: exported calls on numbers and byte slices, declared in include/clpi.h.
-mod extension_data;
-mod read;
+pub mod extension_data;
+pub mod read;
