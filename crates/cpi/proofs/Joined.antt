@@ -1,7 +1,7 @@
 -- The loop that joins coarse and fine rows: a turn, and the end.
-use Prim.Native.Nat.{ℕ, suc, _+_, _*_, _-_, _^_, _<_, _≤_}
-use mathlib.Core.Path.{_≡_, ap, _∙_}
-use mathlib.Core.List.{List, [], _∷_}
+use Prim.Native.Nat.{ℕ, zero, suc, _+_, _*_, _-_, _^_, _<_, _≤_, min}
+use mathlib.Core.Path.{_≡_, refl, sym, ap, ap₂, _∙_}
+use mathlib.Core.List.{List, [], _∷_, _++_, append-assoc}
 use native.Mathlib.Omega.{arith}
 use lib.Seq.{sets}
 use Rattle.format.specs.Bytes.{beAt, unpacked, rowsAt}
@@ -9,11 +9,12 @@ use Rattle.format.specs.ClipRecord.{Row}
 use Rattle.format.specs.EntryPoints.{fineWidths, fineAt, nextFine, joinTime, joinPacket, coarseFor, entryOf, entriesFor}
 use Rattle.format.specs.Tables.{rowBytes, tableBytes}
 use Rattle.format.proofs.Loops.{one-left, none-left, put-more}
-use Rattle.format.proofs.Sweep.{row-bytes}
+use Rattle.format.proofs.Sweep.{row-bytes, rows-bytes}
 use Rattle.bits.specs.Rows.{fineOf}
 use Rattle.bits.specs.declared.FineRow.{FineRow}
-use Rattle.cpi.specs.Entries.{entryBy}
-use Rattle.cpi.specs.Walks.{Reaches}
+use Rattle.cpi.specs.Entries.{entryBy, runBytes}
+use Rattle.cpi.specs.Walks.{IsWalk}
+use Rattle.cpi.proofs.Walks.{walk-stop, walk-later}
 use Rattle.cpi.specs.declared.walk.Walk.{Walk}
 
 -- the bytes of the entries that are left, from fine row k on
@@ -28,26 +29,63 @@ all-left f type coarse fine n =
     let m : n - 0 ≡ n = omega arith in
     rw (p, m)
 
-module _ (f : List ℕ) (type : ℕ) (coarse : List Row) (fine n k : ℕ) where
-  -- a turn stores the entry of fine row k under the coarse row that it uses
-  pub entries-turn : (t : List ℕ) (at x : ℕ) (w : Walk) {t′ whole : List ℕ} → k < n → x ≡ beAt f (fine + 4 * k) 4 → Reaches f coarse k w
-      → t′ ≡ sets t (at + 20 * k) (rowBytes (entryBy type (w .time) (w .packet) (unpacked fineWidths x)))
-      → sets t (at + 20 * k) (leftFrom f type coarse fine n k) ≡ whole → sets t′ (at + 20 * (k + 1)) (leftFrom f type coarse fine n (k + 1)) ≡ whole
-  entries-turn t at x w h e r p i =
+-- the entries that are left, where the walk is right and its next row is not reached before `end`: a run under its coarse row, and those behind it
+module _ (f : List ℕ) (type : ℕ) (coarse : List Row) (fine n : ℕ) (w : Walk) where
+  abbrev row : ℕ → Row
+  row q = entryBy type (w .time) (w .packet) (fineAt f q)
+
+  run-left : (d k : ℕ) → k + d ≤ n → k + d ≤ w .next → IsWalk f coarse k w
+      → leftFrom f type coarse fine n k ≡ tableBytes (rowsAt row nextFine (fine + 4 * k) d) ++ leftFrom f type coarse fine n (k + d)
+  run-left zero k h g i = let e : k + 0 ≡ k = omega arith in rw e
+  run-left (suc d) k h g i =
       let q = fine + 4 * k in
-      let row = entryOf type (coarseFor coarse k) (fineAt f q) in
-      let rest = tableBytes (entriesFor type coarse (suc k) (rowsAt (fineAt f) nextFine (q + 4) (n - (k + 1)))) in
-      let here : entryBy type (w .time) (w .packet) (unpacked fineWidths x) ≡ row = rw (e, r .time-of, r .packet-of) in
-      let p′ = p ∙ ap (λ (r : Row). sets t (at + 20 * k) (rowBytes r)) here in
-      let i′ = rw (one-left n k h) at i in
-      let done = put-more t (at + 20 * k) 20 (rowBytes row) rest (row-bytes row) p′ i′ in
+      let at = walk-stop f coarse k w i (omega arith) in
+      let here : entryOf type (coarseFor coarse k) (fineAt f q) ≡ row q = rw (at .0, at .1) in
+      let a : k + 1 ≡ suc k = omega arith in
+      let first : leftFrom f type coarse fine n k ≡ rowBytes (entryOf type (coarseFor coarse k) (fineAt f q)) ++ tableBytes (entriesFor type coarse (k + 1) (rowsAt (fineAt f) nextFine (q + 4) (n - (k + 1)))) = rw (one-left n k (omega arith), a) in
+      let b : fine + 4 * (k + 1) ≡ q + 4 = omega arith in
+      let e : k + 1 + d ≡ k + suc d = omega arith in
+      let later = rw (b, e) at (run-left d (k + 1) (omega arith) (omega arith) (walk-later f coarse k (k + 1) w (omega arith) i)) in
+      first ∙ ap₂ (λ (x y : List ℕ). x ++ y) (ap (λ (r : Row). rowBytes r) here) later
+      ∙ sym (append-assoc (rowBytes (row q)) (tableBytes (rowsAt row nextFine (q + 4) d)) (leftFrom f type coarse fine n (k + suc d)))
+
+  -- a turn stores a run; what is left goes behind it
+  pub run-put : (k end : ℕ) (t : List ℕ) (at : ℕ) {t′ whole : List ℕ} → k ≤ end → end ≡ min (w .next) n → IsWalk f coarse k w
+      → t′ ≡ sets t (at + 20 * k) (runBytes f type (w .time) (w .packet) fine k end)
+      → sets t (at + 20 * k) (leftFrom f type coarse fine n k) ≡ whole → sets t′ (at + 20 * end) (leftFrom f type coarse fine n end) ≡ whole
+  run-put k end t at h e i p whole =
+      let back : k + (end - k) ≡ end = omega arith in
+      let split = rw back at (run-left (end - k) k (omega arith) (omega arith) i) in
+      let place : at + 20 * k + 20 * (end - k) ≡ at + 20 * end = omega arith in
+      let size = rows-bytes 5 row nextFine (λ q. refl) (fine + 4 * k) (end - k) in
+      rw place at (put-more t (at + 20 * k) (20 * (end - k)) (runBytes f type (w .time) (w .packet) fine k end) (leftFrom f type coarse fine n end) size p (rw split at whole))
+
+-- with no row left all is stored
+pub entries-done : (f : List ℕ) (type : ℕ) (coarse : List Row) (fine n k : ℕ) (t : List ℕ) (at : ℕ) {whole : List ℕ} → n ≤ k
+    → sets t at (leftFrom f type coarse fine n k) ≡ whole → t ≡ whole
+entries-done f type coarse fine n k t at h i = rw (none-left n k h) at i
+
+-- ---- one run
+
+module _ (f : List ℕ) (type time packet fine end k : ℕ) where
+  -- a turn stores the entry of fine row k
+  pub run-turn : (t : List ℕ) (at x : ℕ) {t′ whole : List ℕ} → k < end → x ≡ beAt f (fine + 4 * k) 4
+      → t′ ≡ sets t (at + 20 * k) (rowBytes (entryBy type time packet (unpacked fineWidths x)))
+      → sets t (at + 20 * k) (runBytes f type time packet fine k end) ≡ whole → sets t′ (at + 20 * (k + 1)) (runBytes f type time packet fine (k + 1) end) ≡ whole
+  run-turn t at x h e p i =
+      let q = fine + 4 * k in
+      let one = entryBy type time packet (fineAt f q) in
+      let rest = tableBytes (rowsAt (λ q. entryBy type time packet (fineAt f q)) nextFine (q + 4) (end - (k + 1))) in
+      let p′ = rw e at p in
+      let i′ = rw (one-left end k h) at i in
+      let done = put-more t (at + 20 * k) 20 (rowBytes one) rest (row-bytes one) p′ i′ in
       let a : at + 20 * (k + 1) ≡ at + 20 * k + 20 = omega arith in
       let b : fine + 4 * (k + 1) ≡ fine + 4 * k + 4 = omega arith in
-      let d : k + 1 ≡ suc k = omega arith in
-      rw (a, b, d) (rw d at done)
+      rw (a, b) done
 
-  pub entries-done : (t : List ℕ) (at : ℕ) {whole : List ℕ} → n ≤ k → sets t at (leftFrom f type coarse fine n k) ≡ whole → t ≡ whole
-  entries-done t at h i = rw (none-left n k h) at i
+  -- with no row left the run is stored
+  pub run-done : (t : List ℕ) (at : ℕ) {whole : List ℕ} → end ≤ k → sets t at (runBytes f type time packet fine k end) ≡ whole → t ≡ whole
+  run-done t at h i = rw (none-left end k h) at i
 
 -- ---- one entry
 

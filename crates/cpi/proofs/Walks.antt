@@ -12,7 +12,7 @@ use Rattle.format.specs.ClipRecord.{Row}
 use Rattle.format.specs.EntryPoints.{coarseWidths, coarseAt, nextCoarse, firstFine, coarseTime, coarsePacket, stepOn, coarseFor}
 use Rattle.bits.specs.Rows.{coarseOf}
 use Rattle.bits.specs.declared.CoarseRow.{CoarseRow}
-use Rattle.cpi.specs.Walks.{nextFirst, walkAt, Steps, IsWalk, Reaches, Reached}
+use Rattle.cpi.specs.Walks.{nextFirst, walkAt, Steps, IsWalk, Reached}
 use Rattle.cpi.specs.declared.walk.Walk.{Walk}
 
 -- with rows left, the next one's first fine row; with none, the number that is never reached
@@ -65,11 +65,11 @@ module _ (f : List ℕ) (coarse : List Row) where
           → stepOn c (rowsAt (coarseAt f) nextCoarse p (suc n)) m ≡ stepOn (coarseAt f p) (rowsAt (coarseAt f) nextCoarse (p + 8) n) m
       stepped c p n m h = rw (stepOn, le-leb (firstFine (coarseAt f p)) m h)
 
-  -- a walk whose next row is not reached is at its row
-  pub walk-stop : (k : ℕ) (w : Walk) → IsWalk f coarse k w → k < w .next → Reaches f coarse k w
+  -- a walk whose next row is not reached is at the row that fine row k uses
+  pub walk-stop : (k : ℕ) (w : Walk) → IsWalk f coarse k w → k < w .next → (w .time ≡ coarseTime (coarseFor coarse k)) × (w .packet ≡ coarsePacket (coarseFor coarse k))
   walk-stop k w i h =
       let e : coarseFor coarse k ≡ i .row = i .reaches k (omega arith) ∙ stays (i .row) (w .behind) (w .left) (rw (i .steps .next-is) at h) in
-      record { walk = i; time-of = i .same-time ∙ ap coarseTime (sym e); packet-of = i .same-packet ∙ ap coarsePacket (sym e) }
+      (i .same-time ∙ ap coarseTime (sym e), i .same-packet ∙ ap coarsePacket (sym e))
     where
       stays : (c : Row) (p n : ℕ) → k < nextFirst f p n → stepOn c (rowsAt (coarseAt f) nextCoarse p n) k ≡ c
       stays c p zero h = refl
@@ -77,9 +77,9 @@ module _ (f : List ℕ) (coarse : List Row) where
           let ne : suc n ≡ 0 → ⊥ = λ q. omega arith in
           rw (stepOn, lt-leb (firstFine (coarseAt f p)) k (omega (arith, next-some f p (suc n) ne)))
 
-  -- right for row k, right for the row behind it
-  pub walk-later : (k : ℕ) (w : Walk) → IsWalk f coarse k w → IsWalk f coarse (k + 1) w
-  walk-later k w i = record {
+  -- right for row k, right for those behind it
+  pub walk-later : (k end : ℕ) (w : Walk) → k ≤ end → IsWalk f coarse k w → IsWalk f coarse end w
+  walk-later k end w h i = record {
     row = i .row;
     same-time = i .same-time;
     same-packet = i .same-packet;
@@ -144,4 +144,4 @@ unfolding walkAt
 walking-less f k w s h b e = let on = steps-on f k w s h b in rw e (omega arith)
 
 pub walking-done : (f : List ℕ) (k : ℕ) (from w : Walk) → Walking f k from w → k < w .next → Reached f k from w
-walking-done f k from w g h = record { reached = λ coarse i. walk-stop f coarse k w (g .still coarse i) h }
+walking-done f k from w g h = record { reached = g .still; beyond = h }

@@ -1,5 +1,5 @@
 -- The walk over coarse rows.
-use Prim.Native.Nat.{ℕ, _+_, _*_, _-_, _≤_}
+use Prim.Native.Nat.{ℕ, _+_, _*_, _-_, _≤_, _<_}
 use mathlib.Core.Path.{_≡_}
 use mathlib.Core.List.{List}
 use lib.ListN.{length}
@@ -36,12 +36,7 @@ pub record IsWalk (f : List ℕ) (coarse : List Row) (k : ℕ) (w : Walk) : Type
   pub steps : Steps f w
   pub reaches : (m : ℕ) → k ≤ m → coarseFor coarse m ≡ stepOn row (rowsAt (coarseAt f) nextCoarse (w .behind) (w .left)) m
 
--- its row is the one that fine row k uses
-pub record Reaches (f : List ℕ) (coarse : List Row) (k : ℕ) (w : Walk) : Type 0 where
-  pub walk : IsWalk f coarse k w
-  pub time-of : w .time ≡ coarseTime (coarseFor coarse k)
-  pub packet-of : w .packet ≡ coarsePacket (coarseFor coarse k)
-
--- a walk that was right for fine row k, over whatever coarse rows, now stands at the row that it uses
+-- a walk that was right for fine row k, over whatever coarse rows, is right for it, and the next row is not reached yet
 pub record Reached (f : List ℕ) (k : ℕ) (from to : Walk) : Type 0 where
-  pub reached : (coarse : List Row) → IsWalk f coarse k from → Reaches f coarse k to
+  pub reached : (coarse : List Row) → IsWalk f coarse k from → IsWalk f coarse k to
+  pub beyond : k < to .next

@@ -1,4 +1,4 @@
--- Each turn reaches the coarse row of fine row k and stores the entry; what is left goes behind it.
+-- Each turn reaches the coarse row of fine row k and stores the entries that use it; what is left goes behind them.
 use borrow.Author.Needs.{needs}
 use Prim.Native.Nat.{_+_, _*_, _-_, _≤_}
 use mathlib.Core.Path.{_≡_, refl, _∙_}
@@ -11,7 +11,7 @@ use Rattle.format.specs.EntryPoints.{coarseAt, fineAt, nextCoarse, nextFine, en
 use Rattle.format.specs.Tables.{tableBytes}
 use Rattle.cpi.specs.Walks.{IsWalk}
 use Rattle.cpi.proofs.Walks.{walk-later}
-use Rattle.cpi.proofs.Joined.{leftFrom, all-left, entries-turn, entries-done}
+use Rattle.cpi.proofs.Joined.{leftFrom, all-left, run-put, entries-done}
 use Rattle.cpi.proofs.entries.put_entries.Statement.{statement}
 use Rattle.cpi.proofs.entries.put_entries.Tie as tie
 
@@ -42,29 +42,22 @@ cast-reach c = search needs
 reach-requires : tie.Need-reach-requires Inv-loop μ-loop
 reach-requires c κs = search needs
 
-mul-u32-at : tie.Need-mul-u32-at Inv-loop μ-loop
-mul-u32-at c = search needs
+run-end-requires : tie.Need-run-end-requires Inv-loop μ-loop
+run-end-requires c κs = search needs
 
-add-u32-at : tie.Need-add-u32-at Inv-loop μ-loop
-add-u32-at c = search needs
-
-u32-at-requires : tie.Need-u32-at-requires Inv-loop μ-loop
-u32-at-requires c κs = search needs
-
-mul-put-entry : tie.Need-mul-put-entry Inv-loop μ-loop
-mul-put-entry c = search needs
-
-add-put-entry : tie.Need-add-put-entry Inv-loop μ-loop
-add-put-entry c = search needs
-
-put-entry-requires : tie.Need-put-entry-requires Inv-loop μ-loop
-put-entry-requires c κs = search needs
-
-add-k : tie.Need-add-k Inv-loop μ-loop
-add-k c = search needs
+put-run-requires : tie.Need-put-run-requires Inv-loop μ-loop
+put-run-requires c κs =
+    let s = c .before .before .before .before .before .before .before .before in
+    let l = c .before .before .before .before .loop in
+    let end = c .before .run-end .ensures in
+    record {
+      turns = omega (arith, end, c .before .before .reach .ensures .beyond);
+      fine-in = omega (arith, end, s .pre .fine-in);
+      fits = omega (arith, end, s .pre .fits, l .inv .2);
+    }
 
 loop-less : tie.Need-loop-less Inv-loop μ-loop
-loop-less c = search needs
+loop-less c = omega (arith, c .before .before .before .before .run-end .ensures, c .before .before .before .before .before .reach .ensures .beyond)
 
 loop-again : tie.Need-loop-again Inv-loop μ-loop
 loop-again c =
@@ -73,13 +66,14 @@ loop-again c =
     let cs = rowsAt (coarseAt f) nextCoarse (a .coarse) (a .num-coarse) in
     let l = c .before .before .before .before .before .before .before .loop in
     let w = c .before .before .before .before .before .reach in
-    let put = c .before .before .put-entry in
-    let r = w .ensures .reached cs (l .inv .1) in (
-      omega arith,
-      walk-later f cs (l .k) (w .result) (r .walk),
-      put .kept .1 .1 .1 .0 ∙ l .inv .2,
-      entries-turn f (a .kind) cs (a .fine) (a .num-fine) (l .k) (l .table) (a .at) (c .before .before .before .before .u32-at .result) (w .result) (omega arith)
-          (c .before .before .before .before .u32-at .ensures .same) r (put .ensures) (l .inv .3),
+    let end = c .before .before .before .before .run-end in
+    let put = c .before .before .put-run in
+    let walk = w .ensures .reached cs (l .inv .1) in
+    let on : l .k ≤ end .result = omega (arith, end .ensures, w .ensures .beyond) in (
+      omega (arith, end .ensures),
+      walk-later f cs (l .k) (end .result) (w .result) on walk,
+      put .kept .1 .1 .1 .1 .1 .1 .0 ∙ l .inv .2,
+      run-put f (a .kind) cs (a .fine) (a .num-fine) (w .result) (l .k) (end .result) (l .table) (a .at) on (end .ensures) walk (put .ensures) (l .inv .3),
     )
 
 same-length : tie.Need-same-length Inv-loop μ-loop
@@ -102,13 +96,8 @@ put-entries-spec =
     loop-holds
     cast-reach
     reach-requires
-    mul-u32-at
-    add-u32-at
-    u32-at-requires
-    mul-put-entry
-    add-put-entry
-    put-entry-requires
-    add-k
+    run-end-requires
+    put-run-requires
     loop-less
     loop-again
     same-length
