@@ -46,6 +46,11 @@ impl Comparison {
         }
     }
 
+    /// The record of the last file that was accepted.
+    pub fn record(&self) -> &Record {
+        &self.expected
+    }
+
     /// Compares a reader on one file; the refusal's number, or 0, where there is no difference.
     pub fn compare(&mut self, file: &[u8], seed: u64, reader: &mut impl Reader) -> Result<u32, Difference> {
         self.random = Random::new(!seed);

@@ -3,6 +3,7 @@
 mod clips;
 mod extensions;
 mod faults;
+mod greatest;
 mod layouts;
 mod maps;
 mod parts;
