@@ -41,7 +41,7 @@ pub fn flipped(m: &mut Maker) {
             0 => m.any(1),
             1 => 0,
             2 => old + 1,
-            3 => old.wrapping_sub(1),
+            3 => old + 255,
             _ => old ^ 1 << m.random.below(8),
         };
         m.set(at, 1, new);
@@ -53,6 +53,11 @@ pub fn letters(m: &mut Maker) {
     m.front();
     let letters = m.random.pick(&[*b"HDMV", *b"CLPI", *b"MPLS", *b"hdmv", *b"HDMW", *b"CLPV", *b"HDPI", [0; 4]]);
     m.set(0, 4, u32::from_be_bytes(letters).into());
+    if m.random.one_in(2) {
+        // no sequences and no programs, which are read from the header, and a short ClipInfo
+        m.set(5, 1, 0);
+        m.set(40, 4, 140);
+    }
     let length = match m.random.below(4) {
         0 => m.random.below(10),
         1 => m.random.between(36, 44),
@@ -77,15 +82,16 @@ pub fn several(m: &mut Maker) {
 /// One fault of those that a refusal tells.
 fn one_fault(m: &mut Maker) {
     let past = m.at() as u64 + m.random.below(3);
+    let past_cpi = past.saturating_sub(m.cpi as u64 + 3);
     let map = m.maps[m.random.below(2) as usize];
     match m.random.below(11) {
         0 => m.set(SEQUENCES, 4, past),
         1 => m.set(PROGRAMS, 4, past),
-        2 => m.set(m.cpi, 4, past - m.cpi as u64 - 3),
+        2 => m.set(m.cpi, 4, past_cpi),
         3 => m.set(map.header + 8, 4, past),
         4 => m.set(m.cpi + 7, 1, 255),
         5 => m.set(map.header + 5, 3, 0x03_FFFF),
-        6 => m.set(MARKS, 4, past - 5),
+        6 => m.set(MARKS, 4, past.saturating_sub(5)),
         7 => m.set(40, 4, past),
         8 => m.set(map.body, 4, past),
         9 => m.set(m.cpi + 4, 2, 2),

@@ -84,7 +84,7 @@ pub fn small_starts(m: &mut Maker) {
         let start = m.random.pick(&STARTS);
         let place = match m.random.below(3) {
             0 => m.at() as u64 - 8 + m.random.below(12),
-            1 => m.get(start, 4) + m.random.below(9) - 4,
+            1 => (m.get(start, 4) + m.random.below(9)).saturating_sub(4),
             _ => m.random.below(m.file.len() as u64 + 8),
         };
         m.set(start, 4, place);
@@ -99,20 +99,8 @@ pub fn info_length(m: &mut Maker) {
     }
     let to_end = m.at() as u64 - 44;
     let about_end = to_end - 2 + m.random.below(5);
-    let length = m.random.pick(&[
-        about_end,
-        about_end,
-        to_end,
-        to_end + 1,
-        to_end + 5,
-        0,
-        1,
-        149,
-        150,
-        151,
-        0xFFFF_FFFF,
-        0xFFFF_FFD4,
-    ]);
+    let other = m.random.pick(&[0, 1, 149, 150, 151, to_end + 5, 0xFFFF_FFFF, 0xFFFF_FFD4]);
+    let length = m.random.pick(&[about_end, other]);
     m.set(40, 4, length);
 }
 

@@ -108,12 +108,12 @@ pub fn fine_at_end(m: &mut Maker) {
     let to_end = (m.cpi_end() - own.body) as u64;
     let address = m.random.pick(&[to_end, to_end, to_end - 1, to_end + 1]);
     m.set(own.body, 4, address);
-    let rows = 4 * own.fine + address - to_end;
+    let rows = (4 * own.fine + address).saturating_sub(to_end);
     let tail = match m.random.below(3) {
-        0 => rows + m.random.below(3) - 1,
+        0 => (rows + m.random.below(3)).saturating_sub(1),
         _ => rows + m.random.below(9),
     };
-    m.noise(tail.min(64) as usize);
+    m.noise(tail as usize);
 }
 
 /// A CPI end before the rows' end, with the file going on or not.
