@@ -1,0 +1,92 @@
+//! What the Rust's record is as nine tables of cells.
+
+use crate::record::{ATCS, ENTRIES, EXTENSIONS, MAPS, Record, STCS, Scalars};
+use oracle::bdmv::clpi::{ClipInformation, Cpi, ProgramInfo, SequenceInfo};
+use oracle::bdmv::extension::ExtensionDataEntry;
+
+/// Puts the Rust's record into `out`. The starts of table 7 are 0: the Rust keeps the data, not its place.
+pub fn record_of(clip: &ClipInformation, out: &mut Record) {
+    out.clear();
+    out.scalars = scalars_of(clip);
+    sequences(&clip.sequence_info, out);
+    let [_, _, program_rows, stream_rows, ..] = &mut out.tables;
+    programs(&clip.program_info, program_rows, stream_rows);
+    maps(&clip.cpi, out);
+    extensions(&clip.extension.entries, out);
+    if let Some(list) = &clip.extension.program_info_ss {
+        let [.., program_rows, stream_rows] = &mut out.tables;
+        programs(list, program_rows, stream_rows);
+    }
+}
+
+/// The numbers beside the tables.
+fn scalars_of(clip: &ClipInformation) -> Scalars {
+    let info = &clip.clip_info;
+    Scalars {
+        version: u32::from_be_bytes(clip.version),
+        clip_stream_type: info.clip_stream_type.into(),
+        application_type: info.application_type.into(),
+        ts_recording_rate: info.ts_recording_rate,
+        number_of_source_packets: info.number_of_source_packets,
+        validity_flags: info.ts_type_info_block.validity_flags.into(),
+        format_id: u32::from_be_bytes(info.ts_type_info_block.format_id),
+        marks: clip.clip_mark.num_marks.into(),
+        has_list: clip.extension.program_info_ss.is_some(),
+    }
+}
+
+/// Tables 1 and 2.
+fn sequences(info: &SequenceInfo, out: &mut Record) {
+    for atc in &info.atc_sequences {
+        out.tables[ATCS].extend([atc.spn_atc_start, atc.stc_sequences.len() as u32, atc.offset_stc_id.into()]);
+        for stc in &atc.stc_sequences {
+            let times = [stc.presentation_start_time, stc.presentation_end_time];
+            out.tables[STCS].extend([stc.pcr_pid.into(), stc.spn_stc_start, times[0], times[1]]);
+        }
+    }
+}
+
+/// Tables 3 and 4, or 8 and 9.
+fn programs(info: &ProgramInfo, program_rows: &mut Vec<u32>, stream_rows: &mut Vec<u32>) {
+    for program in &info.programs {
+        let streams = program.streams.len() as u32;
+        program_rows.extend([program.spn_program_sequence_start, program.program_map_pid.into(), streams]);
+        for stream in &program.streams {
+            stream_rows.extend([
+                stream.pid.into(),
+                stream.stream_coding_type.into(),
+                stream.format_info_byte.into(),
+                stream.aspect_ratio_nibble.into(),
+                language(stream.language_code),
+            ]);
+        }
+    }
+}
+
+/// A language as one number: A to Z lowered byte by byte, the first byte highest; three zero bytes are 0.
+fn language(code: [u8; 3]) -> u32 {
+    code.iter().fold(0, |number, byte| number << 8 | u32::from(byte.to_ascii_lowercase()))
+}
+
+/// Tables 5 and 6.
+fn maps(cpi: &Cpi, out: &mut Record) {
+    for map in &cpi.ep_map {
+        out.tables[MAPS].extend([map.stream_pid.into(), map.ep_stream_type.into(), map.entries.len() as u32]);
+        for entry in &map.entries {
+            out.tables[ENTRIES].extend([
+                entry.is_angle_change_point.into(),
+                entry.i_end_position_offset.into(),
+                entry.pts_ep_start,
+                entry.spn_ep_start,
+                entry.ep_stream_type.into(),
+            ]);
+        }
+    }
+}
+
+/// Table 7, but for the starts.
+fn extensions(entries: &[ExtensionDataEntry], out: &mut Record) {
+    for entry in entries {
+        out.tables[EXTENSIONS].extend([entry.id1.into(), entry.id2.into(), 0, entry.data.len() as u32]);
+    }
+}

@@ -1,0 +1,40 @@
+//! Compares libclpi.a with the Rust it is a port of, on files made by seed. See README.md.
+
+mod compare;
+mod expected;
+mod guarded;
+mod large;
+mod make;
+mod model;
+mod mutants;
+mod mutation;
+mod ours;
+mod random;
+mod record;
+mod run;
+mod tables;
+mod wrong;
+
+use std::process::ExitCode;
+
+const USAGE: &str = "usage: compare compare FIRST COUNT   the files of COUNT seeds from FIRST on
+       compare mutants COUNT         each wrong reader must be caught by one of the first COUNT files
+       compare large                 the longest file and the longest tables (needs 8 GB)
+       compare show SEED             one file's bytes and what each reader says of it";
+
+/// Runs the command of the arguments; the exit status tells whether there was no difference.
+fn main() -> ExitCode {
+    let words: Vec<String> = std::env::args().skip(1).collect();
+    let number = |k: usize| words.get(k).and_then(|word| word.parse::<u64>().ok());
+    let alike = match (words.first().map(String::as_str), words.len(), number(1), number(2)) {
+        (Some("compare"), 3, Some(first), Some(count)) => run::compare(first, count),
+        (Some("mutants"), 2, Some(count), None) => mutants::mutants(count),
+        (Some("large"), 1, None, None) => large::large(),
+        (Some("show"), 2, Some(seed), None) => run::show(seed),
+        _ => {
+            eprintln!("{USAGE}");
+            return ExitCode::from(2);
+        }
+    };
+    if alike { ExitCode::SUCCESS } else { ExitCode::FAILURE }
+}

@@ -1,0 +1,66 @@
+//! The commands `compare` and `show`.
+
+use crate::compare::Comparison;
+use crate::guarded::Guarded;
+use crate::make::{CLASSES, Maker};
+use crate::model;
+use crate::mutation::Mutation;
+use crate::ours::{Library, Reader};
+use crate::record::Record;
+use oracle::bdmv::clpi::ClipInformation;
+
+/// How many differences are told in full; all are counted.
+const TOLD: u64 = 20;
+
+/// Compares the files of `count` seeds; tells the files of each class, the refusals, and the differences.
+pub fn compare(first: u64, count: u64) -> bool {
+    let (mut maker, mut guarded, mut comparison) = (Maker::new(), Guarded::new(1 << 16), Comparison::new());
+    let mut files = vec![[0u64; 2]; CLASSES.len()];
+    let mut refusals = [0u64; 32];
+    let mut differences = 0;
+    for seed in first..first + count {
+        let class = (seed % CLASSES.len() as u64) as usize;
+        files[class][0] += 1;
+        match comparison.compare(guarded.hold(maker.make(seed)), seed, &mut Library) {
+            Ok(0) => files[class][1] += 1,
+            Ok(refusal) => refusals[refusal as usize] += 1,
+            Err(difference) => {
+                differences += 1;
+                if differences <= TOLD {
+                    println!("seed {seed} ({}): {difference}", CLASSES[class].0);
+                }
+            }
+        }
+    }
+    for (class, [made, accepted]) in CLASSES.iter().zip(files) {
+        println!("{:<40} {made:>8} files {accepted:>8} accepted", class.0);
+    }
+    for (refusal, times) in refusals.iter().enumerate().filter(|(_, times)| **times > 0) {
+        println!("refused by {refusal} {times:>37} files");
+    }
+    println!("{count} files compared, {differences} differences");
+    differences == 0
+}
+
+/// Prints a file's bytes, and what the Rust, the plain reader and the library say of it.
+pub fn show(seed: u64) -> bool {
+    let mut maker = Maker::new();
+    let file = maker.make(seed);
+    println!("seed {seed} ({}), {} bytes", CLASSES[(seed % CLASSES.len() as u64) as usize].0, file.len());
+    for (k, line) in file.chunks(32).enumerate() {
+        let hex: Vec<String> = line.iter().map(|byte| format!("{byte:02x}")).collect();
+        println!("{:6}  {}", 32 * k, hex.join(" "));
+    }
+    match std::panic::catch_unwind(|| ClipInformation::parse(file)) {
+        Ok(Ok(clip)) => println!("the Rust: {clip:?}"),
+        Ok(Err(why)) => println!("the Rust refuses: {why}"),
+        Err(_) => println!("the Rust panics"),
+    }
+    let mut record = Record::default();
+    let refusal = model::read(file, Mutation::Right, &mut record);
+    println!("the plain reader: refusal {refusal}, rows {:?}, {:?}", record.all_rows(), record.scalars);
+    let mut buffers: [Vec<u8>; 9] = std::array::from_fn(|_| vec![0; 2 << 20]);
+    let reading = Library.read(file, buffers.each_mut().map(|buffer| &mut buffer[..]));
+    println!("the library: {reading:?}");
+    Comparison::new().compare(file, seed, &mut Library).map_err(|difference| println!("{difference}")).is_ok()
+}
