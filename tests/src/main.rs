@@ -12,6 +12,7 @@ mod ours;
 mod random;
 mod record;
 mod run;
+mod sample;
 mod tables;
 mod wrong;
 
@@ -20,6 +21,7 @@ use std::process::ExitCode;
 const USAGE: &str = "usage: compare compare FIRST COUNT   the files of COUNT seeds from FIRST on
        compare mutants COUNT         each wrong reader must be caught by one of the first COUNT files
        compare large                 the longest file and the longest tables (needs 8 GB)
+       compare sample FOLDER COUNT   COUNT files of each class with the Rust's answers, for crates/replay
        compare show SEED             one file's bytes and what each reader says of it";
 
 /// Runs the command of the arguments; the exit status tells whether there was no difference.
@@ -30,6 +32,7 @@ fn main() -> ExitCode {
         (Some("compare"), 3, Some(first), Some(count)) => run::compare(first, count),
         (Some("mutants"), 2, Some(count), None) => mutants::mutants(count),
         (Some("large"), 1, None, None) => large::large(),
+        (Some("sample"), 3, None, Some(count)) => sample::sample(&words[1], count),
         (Some("show"), 2, Some(seed), None) => run::show(seed),
         _ => {
             eprintln!("{USAGE}");
