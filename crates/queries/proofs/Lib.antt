@@ -1,0 +1,3 @@
+-- Laws that the questions' proofs cite.
+pub mod Scans
+pub mod Asking

@@ -1,0 +1,102 @@
+-- The latest end and the least start while a loop goes over the STCs, and the tests that a question begins with.
+use Prim.Native.Nat.{ℕ, _+_, _*_, _<_, _≤_, max, min}
+use mathlib.Core.Path.{_≡_, refl, sym, ap, _∙_}
+use mathlib.Core.List.{List, [], _∷_}
+use mathlib.Core.Bool.{Bool, true, false, not}
+use native.Mathlib.Omega.{arith}
+use lib.ListN.{length, getD}
+use lib.Dec.{ltb, lit<}
+use borrow.Author.Tests.{lt-ltb, le-ltb}
+use Rattle.format.specs.ClipRecord.{Row, stcStart, stcEnd}
+use Rattle.format.specs.Ticks.{Ticks45, Ticks90, doubled, less45, less90, minutes}
+use Rattle.format.specs.Questions.{Question, minutesRemaining, presentationSpan90k, Answer, refused, number, ticks90, stcs, partsOf, latestEnd, leastStart, presentationSpan, minutesLeft, durationOf, ofStc, answer, ask}
+use Rattle.format.specs.Tables.{cellsAt, tableRows, rowRoom, stcCells, isStated, clipIn}
+use Rattle.format.proofs.Cell.{cell-of}
+use Rattle.format.proofs.Rows.{rows-length}
+use Rattle.common.specs.Reads.{CellIs}
+use Rattle.queries.specs.Asked.{stated, onlyStcs}
+use Rattle.queries.proofs.Asking.{answered}
+use Rattle.queries.proofs.Scans.{rowsLeft, left-all, left-turn, left-done, cell-in}
+
+module _ (t : List ℕ) (n : ℕ) where
+  -- the latest of the ends seen and those left is that of all
+  abbrev pub Latest : ℕ → ℕ → Type 0
+  Latest k latest = max latest (latestEnd (rowsLeft stcCells t n k) .ticks) ≡ latestEnd (tableRows stcCells t n) .ticks
+
+  pub latest-first : Latest 0 0
+  latest-first = rw (left-all stcCells t n) (omega arith)
+
+  pub latest-turn : (k latest : ℕ) {at v r : ℕ} → k < n → at ≡ 16 * k + 12 → CellIs t at v → r ≡ max latest v → Latest k latest → Latest (k + 1) r
+  latest-turn k latest {v = v} h e c m i =
+      let end = cell-in stcCells t n k 3 (lit< tt) e (c .same) in
+      let i′ = rw (left-turn stcCells t n k h) at i in
+      omega (arith, end, m, i′)
+
+  pub latest-done : (k latest : ℕ) → n ≤ k → Latest k latest → record { ticks = latest } ≡ latestEnd (tableRows stcCells t n)
+  latest-done k latest h i =
+      let i′ = rw (left-done stcCells t n k h) at i in
+      let e : latest ≡ latestEnd (tableRows stcCells t n) .ticks = omega (arith, i′) in
+      ap (λ (x : ℕ). record { ticks = x }) e
+
+  -- the least of a start and those left is that of all
+  abbrev pub Least : Ticks45 → ℕ → ℕ → Type 0
+  Least whole k least = leastStart (record { ticks = least }) (rowsLeft stcCells t n k) ≡ whole
+
+  pub least-first : (first : ℕ) → Least (leastStart (record { ticks = first }) (tableRows stcCells t n)) 0 first
+  least-first first = rw (left-all stcCells t n)
+
+  pub least-turn : {whole : Ticks45} (k least : ℕ) {at v r : ℕ} → k < n → at ≡ 16 * k + 8 → CellIs t at v → r ≡ min least v → Least whole k least → Least whole (k + 1) r
+  least-turn k least h e c m i =
+      let start = cell-in stcCells t n k 2 (lit< tt) e (c .same) in
+      let i′ = rw (left-turn stcCells t n k h) at i in
+      rw (m, start) i′
+
+  pub least-done : {whole : Ticks45} (k least : ℕ) → n ≤ k → Least whole k least → record { ticks = least } ≡ whole
+  least-done k least h i = rw (left-done stcCells t n k h) at i
+
+-- ---- the answers
+
+-- a question about one row: none such, or that row answers
+module _ (q : Question) (t : List ℕ) (n k : ℕ) (f : Row → Answer) {b : Bool} (one : partsOf q ≡ stcs ∷ []) (is : b ≡ isStated stcCells (stated t n)) (there : not b ≡ false)
+    (asks : answer q (clipIn (onlyStcs (stated t n))) ≡ ofStc (tableRows stcCells t n) k f) where
+  pub no-row : n ≤ k → refused 22 ≡ ask q (onlyStcs (stated t n))
+  unfolding ofStc tableRows
+  no-row h = rw (rows-length, le-ltb k n h) at (sym asks) ∙ answered q (onlyStcs (stated t n)) stcs one is there
+
+  pub row-answers : k < n → {x : Row} → x ≡ getD (tableRows stcCells t n) k [] → f x ≡ ask q (onlyStcs (stated t n))
+  unfolding ofStc tableRows
+  row-answers h e = ap f e ∙ rw (rows-length, lt-ltb k n h) at (sym asks) ∙ answered q (onlyStcs (stated t n)) stcs one is there
+
+-- the span of rows of which the first starts at v
+span-of : (s : Row) (later : List Row) (v : ℕ) → v ≡ stcStart s .ticks
+    → less90 (doubled (latestEnd (s ∷ later))) (doubled (leastStart (record { ticks = v }) (s ∷ later))) ≡ presentationSpan (s ∷ later)
+unfolding presentationSpan
+span-of s later v e = let m : min v (stcStart s .ticks) ≡ stcStart s .ticks = omega arith in rw (leastStart, m)
+
+module _ (t : List ℕ) (n : ℕ) where
+  pub minutes-are : (at : Ticks90) {latest : Ticks45} {twice left : Ticks90} {r : ℕ} → latest ≡ latestEnd (tableRows stcCells t n) → twice ≡ doubled latest
+      → left ≡ less90 twice at → r ≡ minutes left → number r ≡ answer (minutesRemaining at) (clipIn (onlyStcs (stated t n)))
+  unfolding answer clipIn minutesLeft
+  minutes-are at e d l m = rw (m, l, d, e)
+
+  pub no-span : n ≡ 0 → ticks90 (record { ticks = 0 }) ≡ answer presentationSpan90k (clipIn (onlyStcs (stated t n)))
+  unfolding answer clipIn presentationSpan tableRows
+  no-span e = rw e
+
+  pub span-is : (n ≡ 0 → ⊥) → {latest least : Ticks45} {last first r : Ticks90} {v : ℕ} → CellIs t 8 v
+      → latest ≡ latestEnd (tableRows stcCells t n) → last ≡ doubled latest
+      → least ≡ leastStart (record { ticks = v }) (tableRows stcCells t n) → first ≡ doubled least
+      → r ≡ less90 last first → ticks90 r ≡ answer presentationSpan90k (clipIn (onlyStcs (stated t n)))
+  unfolding answer clipIn
+  span-is some {v = v} c a b d e s =
+      let rows = sym (left-all stcCells t n) ∙ left-turn stcCells t n 0 (omega arith) in
+      let start = cell-in stcCells t n 0 2 (lit< tt) refl (c .same) in
+      let span = span-of (cellsAt t stcCells (4 * stcCells * 0)) (rowsLeft stcCells t n 1) v start in
+      rw (s, b, e, a, d, rows) (ap (λ (x : Ticks90). ticks90 x) span)
+
+  pub duration-is : (k : ℕ) {s e : ℕ} {r : Ticks45} → k < n → CellIs t (16 * k + 12) e → CellIs t (16 * k + 8) s
+      → r ≡ less45 (record { ticks = e }) (record { ticks = s }) → r ≡ durationOf (getD (tableRows stcCells t n) k [])
+  duration-is k h e s r =
+      let end = cell-of stcCells t n k 3 h (lit< tt) (omega arith) (e .same) in
+      let start = cell-of stcCells t n k 2 h (lit< tt) (omega arith) (s .same) in
+      rw (r, end, start)

@@ -1,0 +1,135 @@
+// Questions about the STC sequences: how long they are, and how many minutes remain.
+ghost use mathlib.Core.Path.{_≡_};
+ghost use mathlib.Core.List.{[]};
+ghost use lib.ListN.{getD};
+ghost use Prim.Native.Nat.{_≤_, _<_, max, min};
+ghost use Rattle.format.specs.Questions.{ask, duration45k, duration90k, presentationSpan90k, minutesRemaining, latestEnd, leastStart, durationOf};
+ghost use Rattle.format.specs.Tables.{isStated, tableRows, rowRoom, stcCells};
+ghost use Rattle.ticks.specs.Times.{as45, as90};
+ghost use Rattle.queries.specs.Answers.{foundOf, time45Of, time90Of};
+ghost use Rattle.queries.specs.Asked.{stated, onlyStcs};
+use common::cells::cell_at;
+use queries::Found;
+use queries::Time45;
+use queries::Time90;
+use ticks::Ticks45;
+use ticks::Ticks90;
+
+// The bytes of a row: PID, packet, start, end.
+const ROW: usize = 16;
+
+// Where a row's start and end stand in it.
+const START: usize = 8;
+
+const END: usize = 12;
+
+// Whether the table has room for the rows that are stated.
+fn is_stated(stcs: &[u8], rows: u32) -> bool
+    ensures { λ r. ⌜ r ≡ isStated stcCells (stated (now (stcs .entry)) rows) ⌝ }
+{
+    (rows as usize) <= stcs.len() / ROW
+}
+
+// The later of two times.
+fn later(a: u32, b: u32) -> u32
+    ensures { λ r. ⌜ r ≡ max a b ⌝ }
+{
+    if a < b { b } else { a }
+}
+
+// The earlier of two times.
+fn earlier(a: u32, b: u32) -> u32
+    ensures { λ r. ⌜ r ≡ min a b ⌝ }
+{
+    if b < a { b } else { a }
+}
+
+// The latest end of the STCs, 0 without any.
+fn latest_end(stcs: &[u8], rows: u32) -> Ticks45
+    requires { ⌜ rows ≤ rowRoom stcCells (now stcs) ⌝ }
+    ensures { λ r. ⌜ as45 r ≡ latestEnd (tableRows stcCells (now (stcs .entry)) rows) ⌝ }
+{
+    let mut latest: u32 = 0;
+    let mut k: u32 = 0;
+    while k < rows {
+        latest = later(latest, cell_at(stcs, ROW * (k as usize) + END));
+        k += 1;
+    }
+    Ticks45(latest)
+}
+
+// The least of a start and those of the STCs.
+fn least_start(stcs: &[u8], rows: u32, first: u32) -> Ticks45
+    requires { ⌜ rows ≤ rowRoom stcCells (now stcs) ⌝ }
+    ensures { λ r. ⌜ as45 r ≡ leastStart (record { ticks = first }) (tableRows stcCells (now (stcs .entry)) rows) ⌝ }
+{
+    let mut least = first;
+    let mut k: u32 = 0;
+    while k < rows {
+        least = earlier(least, cell_at(stcs, ROW * (k as usize) + START));
+        k += 1;
+    }
+    Ticks45(least)
+}
+
+// Minutes remaining at a time: twice the latest end less the time, not below 0, in whole minutes.
+pub fn minutes_remaining(stcs: &[u8], rows: u32, at: Ticks90) -> Found
+    ensures { λ r. ⌜ foundOf r ≡ ask (minutesRemaining (as90 at)) (onlyStcs (stated (now (stcs .entry)) rows)) ⌝ }
+{
+    if !is_stated(stcs, rows) {
+        return Found::Refused(22);
+    }
+    Found::Number(latest_end(stcs, rows).doubled().less(at).minutes())
+}
+
+// The presentation span: twice the latest end less twice the least start, not below 0; 0 without STCs.
+pub fn presentation_span_90k(stcs: &[u8], rows: u32) -> Time90
+    ensures { λ r. ⌜ time90Of r ≡ ask presentationSpan90k (onlyStcs (stated (now (stcs .entry)) rows)) ⌝ }
+{
+    if !is_stated(stcs, rows) {
+        return Time90::Refused(22);
+    }
+    if rows == 0 {
+        return Time90::Ticks(Ticks90(0));
+    }
+    let latest = latest_end(stcs, rows).doubled();
+    let least = least_start(stcs, rows, cell_at(stcs, START)).doubled();
+    Time90::Ticks(latest.less(least))
+}
+
+// The end of a row less its start, not below 0.
+fn row_duration(stcs: &[u8], rows: u32, stc: u32) -> Ticks45
+    requires { ⌜ (rows ≤ rowRoom stcCells (now stcs)) × (stc < rows) ⌝ }
+    ensures { λ r. ⌜ as45 r ≡ durationOf (getD (tableRows stcCells (now (stcs .entry)) rows) stc []) ⌝ }
+{
+    let at = ROW * (stc as usize);
+    let end = Ticks45(cell_at(stcs, at + END));
+    let start = Ticks45(cell_at(stcs, at + START));
+    end.less(start)
+}
+
+// How long an STC is, by its own clock.
+pub fn duration_45k(stcs: &[u8], rows: u32, stc: u32) -> Time45
+    ensures { λ r. ⌜ time45Of r ≡ ask (duration45k stc) (onlyStcs (stated (now (stcs .entry)) rows)) ⌝ }
+{
+    if !is_stated(stcs, rows) {
+        return Time45::Refused(22);
+    }
+    if stc >= rows {
+        return Time45::Refused(22);
+    }
+    Time45::Ticks(row_duration(stcs, rows, stc))
+}
+
+// How long an STC is, in 90 kHz ticks.
+pub fn duration_90k(stcs: &[u8], rows: u32, stc: u32) -> Time90
+    ensures { λ r. ⌜ time90Of r ≡ ask (duration90k stc) (onlyStcs (stated (now (stcs .entry)) rows)) ⌝ }
+{
+    if !is_stated(stcs, rows) {
+        return Time90::Refused(22);
+    }
+    if stc >= rows {
+        return Time90::Refused(22);
+    }
+    Time90::Ticks(row_duration(stcs, rows, stc).doubled())
+}
