@@ -1,6 +1,7 @@
 /* Prints the listing of a clip file: reads it, and grows each table that is said to be too short.
  *
  *     cc -I include examples/read.c target/staticlib/libclpi.a -o read && ./read samples/one_map.clpi */
+#include <inttypes.h>
 #include <stdio.h>
 #include <stdlib.h>
 
@@ -38,16 +39,17 @@ static int grow_table(struct clpi_tables *t, uint32_t n, size_t rows)
 static void list(const struct clpi_reading *r, const struct clpi_tables *t)
 {
     const struct clpi_ep_entry *entry = t->entries;
-    printf("clip %u %u %u %u\n", r->clip_stream_type, r->application_type, r->ts_recording_rate, r->number_of_source_packets);
-    printf("seq %u %u\n", r->atcs, r->stcs);
-    printf("prog %u %u\n", r->programs, r->streams);
+    printf("clip %" PRIu32 " %" PRIu32 " %" PRIu32 " %" PRIu32 "\n", r->clip_stream_type, r->application_type,
+           r->ts_recording_rate, r->number_of_source_packets);
+    printf("seq %" PRIu32 " %" PRIu32 "\n", r->atcs, r->stcs);
+    printf("prog %" PRIu32 " %" PRIu32 "\n", r->programs, r->streams);
     for (uint32_t i = 0; i < r->maps; i++) {
         const struct clpi_ep_map *map = &t->maps[i];
-        printf("map %u %u %u\n", map->stream_pid, map->ep_stream_type, map->entry_count);
+        printf("map %" PRIu32 " %" PRIu32 " %" PRIu32 "\n", map->stream_pid, map->ep_stream_type, map->entry_count);
         for (uint32_t k = 0; k < map->entry_count; k++, entry++)
-            printf("ep %u %u\n", entry->pts_ep_start, entry->spn_ep_start);
+            printf("ep %" PRIu32 " %" PRIu32 "\n", entry->pts_ep_start, entry->spn_ep_start);
     }
-    printf("mark %u\n", r->marks);
+    printf("mark %" PRIu32 "\n", r->marks);
 }
 
 /* Reads the whole of a file, at most one byte over what is accepted. */
@@ -84,16 +86,22 @@ int main(int argc, char **argv)
     struct clpi_reading r;
     size_t bytes;
     uint8_t *file;
-    if (argc != 2 || !(file = load(argv[1], &bytes))) {
-        fprintf(stderr, "usage: read FILE (a clip file that can be read)\n");
+    if (argc != 2) {
+        fprintf(stderr, "usage: read FILE\n");
+        return 2;
+    }
+    if (!(file = load(argv[1], &bytes))) {
+        perror(argv[1]);
         return 2;
     }
     /* at most nine tables are too short, the lowest first */
     do
         r = clpi_read_tables(file, bytes, &t);
     while (r.refusal == CLPI_TABLE_SHORT && grow_table(&t, r.table, r.rows_needed));
-    if (r.refusal)
-        printf("refused %u\n", r.refusal);
+    if (r.refusal == CLPI_TABLE_SHORT)
+        printf("refused 21 %" PRIu32 "\n", r.table); /* no memory to grow it */
+    else if (r.refusal)
+        printf("refused %" PRIu32 "\n", r.refusal);
     else
         list(&r, &t);
     free(t.atcs);

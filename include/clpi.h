@@ -1,11 +1,13 @@
 /* clpi.h: Blu-ray clip information (CLPI) files, read into tables that the caller lends.
  *
- * Link with libclpi.a (`rt staticlib clpi`). Every call takes every input, allocates nothing, keeps nothing, calls
- * nothing, and ends. What it answers and what it stores is proved equal to the format's definitions; what is
- * not proved is the caller's side of this page:
+ * Link with libclpi.a (`rt staticlib clpi`; x86-64, 64-bit size_t). Every call takes every input, allocates nothing,
+ * keeps nothing, calls nothing, needs less than 1 KB of stack, and ends. What it answers and what it stores is
+ * proved equal to the format's definitions; what is not proved is the caller's side of this page:
  *
- *  - a pointer points to as many bytes as its length says; with length 0 it may be NULL;
- *  - the tables lent to one call overlap neither one another nor the file, and nothing else uses them meanwhile.
+ *  - a pointer points to as many bytes as its length says, at any alignment; with length 0 it may be NULL;
+ *  - the tables lent to one call overlap neither one another nor the file, and nothing else uses them meanwhile;
+ *  - the file's bytes do not change while a call runs. It reads them twice, to measure and to fill: where another
+ *    thread, a device or a mapped file changes them in between, memory behind a table may be overwritten.
  *
  * A table is an array of the structs below, lent as bytes. The array may have any length, and what stands beyond
  * its last whole row is left alone. A refusal leaves every table as it was; on success the rows stand at each
@@ -15,6 +17,10 @@
 
 #include <stddef.h>
 #include <stdint.h>
+
+#if SIZE_MAX < UINT64_MAX
+#error "libclpi.a is made for a 64-bit size_t"
+#endif
 
 #ifdef __cplusplus
 extern "C" {
@@ -36,13 +42,17 @@ enum clpi_refusal {
     /* the caller */
     CLPI_FILE_TOO_LONG = 20,  /* over CLPI_MOST_BYTES */
     CLPI_TABLE_SHORT = 21,    /* a table is too short: `table` and `rows_needed` tell which, and how long it must be */
-    CLPI_ROWS = 22            /* a row number, stated rows or a row's data that isn't there */
+    CLPI_ROWS = 22,           /* a row number, stated rows or a row's data that isn't there */
+    CLPI_OUTPUT_SHORT = 23,   /* an output is too short (writing) */
+    /* the record's maker (writing) */
+    CLPI_CELLS = 30, /* a count or a cell that its field in the file can't hold */
+    CLPI_RUNS = 31   /* a map with over 65,535 runs */
 };
 
 /* the longest file that is read */
 #define CLPI_MOST_BYTES 536870912u
 
-/* the most rows that an accepted file can need, table by table */
+/* the most rows that an accepted file can need, table by table; 8 and 9 are as 3 and 4 */
 #define CLPI_MOST_ATCS 255u
 #define CLPI_MOST_STCS 65025u
 #define CLPI_MOST_PROGRAMS 255u

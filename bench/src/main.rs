@@ -39,14 +39,16 @@ fn ours(file: &[u8], maps: &mut [u8], entries: &mut [u8]) -> Reading {
     }
 }
 
-/// Nanoseconds of one call, as the mean over `turns`. What the calls answer is given back after the clock has stopped.
-fn time<T>(turns: usize, mut call: impl FnMut() -> T) -> (f64, Vec<T>) {
-    let mut answers = Vec::with_capacity(turns);
-    let start = Instant::now();
+/// Nanoseconds of one call, as the mean over `turns`. What a call answers is looked at and given back between two calls, with the clock stopped.
+fn time<T>(turns: usize, mut call: impl FnMut() -> T, mut done: impl FnMut(T)) -> f64 {
+    let mut spent = 0;
     for _ in 0..turns {
-        answers.push(call());
+        let start = Instant::now();
+        let answer = call();
+        spent += start.elapsed().as_nanos();
+        done(answer);
     }
-    (start.elapsed().as_nanos() as f64 / turns as f64, answers)
+    spent as f64 / turns as f64
 }
 
 /// The middle one of the times.
@@ -68,26 +70,22 @@ fn measure(name: &str, maps: usize, rows: usize, rounds: usize, turns: usize) {
     let mut table_copy = entry_table.clone();
     let mut times = [const { Vec::new() }; 5];
     for _ in 0..rounds {
-        let (ns, answers) = time(turns * 8, || ours(&clip, &mut map_table, &mut entry_table));
-        assert!(answers.iter().all(|r| r.refusal == 0 && r.rest[ENTRIES] as usize == total));
-        times[0].push(ns);
-        let (ns, answers) = time(turns, || ClipInformation::parse(&clip).expect("accepted"));
-        assert!(answers.iter().all(|r| r.cpi.ep_map.iter().map(|m| m.entries.len()).sum::<usize>() == total));
-        times[1].push(ns);
-        let (ns, answers) = time(turns, || unsafe { bd_read_clpi(c_path.as_ptr()) });
-        assert!(answers.iter().all(|r| !r.is_null()));
-        answers.into_iter().for_each(|r| unsafe { bd_free_clpi(r) });
-        times[2].push(ns);
-        let (ns, _) = time(turns * 8, || {
-            copy.copy_from_slice(std::hint::black_box(&clip));
-            std::hint::black_box(&mut copy);
-        });
-        times[3].push(ns);
-        let (ns, _) = time(turns * 8, || {
-            table_copy.copy_from_slice(std::hint::black_box(&entry_table));
-            std::hint::black_box(&mut table_copy);
-        });
-        times[4].push(ns);
+        times[0].push(time(
+            turns * 8,
+            || ours(&clip, &mut map_table, &mut entry_table),
+            |r| assert!(r.refusal == 0 && r.rest[ENTRIES] as usize == total),
+        ));
+        times[1].push(time(
+            turns,
+            || ClipInformation::parse(&clip).expect("accepted"),
+            |r| assert!(r.cpi.ep_map.iter().map(|m| m.entries.len()).sum::<usize>() == total),
+        ));
+        times[2].push(time(turns, || unsafe { bd_read_clpi(c_path.as_ptr()) }, |r| {
+            assert!(!r.is_null());
+            unsafe { bd_free_clpi(r) }
+        }));
+        times[3].push(time(turns * 8, || copy.copy_from_slice(std::hint::black_box(&clip)), |()| {}));
+        times[4].push(time(turns * 8, || table_copy.copy_from_slice(std::hint::black_box(&entry_table)), |()| {}));
     }
     let _ = std::fs::remove_file(&path);
     let [a, b, c, d, e] = times.map(|t| median(t) / total as f64);

@@ -21,8 +21,33 @@ pub fn sample(folder: &str, each: u64) -> bool {
         names += &name;
         names.push('\n');
     }
+    std::fs::write(data.join("altered"), altered(&cases_of_all(each))).expect("the sample can be written");
+    names += "altered\n";
     std::fs::write(Path::new(folder).join("args"), names).expect("the names can be written");
     true
+}
+
+/// The cases of every class, one behind the other.
+fn cases_of_all(each: u64) -> Vec<u8> {
+    (0..CLASSES.len() as u64).flat_map(|class| cases(class, each)).collect()
+}
+
+/// Every seventh case with one byte of its answer altered, each at another place: none of them is what the Rust answered.
+fn altered(cases: &[u8]) -> Vec<u8> {
+    let number = |at: usize| u32::from_le_bytes(cases[at..at + 4].try_into().expect("four bytes")) as usize;
+    let (mut out, mut at, mut turn) = (Vec::new(), 0, 0);
+    while at < cases.len() {
+        let end = at + 8 + number(at) + number(at + 4);
+        if turn % 7 == 0 {
+            out.extend(&cases[at..end]);
+            let answer = out.len() - number(at + 4);
+            let place = answer + turn * 13 % number(at + 4);
+            out[place] ^= 1 << (turn % 8);
+        }
+        turn += 1;
+        at = end;
+    }
+    out
 }
 
 /// A class's name as a file's: letters and digits, all else an underscore.

@@ -12,25 +12,52 @@ stated bytes rows = record { bytes = bytes; rows = rows }
 abbrev pub noTable : Table
 noTable = stated [] 0
 
-abbrev pub noScalars : Scalars
-noScalars = record {
+-- the packet count and the rate, and no other scalar
+abbrev pub onlyCounts : ℕ → ℕ → Scalars
+onlyCounts rate packets = record {
   version = 0;
   streamType = 0;
   applicationType = 0;
-  rate = 0;
-  packets = 0;
+  rate = rate;
+  packets = packets;
   validityFlags = 0;
   formatId = 0;
 }
 
+abbrev pub noScalars : Scalars
+noScalars = onlyCounts 0 0
+
+-- scalars and the tables that questions look at
+abbrev pub lentWith : Scalars → (atcs stcs streams maps entries : Table) → ClipTables
+lentWith s atcs stcs streams maps entries = record {
+  scalars = s;
+  atcs = atcs;
+  stcs = stcs;
+  programs = noTable;
+  streams = streams;
+  maps = maps;
+  entries = entries;
+}
+
+-- scalars alone
+abbrev pub onlyScalars : Scalars → ClipTables
+onlyScalars s = lentWith s noTable noTable noTable noTable noTable
+
 -- the STCs alone
 abbrev pub onlyStcs : Table → ClipTables
-onlyStcs t = record {
-  scalars = noScalars;
-  atcs = noTable;
-  stcs = t;
-  programs = noTable;
-  streams = noTable;
-  maps = noTable;
-  entries = noTable;
-}
+onlyStcs t = lentWith noScalars noTable t noTable noTable noTable
+
+-- the streams alone
+abbrev pub onlyStreams : Table → ClipTables
+onlyStreams t = lentWith noScalars noTable noTable t noTable noTable
+
+-- the maps alone, and with their entries
+abbrev pub onlyMaps : Table → ClipTables
+onlyMaps t = lentWith noScalars noTable noTable noTable t noTable
+
+abbrev pub mapsAndEntries : Table → Table → ClipTables
+mapsAndEntries maps entries = lentWith noScalars noTable noTable noTable maps entries
+
+-- the ATCs with their STCs
+abbrev pub atcsAndStcs : Table → Table → ClipTables
+atcsAndStcs atcs stcs = lentWith noScalars atcs stcs noTable noTable noTable

@@ -1,0 +1,2 @@
+-- Laws of the loops over the streams.
+pub mod Laws
