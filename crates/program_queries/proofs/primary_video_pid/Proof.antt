@@ -1,10 +1,11 @@
 -- Rows that are not there are refused; each turn passes a row that is not video.
 use Prim.Native.Nat.{_-_, _≤_}
-use mathlib.Core.Path.{refl, _∙_}
+use mathlib.Core.Path.{_≡_, refl, _∙_}
 use native.Mathlib.Omega.{arith}
 use denote.Ref.{now}
-use Rattle.format.specs.Questions.{streams, primaryVideoPid}
-use Rattle.format.specs.Tables.{streamCells}
+use Rattle.format.specs.Questions.{primaryVideoPid}
+use Rattle.format.specs.Questions as of
+use Rattle.format.specs.Tables.{rowRoom, clipIn, streamCells}
 use Rattle.queries.specs.Asked.{stated, onlyStreams}
 use Rattle.queries.proofs.Asking.{unstated, answered, room}
 use Rattle.program_queries.proofs.Laws.{Video, video-all, video-turn, video-found, video-none}
@@ -22,10 +23,20 @@ is-stated-requires : tie.Need-is-stated-requires Inv-loop μ-loop
 is-stated-requires c κs = search needs
 
 returns : tie.Need-returns Inv-loop μ-loop
-returns c = ?
+returns c =
+    let a = c .before .before .before .args in
+    unstated primaryVideoPid (onlyStreams (stated (now (a .streams)) (a .rows))) of.streams refl (c .before .is-stated .ensures) (c .if1 .taken)
+
+-- the rows are there, so they answer
+module _ (e : tie.Else1 Inv-loop μ-loop) where
+  rows-fit : let a = e .before .before .before .args in a .rows ≤ rowRoom streamCells (now (a .streams))
+  rows-fit = let a = e .before .before .before .args in room streamCells (stated (now (a .streams)) (a .rows)) (e .before .is-stated .ensures) (e .if1 .left)
+
+  asked : let a = e .before .before .before .args in of.answer primaryVideoPid (clipIn (onlyStreams (stated (now (a .streams)) (a .rows)))) ≡ of.ask primaryVideoPid (onlyStreams (stated (now (a .streams)) (a .rows)))
+  asked = let a = e .before .before .before .args in answered primaryVideoPid (onlyStreams (stated (now (a .streams)) (a .rows))) of.streams refl (e .before .is-stated .ensures) (e .if1 .left)
 
 loop-holds : tie.Need-loop-holds Inv-loop μ-loop
-loop-holds c = ?
+loop-holds c = let a = c .before .before .before .args in (omega arith, video-all (now (a .streams)) (a .rows))
 
 cast-at : tie.Need-cast-at Inv-loop μ-loop
 cast-at c = search needs
@@ -37,19 +48,23 @@ add-cell-at : tie.Need-add-cell-at Inv-loop μ-loop
 add-cell-at c = search needs
 
 cell-at-requires : tie.Need-cell-at-requires Inv-loop μ-loop
-cell-at-requires c κs = ?
+cell-at-requires c κs = omega (arith, rows-fit (c .before .before))
 
 is-video-requires : tie.Need-is-video-requires Inv-loop μ-loop
 is-video-requires c κs = search needs
 
 cell-at-requires-2 : tie.Need-cell-at-requires-2 Inv-loop μ-loop
-cell-at-requires-2 c κs = ?
+cell-at-requires-2 c κs = omega (arith, rows-fit (c .before .before .before .before .before))
 
 cast-t12 : tie.Need-cast-t12 Inv-loop μ-loop
 cast-t12 c = search needs
 
 returns-2 : tie.Need-returns-2 Inv-loop μ-loop
-returns-2 c = ?
+returns-2 c =
+    let t = c .before in
+    let a = t .before .before .before .before .before .before .before .before .args in
+    let l = t .before .before .before .before .loop in
+    video-found (now (a .streams)) (a .rows) (l .k) (omega arith) (t .before .before .cell-at .ensures) (t .before .is-video .ensures) (l .inv .1) (t .if2 .taken) (c .cell-at2 .ensures) ∙ asked (t .before .before .before .before .before)
 
 add-k : tie.Need-add-k Inv-loop μ-loop
 add-k c = search needs
@@ -58,10 +73,16 @@ loop-less : tie.Need-loop-less Inv-loop μ-loop
 loop-less c = search needs
 
 loop-again : tie.Need-loop-again Inv-loop μ-loop
-loop-again c = ?
+loop-again c =
+    let a = c .before .before .before .before .before .before .before .before .args in
+    let l = c .before .before .before .before .loop in
+    (omega arith, video-turn (now (a .streams)) (a .rows) (l .k) (omega arith) (c .before .before .cell-at .ensures) (c .before .is-video .ensures) (l .inv .1) (c .if2 .left))
 
 returns-3 : tie.Need-returns-3 Inv-loop μ-loop
-returns-3 c = ?
+returns-3 c =
+    let a = c .before .before .before .before .before .args in
+    let l = c .before .loop in
+    video-none (now (a .streams)) (a .rows) (l .k) (c .loop-test .left) (l .inv .1) ∙ asked (c .before .before)
 
 pub primary-video-pid-spec : {M : Type 1} → statement M
 primary-video-pid-spec =
