@@ -1,0 +1,2 @@
+-- The questions' answers by their tests.
+pub mod Laws

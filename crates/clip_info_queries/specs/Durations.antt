@@ -1,0 +1,7 @@
+-- The code's choice of seconds or no rate as the answer of the definitions.
+use Rattle.format.specs.Questions.{Answer, seconds, noRate}
+use Rattle.clip_info_queries.specs.declared.Duration.{Duration}
+
+abbrev pub durationOf : Duration → Answer
+durationOf (Duration.Seconds q) = seconds q
+durationOf Duration.NoRate = noRate

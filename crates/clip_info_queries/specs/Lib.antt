@@ -1,0 +1,2 @@
+-- The transfer duration's answer.
+pub mod Durations
