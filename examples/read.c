@@ -5,35 +5,8 @@
 #include <stdio.h>
 #include <stdlib.h>
 
+#include "clip_file.h"
 #include "clpi.h"
-
-/* Grows one table to the rows it needs; on failure the old table stays. */
-#define GROW(table) \
-    do { \
-        void *longer = realloc(t->table, rows * sizeof *t->table); \
-        if (!longer) \
-            return 0; \
-        t->table = longer; \
-        t->table##_room = rows; \
-        return 1; \
-    } while (0)
-
-/* Grows table number n, and tells whether that could be done. */
-static int grow_table(struct clpi_tables *t, uint32_t n, size_t rows)
-{
-    switch (n) {
-    case 1: GROW(atcs);
-    case 2: GROW(stcs);
-    case 3: GROW(programs);
-    case 4: GROW(streams);
-    case 5: GROW(maps);
-    case 6: GROW(entries);
-    case 7: GROW(extensions);
-    case 8: GROW(list_programs);
-    case 9: GROW(list_streams);
-    }
-    return 0;
-}
 
 /* Prints the record as the listing program does. */
 static void list(const struct clpi_reading *r, const struct clpi_tables *t)
@@ -52,34 +25,6 @@ static void list(const struct clpi_reading *r, const struct clpi_tables *t)
     printf("mark %" PRIu32 "\n", r->marks);
 }
 
-/* Reads the whole of a file, at most one byte over what is accepted. */
-static uint8_t *load(const char *path, size_t *bytes)
-{
-    FILE *f = fopen(path, "rb");
-    uint8_t *file = NULL;
-    size_t room = 65536, got = 0;
-    if (!f)
-        return NULL;
-    for (;;) {
-        uint8_t *longer = realloc(file, room);
-        if (!longer)
-            break;
-        file = longer;
-        got += fread(file + got, 1, room - got, f);
-        if (got < room || got > CLPI_MOST_BYTES) {
-            if (ferror(f))
-                break;
-            fclose(f);
-            *bytes = got;
-            return file;
-        }
-        room = room > CLPI_MOST_BYTES / 2 ? (size_t)CLPI_MOST_BYTES + 1 : room * 2;
-    }
-    free(file);
-    fclose(f);
-    return NULL;
-}
-
 int main(int argc, char **argv)
 {
     struct clpi_tables t = {0};
@@ -94,25 +39,14 @@ int main(int argc, char **argv)
         perror(argv[1]);
         return 2;
     }
-    /* at most nine tables are too short, the lowest first */
-    do
-        r = clpi_read_tables(file, bytes, &t);
-    while (r.refusal == CLPI_TABLE_SHORT && grow_table(&t, r.table, r.rows_needed));
+    r = read_clip(file, bytes, &t);
     if (r.refusal == CLPI_TABLE_SHORT)
-        printf("refused 21 %" PRIu32 "\n", r.table); /* no memory to grow it */
+        printf("refused 21 %" PRIu32 "\n", r.table);
     else if (r.refusal)
         printf("refused %" PRIu32 "\n", r.refusal);
     else
         list(&r, &t);
-    free(t.atcs);
-    free(t.stcs);
-    free(t.programs);
-    free(t.streams);
-    free(t.maps);
-    free(t.entries);
-    free(t.extensions);
-    free(t.list_programs);
-    free(t.list_streams);
+    free_tables(&t);
     free(file);
     return r.refusal != 0;
 }

@@ -217,6 +217,41 @@ struct clpi_part clpi_extension_data(
     const uint8_t *extensions, size_t extensions_bytes,
     uint32_t rows, uint32_t row);
 
+/* ---- questions
+ *
+ * Each is asked of the tables that it looks at, as bytes, with the rows stated to be in each. CLPI_ROWS where more rows
+ * are stated than lent, or where a row number is not one of them. A time in 90 kHz ticks has 64 bits. */
+
+/* An answer. `found` is 0 where there is none, which is no refusal; then, and beside a refusal, `value` is 0. */
+struct clpi_answer {
+    uint32_t refusal; /* 0 or CLPI_ROWS */
+    uint32_t found;   /* 1 where there is a value */
+    uint64_t value;
+};
+
+/* Minutes remaining at a time, the front figure: twice the latest STC end minus the time, not below 0, in whole
+ * minutes; 0 without STCs. */
+struct clpi_answer clpi_minutes_remaining(const uint8_t *stcs, size_t stcs_bytes, uint32_t rows, uint64_t at_90k);
+
+/* Twice the latest STC end less twice the least start, not below 0, in 90 kHz ticks; 0 without STCs. */
+struct clpi_answer clpi_presentation_span_90k(const uint8_t *stcs, size_t stcs_bytes, uint32_t rows);
+
+/* The end of an STC less its start, not below 0, in 45 kHz and in 90 kHz ticks. */
+struct clpi_answer clpi_duration_45k(const uint8_t *stcs, size_t stcs_bytes, uint32_t rows, uint32_t stc);
+struct clpi_answer clpi_duration_90k(const uint8_t *stcs, size_t stcs_bytes, uint32_t rows, uint32_t stc);
+
+/* The byte at which a packet starts, for packet numbers up to and including the packet count. */
+struct clpi_answer clpi_spn_to_byte(uint32_t number_of_source_packets, uint32_t spn);
+
+/* The packet in which a byte of the clip lies. */
+struct clpi_answer clpi_byte_to_spn(uint32_t number_of_source_packets, uint64_t byte);
+
+/* The row of table 4 that has the first stream with a PID. */
+struct clpi_answer clpi_stream_by_pid(const uint8_t *streams, size_t streams_bytes, uint32_t rows, uint16_t pid);
+
+/* The PID of the first video stream of table 4. */
+struct clpi_answer clpi_primary_video_pid(const uint8_t *streams, size_t streams_bytes, uint32_t rows);
+
 #ifdef __cplusplus
 }
 #endif

@@ -1,0 +1,141 @@
+// Questions, each with its answer as three numbers.
+ghost use mathlib.Core.Path.{_≡_};
+ghost use Rattle.format.specs.Questions.{answerNumbers, ask, minutesRemaining, presentationSpan90k, duration45k, duration90k, spnToByte, byteToSpn, streamByPid, primaryVideoPid};
+ghost use Rattle.queries.specs.Answers.{foundOf, time45Of, time90Of};
+ghost use Rattle.queries.specs.Asked.{stated, onlyStcs, onlyStreams, onlyCounts, onlyScalars};
+ghost use Rattle.clpi.specs.Numbers.{foundNumbers};
+use queries::Found;
+use queries::Time45;
+use queries::Time90;
+use ticks::Ticks90;
+
+// A refusal; whether there is a value; the value. The other numbers are 0.
+#[repr(C)]
+pub struct ClpiAnswer {
+    pub refusal: u32,
+    pub found: u32,
+    pub value: u64,
+}
+
+// The numbers of what was found.
+fn answer_of(found: Found) -> ClpiAnswer
+    ensures { λ r. ⌜ foundNumbers r ≡ answerNumbers (foundOf found) ⌝ }
+{
+    match found {
+        Found::Refused(refusal) => ClpiAnswer {
+            refusal,
+            found: 0,
+            value: 0,
+        },
+        Found::Nothing => ClpiAnswer {
+            refusal: 0,
+            found: 0,
+            value: 0,
+        },
+        Found::Number(value) => ClpiAnswer {
+            refusal: 0,
+            found: 1,
+            value,
+        },
+    }
+}
+
+// The numbers of a time in 45 kHz ticks.
+fn answer_of_45(time: Time45) -> ClpiAnswer
+    ensures { λ r. ⌜ foundNumbers r ≡ answerNumbers (time45Of time) ⌝ }
+{
+    match time {
+        Time45::Refused(refusal) => ClpiAnswer {
+            refusal,
+            found: 0,
+            value: 0,
+        },
+        Time45::Ticks(t) => ClpiAnswer {
+            refusal: 0,
+            found: 1,
+            value: t.0 as u64,
+        },
+    }
+}
+
+// The numbers of a time in 90 kHz ticks.
+fn answer_of_90(time: Time90) -> ClpiAnswer
+    ensures { λ r. ⌜ foundNumbers r ≡ answerNumbers (time90Of time) ⌝ }
+{
+    match time {
+        Time90::Refused(refusal) => ClpiAnswer {
+            refusal,
+            found: 0,
+            value: 0,
+        },
+        Time90::Ticks(t) => ClpiAnswer {
+            refusal: 0,
+            found: 1,
+            value: t.0,
+        },
+    }
+}
+
+// Minutes remaining at a 90 kHz time.
+#[no_mangle]
+pub extern "C" fn clpi_minutes_remaining(stcs: &[u8], rows: u32, at_90k: u64) -> ClpiAnswer
+    ensures { λ r. ⌜ foundNumbers r ≡ answerNumbers (ask (minutesRemaining (record { ticks = «at_90k» })) (onlyStcs (stated (now (stcs .entry)) rows))) ⌝ }
+{
+    answer_of(sequence_queries::minutes_remaining(stcs, rows, Ticks90(at_90k)))
+}
+
+// The presentation span in 90 kHz ticks.
+#[no_mangle]
+pub extern "C" fn clpi_presentation_span_90k(stcs: &[u8], rows: u32) -> ClpiAnswer
+    ensures { λ r. ⌜ foundNumbers r ≡ answerNumbers (ask presentationSpan90k (onlyStcs (stated (now (stcs .entry)) rows))) ⌝ }
+{
+    answer_of_90(sequence_queries::presentation_span_90k(stcs, rows))
+}
+
+// How long an STC is, in 45 kHz ticks.
+#[no_mangle]
+pub extern "C" fn clpi_duration_45k(stcs: &[u8], rows: u32, stc: u32) -> ClpiAnswer
+    ensures { λ r. ⌜ foundNumbers r ≡ answerNumbers (ask (duration45k stc) (onlyStcs (stated (now (stcs .entry)) rows))) ⌝ }
+{
+    answer_of_45(sequence_queries::duration_45k(stcs, rows, stc))
+}
+
+// How long an STC is, in 90 kHz ticks.
+#[no_mangle]
+pub extern "C" fn clpi_duration_90k(stcs: &[u8], rows: u32, stc: u32) -> ClpiAnswer
+    ensures { λ r. ⌜ foundNumbers r ≡ answerNumbers (ask (duration90k stc) (onlyStcs (stated (now (stcs .entry)) rows))) ⌝ }
+{
+    answer_of_90(sequence_queries::duration_90k(stcs, rows, stc))
+}
+
+// The byte at which a packet starts.
+#[no_mangle]
+pub extern "C" fn clpi_spn_to_byte(packets: u32, spn: u32) -> ClpiAnswer
+    ensures { λ r. ⌜ foundNumbers r ≡ answerNumbers (ask (spnToByte spn) (onlyScalars (onlyCounts 0 packets))) ⌝ }
+{
+    answer_of(clip_info_queries::spn_to_byte(packets, spn))
+}
+
+// The packet in which a byte lies.
+#[no_mangle]
+pub extern "C" fn clpi_byte_to_spn(packets: u32, byte: u64) -> ClpiAnswer
+    ensures { λ r. ⌜ foundNumbers r ≡ answerNumbers (ask (byteToSpn byte) (onlyScalars (onlyCounts 0 packets))) ⌝ }
+{
+    answer_of(clip_info_queries::byte_to_spn(packets, byte))
+}
+
+// The row of the first stream with this PID.
+#[no_mangle]
+pub extern "C" fn clpi_stream_by_pid(streams: &[u8], rows: u32, pid: u16) -> ClpiAnswer
+    ensures { λ r. ⌜ foundNumbers r ≡ answerNumbers (ask (streamByPid pid) (onlyStreams (stated (now (streams .entry)) rows))) ⌝ }
+{
+    answer_of(program_queries::stream_by_pid(streams, rows, pid))
+}
+
+// The PID of the first stream that is video.
+#[no_mangle]
+pub extern "C" fn clpi_primary_video_pid(streams: &[u8], rows: u32) -> ClpiAnswer
+    ensures { λ r. ⌜ foundNumbers r ≡ answerNumbers (ask primaryVideoPid (onlyStreams (stated (now (streams .entry)) rows))) ⌝ }
+{
+    answer_of(program_queries::primary_video_pid(streams, rows))
+}

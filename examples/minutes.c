@@ -1,0 +1,46 @@
+/* Prints the minutes remaining in a clip at a time in 90 kHz ticks: the front figure.
+ *
+ *     cc -I include examples/minutes.c target/staticlib/libclpi.a -o minutes && ./minutes samples/one_map.clpi 0 */
+#include <errno.h>
+#include <inttypes.h>
+#include <stdio.h>
+#include <stdlib.h>
+
+#include "clip_file.h"
+#include "clpi.h"
+
+/* A decimal number of 64 bits; tells whether the word is one. */
+static int number(const char *word, uint64_t *value)
+{
+    char *end;
+    errno = 0;
+    *value = strtoull(word, &end, 10);
+    return *word >= '0' && *word <= '9' && !*end && !errno;
+}
+
+int main(int argc, char **argv)
+{
+    struct clpi_tables t = {0};
+    struct clpi_reading r;
+    size_t bytes;
+    uint8_t *file;
+    uint64_t at;
+    if (argc != 3 || !number(argv[2], &at)) {
+        fprintf(stderr, "usage: minutes FILE TICKS\n");
+        return 2;
+    }
+    if (!(file = load(argv[1], &bytes))) {
+        perror(argv[1]);
+        return 2;
+    }
+    r = read_clip(file, bytes, &t);
+    if (r.refusal) {
+        fprintf(stderr, "refused %" PRIu32 "\n", r.refusal);
+    } else {
+        struct clpi_answer left = clpi_minutes_remaining((const uint8_t *)t.stcs, t.stcs_room * sizeof *t.stcs, r.stcs, at);
+        printf("%" PRIu64 "\n", left.value);
+    }
+    free_tables(&t);
+    free(file);
+    return r.refusal != 0;
+}
