@@ -2,7 +2,7 @@
 use Prim.Native.Nat.{ℕ, zero, suc, _+_, _*_, _-_, _<_, _≤_}
 use mathlib.Core.Path.{_≡_, refl, sym, ap, ap₂, _∙_}
 use mathlib.Core.List.{List, [], _∷_, _++_, map}
-use native.Mathlib.Nat.{add-zero, add-assoc, add-comm, mul-zero, mul-suc}
+use native.Mathlib.Nat.{add-zero, add-assoc, add-comm, mul-zero, mul-suc, suc-mul}
 use native.Mathlib.Omega.{arith}
 use lib.ListN.{length, getD, take, drop, length-append, take-append-drop, length-drop}
 use lib.Seq.{length-take-le}
@@ -37,6 +37,24 @@ map-append {A} view (x ∷ xs) ys = ap (λ (l : List A). view x ∷ l) (map-appe
 pub rows-length : {A : Type 0} (row : ℕ → A) (next : ℕ → ℕ) (p n : ℕ) → length (rowsAt row next p n) ≡ n
 rows-length row next p zero = refl
 rows-length row next p (suc n) = ap suc (rows-length row next (next p) n)
+
+-- the first c rows
+pub take-rows : {A : Type 0} (row : ℕ → A) (next : ℕ → ℕ) (p n c : ℕ) → c ≤ n → take c (rowsAt row next p n) ≡ rowsAt row next p c
+take-rows row next p n zero h = refl
+take-rows row next p zero (suc c) h = absurd (omega arith)
+take-rows {A} row next p (suc n) (suc c) h = ap (λ (l : List A). row p ∷ l) (take-rows row next (next p) n c (omega arith))
+
+-- the rows behind the first c
+pub drop-rows : {A : Type 0} (row : ℕ → A) (w p n c : ℕ) → c ≤ n → drop c (rowsAt row (λ q. q + w) p n) ≡ rowsAt row (λ q. q + w) (p + c * w) (n - c)
+drop-rows row w p n zero h =
+    let e : p + 0 * w ≡ p = omega arith in
+    let f : n - 0 ≡ n = omega arith in
+    rw (e, f)
+drop-rows row w p zero (suc c) h = absurd (omega arith)
+drop-rows row w p (suc n) (suc c) h =
+    let e : p + suc c * w ≡ p + w + c * w = rw (suc-mul c w) (omega arith) in
+    let f : suc n - suc c ≡ n - c = omega arith in
+    rw (e, f) (drop-rows row w (p + w) n c (omega arith))
 
 pub rows-all : {A : Type 0} {P : A → Type 0} (row : ℕ → A) (next : ℕ → ℕ) → ((p : ℕ) → P (row p)) → (p n : ℕ) → All P (rowsAt row next p n)
 rows-all row next h p zero = none

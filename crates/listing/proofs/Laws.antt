@@ -3,7 +3,7 @@ use Prim.Native.Nat.{ℕ, zero, suc, _+_, _*_, _-_, _/_, _%_, _^_, _<_, _≤_}
 use mathlib.Core.Path.{_≡_, refl, sym, ap, ap₂, subst, _∙_}
 use mathlib.Core.List.{List, [], _∷_, _++_}
 use mathlib.Core.Bool.{Bool, true, false}
-use native.Mathlib.Nat.{add-zero, suc-mul, pow-suc, div-lt-iff-lt-mul}
+use native.Mathlib.Nat.{add-zero, pow-suc, div-lt-iff-lt-mul}
 use native.Mathlib.Numerals.{add-one}
 use native.Mathlib.Omega.{arith}
 use lib.ListN.{length, getD, take, drop, length-append}
@@ -16,6 +16,7 @@ use Rattle.format.specs.Tables.{cellAt, cellsAt, mapCells, entryCells}
 use Rattle.format.specs.Listing.{digits, line, mapWord, epWord, epLine, mapLine, mapLines, recordLines}
 use Rattle.format.proofs.Cell.{item-at}
 use Rattle.format.proofs.Loops.{one-left, none-left, total-turn, sets-front}
+use Rattle.format.proofs.Rows.{take-rows, drop-rows}
 use Rattle.format.proofs.Stores.{sets-append}
 use Rattle.common.specs.Reads.{CellIs}
 use Rattle.listing.specs.Text.{Wrote, WroteIn, Still, Shows, Numbers, mapsFrom, entriesFrom, recordRoom, numbersOf, recordText}
@@ -155,24 +156,6 @@ pub entries-done : (t : List ℕ) (q n i : ℕ) → n ≤ i → flat epLine (ent
 entries-done t q n i h = rw (none-left n i h)
 
 -- ---- maps: what is left after i of n maps and k of m entries
-
--- the first c rows
-take-rows : {A : Type 0} (row : ℕ → A) (next : ℕ → ℕ) (p n c : ℕ) → c ≤ n → take c (rowsAt row next p n) ≡ rowsAt row next p c
-take-rows row next p n zero h = refl
-take-rows row next p zero (suc c) h = absurd (omega arith)
-take-rows {A} row next p (suc n) (suc c) h = ap (λ (l : List A). row p ∷ l) (take-rows row next (next p) n c (omega arith))
-
--- the rows behind the first c
-drop-rows : {A : Type 0} (row : ℕ → A) (w p n c : ℕ) → c ≤ n → drop c (rowsAt row (λ q. q + w) p n) ≡ rowsAt row (λ q. q + w) (p + c * w) (n - c)
-drop-rows row w p n zero h =
-    let e : p + 0 * w ≡ p = omega arith in
-    let f : n - 0 ≡ n = omega arith in
-    rw (e, f)
-drop-rows row w p zero (suc c) h = absurd (omega arith)
-drop-rows row w p (suc n) (suc c) h =
-    let e : p + suc c * w ≡ p + w + c * w = rw (suc-mul c w) (omega arith) in
-    let f : suc n - suc c ≡ n - c = omega arith in
-    rw (e, f) (drop-rows row w (p + w) n c (omega arith))
 
 module _ (maps : List ℕ) (q n i k m c : ℕ) (h : i < n) (count : c ≡ entryCount (cellsAt maps mapCells q))
     (all : k + total entryCount (mapsFrom maps q (n - i)) ≤ m) where

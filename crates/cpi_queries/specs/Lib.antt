@@ -1,0 +1,3 @@
+-- The entries of one map.
+pub mod Own
+pub mod Nearest

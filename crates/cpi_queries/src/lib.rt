@@ -1,0 +1,3 @@
+// Questions about the entry point maps and their entries.
+pub mod entries;
+pub mod own;
