@@ -2,3 +2,4 @@
 pub mod Counts
 pub mod Nearest
 pub mod Answers
+pub mod Lasts

@@ -1,3 +1,4 @@
 // Questions about the entry point maps and their entries.
 pub mod entries;
 pub mod own;
+pub mod spans;

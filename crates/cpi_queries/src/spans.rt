@@ -1,0 +1,52 @@
+// The span of a map's entries.
+ghost use mathlib.Core.Path.{_≡_};
+ghost use Prim.Native.Nat.{_+_, _*_, _≤_};
+ghost use lib.ListN.{length};
+ghost use Rattle.format.specs.ClipRecord.{entryTime};
+ghost use Rattle.format.specs.Questions.{ask, indexedSpan90k, spanOf};
+ghost use Rattle.format.specs.Tables.{cellsAt, entryCells};
+ghost use Rattle.ticks.specs.Times.{as90};
+ghost use Rattle.queries.specs.Answers.{time90Of};
+ghost use Rattle.queries.specs.Asked.{stated, mapsAndEntries};
+ghost use Rattle.cpi_queries.specs.Own.{entriesAt};
+use crate::own::Own;
+use crate::own::own_entries;
+use common::cells::cell_at;
+use queries::Time90;
+use ticks::Ticks90;
+
+// The time of the entry with this number.
+fn time_of(entries: &[u8], entry: u64) -> Ticks90
+    requires { ⌜ 20 * (entry + 1) ≤ length (now entries) ⌝ }
+    ensures { λ r. ⌜ as90 r ≡ entryTime (cellsAt (now (entries .entry)) entryCells (4 * entryCells * entry)) ⌝ }
+{
+    Ticks90(cell_at(entries, 20 * (entry as usize) + 8) as u64)
+}
+
+// The last time of some entries less the first, not below 0; 0 without any.
+fn span(entries: &[u8], first: u64, count: u32) -> Ticks90
+    requires { ⌜ 20 * (first + count) ≤ length (now entries) ⌝ }
+    ensures { λ r. ⌜ as90 r ≡ spanOf (entriesAt (now (entries .entry)) first count) ⌝ }
+{
+    if count == 0 {
+        return Ticks90(0);
+    }
+    let last = first + ((count - 1) as u64);
+    time_of(entries, last).less(time_of(entries, first))
+}
+
+// The span of a map: its last time less its first.
+pub fn indexed_span_90k(
+    maps: &[u8],
+    map_rows: u32,
+    entries: &[u8],
+    entry_rows: u32,
+    map: u32,
+) -> Time90
+    ensures { λ r. ⌜ time90Of r ≡ ask (indexedSpan90k map) (mapsAndEntries (stated (now (maps .entry)) «map_rows») (stated (now (entries .entry)) «entry_rows»)) ⌝ }
+{
+    match own_entries(maps, map_rows, entries, entry_rows, map) {
+        Own::Refused => Time90::Refused(22),
+        Own::Rows { first, count } => Time90::Ticks(span(entries, first, count)),
+    }
+}
