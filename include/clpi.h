@@ -240,6 +240,25 @@ struct clpi_answer clpi_presentation_span_90k(const uint8_t *stcs, size_t stcs_b
 struct clpi_answer clpi_duration_45k(const uint8_t *stcs, size_t stcs_bytes, uint32_t rows, uint32_t stc);
 struct clpi_answer clpi_duration_90k(const uint8_t *stcs, size_t stcs_bytes, uint32_t rows, uint32_t stc);
 
+/* Entries of a map, by times of 32 bits in 90 kHz ticks; rows are counted within the map. The maps may be in any order.
+ * At or before: the greatest time not above the one given, the earliest row among equals; row 0 if all are later;
+ * nothing in an empty map. After: the least time above it, the earliest row among equals, or nothing. CLPI_ROWS also
+ * where the maps' entry counts don't add up to the entries stated. */
+struct clpi_answer clpi_entry_point_at_or_before(
+    const uint8_t *maps, size_t maps_bytes, uint32_t map_rows,
+    const uint8_t *entries, size_t entries_bytes, uint32_t entry_rows,
+    uint32_t map, uint32_t at_90k);
+struct clpi_answer clpi_entry_point_after(
+    const uint8_t *maps, size_t maps_bytes, uint32_t map_rows,
+    const uint8_t *entries, size_t entries_bytes, uint32_t entry_rows,
+    uint32_t map, uint32_t at_90k);
+
+/* The last time of a map less its first, not below 0, in 90 kHz ticks; 0 in an empty map. */
+struct clpi_answer clpi_indexed_span_90k(
+    const uint8_t *maps, size_t maps_bytes, uint32_t map_rows,
+    const uint8_t *entries, size_t entries_bytes, uint32_t entry_rows,
+    uint32_t map);
+
 /* The byte at which a packet starts, for packet numbers up to and including the packet count. */
 struct clpi_answer clpi_spn_to_byte(uint32_t number_of_source_packets, uint32_t spn);
 

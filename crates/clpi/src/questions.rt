@@ -1,8 +1,8 @@
 // Questions, each with its answer as three numbers.
 ghost use mathlib.Core.Path.{_≡_};
-ghost use Rattle.format.specs.Questions.{answerNumbers, ask, minutesRemaining, presentationSpan90k, duration45k, duration90k, spnToByte, byteToSpn, streamByPid, primaryVideoPid};
+ghost use Rattle.format.specs.Questions.{answerNumbers, ask, minutesRemaining, presentationSpan90k, duration45k, duration90k, spnToByte, byteToSpn, streamByPid, primaryVideoPid, entryPointAtOrBefore, entryPointAfter, indexedSpan90k};
 ghost use Rattle.queries.specs.Answers.{foundOf, time45Of, time90Of};
-ghost use Rattle.queries.specs.Asked.{stated, onlyStcs, onlyStreams, onlyCounts, onlyScalars};
+ghost use Rattle.queries.specs.Asked.{stated, onlyStcs, onlyStreams, onlyCounts, onlyScalars, mapsAndEntries};
 ghost use Rattle.clpi.specs.Numbers.{foundNumbers};
 use queries::Found;
 use queries::Time45;
@@ -138,4 +138,62 @@ pub extern "C" fn clpi_primary_video_pid(streams: &[u8], rows: u32) -> ClpiAnswe
     ensures { λ r. ⌜ foundNumbers r ≡ answerNumbers (ask primaryVideoPid (onlyStreams (stated (now (streams .entry)) rows))) ⌝ }
 {
     answer_of(program_queries::primary_video_pid(streams, rows))
+}
+
+// The entry of a map with the greatest time not above the one given.
+#[no_mangle]
+pub extern "C" fn clpi_entry_point_at_or_before(
+    maps: &[u8],
+    map_rows: u32,
+    entries: &[u8],
+    entry_rows: u32,
+    map: u32,
+    at_90k: u32,
+) -> ClpiAnswer
+    ensures { λ r. ⌜ foundNumbers r ≡ answerNumbers (ask (entryPointAtOrBefore map (record { ticks = «at_90k» })) (mapsAndEntries (stated (now (maps .entry)) «map_rows») (stated (now (entries .entry)) «entry_rows»))) ⌝ }
+{
+    answer_of(cpi_queries::entries::entry_point_at_or_before(
+        maps,
+        map_rows,
+        entries,
+        entry_rows,
+        map,
+        at_90k,
+    ))
+}
+
+// The entry of a map with the least time above the one given.
+#[no_mangle]
+pub extern "C" fn clpi_entry_point_after(
+    maps: &[u8],
+    map_rows: u32,
+    entries: &[u8],
+    entry_rows: u32,
+    map: u32,
+    at_90k: u32,
+) -> ClpiAnswer
+    ensures { λ r. ⌜ foundNumbers r ≡ answerNumbers (ask (entryPointAfter map (record { ticks = «at_90k» })) (mapsAndEntries (stated (now (maps .entry)) «map_rows») (stated (now (entries .entry)) «entry_rows»))) ⌝ }
+{
+    answer_of(cpi_queries::entries::entry_point_after(
+        maps,
+        map_rows,
+        entries,
+        entry_rows,
+        map,
+        at_90k,
+    ))
+}
+
+// The last time of a map less its first.
+#[no_mangle]
+pub extern "C" fn clpi_indexed_span_90k(
+    maps: &[u8],
+    map_rows: u32,
+    entries: &[u8],
+    entry_rows: u32,
+    map: u32,
+) -> ClpiAnswer
+    ensures { λ r. ⌜ foundNumbers r ≡ answerNumbers (ask (indexedSpan90k map) (mapsAndEntries (stated (now (maps .entry)) «map_rows») (stated (now (entries .entry)) «entry_rows»))) ⌝ }
+{
+    answer_of_90(cpi_queries::spans::indexed_span_90k(maps, map_rows, entries, entry_rows, map))
 }
