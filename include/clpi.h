@@ -259,6 +259,10 @@ struct clpi_answer clpi_indexed_span_90k(
     const uint8_t *entries, size_t entries_bytes, uint32_t entry_rows,
     uint32_t map);
 
+/* The row of the primary map, by the low four bits of the type: the first of type 8, else the first of 1, 5, 6, 8, else
+ * the one with the least PID, the earliest among equals; nothing without maps. */
+struct clpi_answer clpi_primary_video_ep_map(const uint8_t *maps, size_t maps_bytes, uint32_t rows);
+
 /* The byte at which a packet starts, for packet numbers up to and including the packet count. */
 struct clpi_answer clpi_spn_to_byte(uint32_t number_of_source_packets, uint32_t spn);
 

@@ -1,8 +1,8 @@
 // Questions, each with its answer as three numbers.
 ghost use mathlib.Core.Path.{_≡_};
-ghost use Rattle.format.specs.Questions.{answerNumbers, ask, minutesRemaining, presentationSpan90k, duration45k, duration90k, spnToByte, byteToSpn, streamByPid, primaryVideoPid, entryPointAtOrBefore, entryPointAfter, indexedSpan90k};
+ghost use Rattle.format.specs.Questions.{answerNumbers, ask, minutesRemaining, presentationSpan90k, duration45k, duration90k, spnToByte, byteToSpn, streamByPid, primaryVideoPid, entryPointAtOrBefore, entryPointAfter, indexedSpan90k, primaryVideoEpMap};
 ghost use Rattle.queries.specs.Answers.{foundOf, time45Of, time90Of};
-ghost use Rattle.queries.specs.Asked.{stated, onlyStcs, onlyStreams, onlyCounts, onlyScalars, mapsAndEntries};
+ghost use Rattle.queries.specs.Asked.{stated, onlyStcs, onlyStreams, onlyCounts, onlyScalars, onlyMaps, mapsAndEntries};
 ghost use Rattle.clpi.specs.Numbers.{foundNumbers};
 use queries::Found;
 use queries::Time45;
@@ -196,4 +196,12 @@ pub extern "C" fn clpi_indexed_span_90k(
     ensures { λ r. ⌜ foundNumbers r ≡ answerNumbers (ask (indexedSpan90k map) (mapsAndEntries (stated (now (maps .entry)) «map_rows») (stated (now (entries .entry)) «entry_rows»))) ⌝ }
 {
     answer_of_90(cpi_queries::spans::indexed_span_90k(maps, map_rows, entries, entry_rows, map))
+}
+
+// The row of the primary map.
+#[no_mangle]
+pub extern "C" fn clpi_primary_video_ep_map(maps: &[u8], rows: u32) -> ClpiAnswer
+    ensures { λ r. ⌜ foundNumbers r ≡ answerNumbers (ask primaryVideoEpMap (onlyMaps (stated (now (maps .entry)) rows))) ⌝ }
+{
+    answer_of(cpi_queries::primary::primary_video_ep_map(maps, rows))
 }

@@ -3,3 +3,4 @@ pub mod Counts
 pub mod Nearest
 pub mod Answers
 pub mod Lasts
+pub mod Choice

@@ -14,7 +14,7 @@ use common::cells::cell_at;
 use queries::Found;
 
 // Farther than any time of 32 bits is from another.
-const FAR: u64 = 4294967296;
+pub(crate) const FAR: u64 = 4294967296;
 
 // How far a time is from the one asked for: before it or at it, or after it. A time on the other side is far.
 fn distance(is_after: bool, at: u32, time: u32) -> u64
@@ -39,7 +39,7 @@ pub struct Nearest {
 }
 
 // The nearest so far, or row k at distance d where that is nearer.
-fn closer(so_far: Nearest, k: u32, d: u64) -> Nearest
+pub(crate) fn closer(so_far: Nearest, k: u32, d: u64) -> Nearest
     ensures { λ r. ⌜ r ≡ pick (ltb d («so_far» .distance)) (record { row = k; distance = d }) «so_far» ⌝ }
 {
     if d < so_far.distance {

@@ -9,7 +9,7 @@ ghost use Rattle.cpi_queries.specs.Own.{OwnIs};
 use common::cells::cell_at;
 
 // The bytes of a map's row (PID, type, entry count), and of an entry's.
-const MAP: usize = 12;
+pub(crate) const MAP: usize = 12;
 
 const ENTRY: usize = 20;
 
@@ -20,7 +20,7 @@ pub enum Own {
 }
 
 // Whether there is room for the maps that are stated.
-fn has_maps(maps: &[u8], rows: u32) -> bool
+pub(crate) fn has_maps(maps: &[u8], rows: u32) -> bool
     ensures { λ r. ⌜ r ≡ isStated mapCells (stated (now (maps .entry)) rows) ⌝ }
 {
     (rows as usize) <= maps.len() / MAP
