@@ -172,7 +172,7 @@ countsAdd c =
 
 -- every cell fits its field in the file, else 30. The numbers are widths in bits
 
--- the calls take scalars in their fields' own types, so these fit; a record made by hand need not
+-- a file's scalars always fit; those of a record made by hand need not
 abbrev pub scalarsFit : Scalars → Bool
 scalarsFit s =
     fits (32 ∷ 8 ∷ 8 ∷ 32 ∷ 32 ∷ 8 ∷ 32 ∷ [])
