@@ -1,5 +1,7 @@
 //! Compares libclpi.a with the Rust it is a port of, on files made by seed. See README.md.
 
+mod answers;
+mod by_hand;
 mod compare;
 mod expected;
 mod guarded;
@@ -9,12 +11,16 @@ mod model;
 mod mutants;
 mod mutation;
 mod ours;
+mod plain_answers;
+mod questions;
 mod random;
 mod record;
 mod run;
+mod rust_answers;
 mod sample;
 mod tables;
 mod wrong;
+mod wrong_answers;
 
 use std::process::ExitCode;
 
