@@ -24,8 +24,8 @@ mod wrong_answers;
 
 use std::process::ExitCode;
 
-const USAGE: &str = "usage: compare compare FIRST COUNT   the files of COUNT seeds from FIRST on
-       compare mutants COUNT         each wrong reader must be caught by one of the first COUNT files
+const USAGE: &str = "usage: compare compare FIRST COUNT   the files and tables of COUNT seeds from FIRST on
+       compare mutants COUNT         wrong readers and answerers must be caught by one of the first COUNT seeds
        compare large                 the longest file and the longest tables (needs 6 GB)
        compare sample FOLDER COUNT   COUNT files of each class with the Rust's answers, for crates/replay
        compare show SEED             one file's bytes and what each reader says of it";

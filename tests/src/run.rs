@@ -14,7 +14,8 @@ use oracle::bdmv::clpi::ClipInformation;
 /// How many differences are told in full; all are counted.
 const TOLD: u64 = 20;
 
-/// Compares the files and the tables made by hand of `count` seeds; tells the files of each class, the refusals, and the differences.
+/// Compares the files and the tables made by hand of `count` seeds; tells the files of each class, the refusals, the
+/// questions, and the differences.
 pub fn compare(first: u64, count: u64) -> bool {
     let (mut maker, mut guarded, mut comparison) = (Maker::new(), Guarded::new(1 << 16), Comparison::new());
     let mut by_hand = ByHand::new();
@@ -51,9 +52,10 @@ pub fn compare(first: u64, count: u64) -> bool {
 /// Tells how many questions were asked.
 fn tell(what: &str, questions: Questions) {
     let Questions { asked, of_the_rust, lookups_of_the_rust, refused } = questions;
-    println!(
-        "{what}: {asked} questions answered, of the Rust too {of_the_rust} (entry lookups {lookups_of_the_rust}), {refused} refused"
-    );
+    println!("questions on {what}: {asked} answered, {refused} refused");
+    if of_the_rust > 0 {
+        println!("  the Rust's answers beside them: {of_the_rust}, of entry lookups {lookups_of_the_rust}");
+    }
 }
 
 /// Prints a file's bytes, and what the Rust, the plain reader and the library say of it.
