@@ -1,9 +1,11 @@
 //! The comparison of one file: a reader against the Rust, its refusals against the plain reader of the rules.
 
+use crate::answers::{Answerer, Lent, Table};
 use crate::expected;
 use crate::model;
 use crate::mutation::Mutation;
 use crate::ours::{Part, Reader, Reading};
+use crate::questions::Questions;
 use crate::random::Random;
 use crate::record::{CELLS, EXTENSIONS, MOST_BYTES, Record, row_bytes};
 use crate::tables::Tables;
@@ -19,6 +21,7 @@ pub struct Comparison {
     tables: Tables,
     expected: Record,
     model: Record,
+    questions: Questions,
     random: Random,
 }
 
@@ -31,7 +34,7 @@ fn by_the_rust(file: &[u8]) -> Result<Option<ClipInformation>, Difference> {
 }
 
 /// Nothing where the condition holds, else a difference.
-fn must(holds: bool, difference: impl FnOnce() -> Difference) -> Result<(), Difference> {
+pub fn must(holds: bool, difference: impl FnOnce() -> Difference) -> Result<(), Difference> {
     if holds { Ok(()) } else { Err(difference()) }
 }
 
@@ -42,6 +45,7 @@ impl Comparison {
             tables: Tables::new(),
             expected: Record::default(),
             model: Record::default(),
+            questions: Questions::default(),
             random: Random::new(0),
         }
     }
@@ -51,14 +55,26 @@ impl Comparison {
         &self.expected
     }
 
-    /// Compares a reader on one file; the refusal's number, or 0, where there is no difference.
-    pub fn compare(&mut self, file: &[u8], seed: u64, reader: &mut impl Reader) -> Result<u32, Difference> {
+    /// How many questions were asked.
+    pub fn questions(&self) -> Questions {
+        self.questions
+    }
+
+    /// Compares a reader on one file and an answerer on its tables; the refusal's number, or 0, where there is no
+    /// difference.
+    pub fn compare(
+        &mut self,
+        file: &[u8],
+        seed: u64,
+        reader: &mut impl Reader,
+        answerer: &mut impl Answerer,
+    ) -> Result<u32, Difference> {
         self.random = Random::new(!seed);
         let refusal = model::read(file, Mutation::Right, &mut self.model);
         let rust = if file.len() > MOST_BYTES { None } else { by_the_rust(file)? };
         match rust {
             Some(_) if refusal != 0 => Err(format!("the Rust accepts, the plain reader refuses by {refusal}")),
-            Some(clip) => self.accepted(file, &clip, reader).map(|()| 0),
+            Some(clip) => self.accepted(file, &clip, reader, answerer).map(|()| 0),
             None if refusal == 0 => Err("the Rust refuses, the plain reader accepts".into()),
             None => self.refused(file, refusal, reader).map(|()| refusal),
         }
@@ -73,8 +89,15 @@ impl Comparison {
         Ok(())
     }
 
-    /// A file that is accepted: every number and cell, the rows of each table too few, and the extensions' data.
-    fn accepted(&mut self, file: &[u8], clip: &ClipInformation, reader: &mut impl Reader) -> Result<(), Difference> {
+    /// A file that is accepted: every number and cell, the questions, the rows of each table too few, and the
+    /// extensions' data.
+    fn accepted(
+        &mut self,
+        file: &[u8],
+        clip: &ClipInformation,
+        reader: &mut impl Reader,
+        answerer: &mut impl Answerer,
+    ) -> Result<(), Difference> {
         expected::record_of(clip, &mut self.expected);
         self.join_starts(file, &clip.extension.entries)?;
         for table in 0..9 {
@@ -87,6 +110,7 @@ impl Comparison {
         })?;
         let surplus = self.longer(self.expected.all_rows(), 3);
         self.must_read(file, surplus, reader)?;
+        self.ask(clip, surplus, answerer)?;
         self.extension_data(file, &clip.extension.entries, reader)?;
         self.each_short(file, reader)?;
         self.some_short(file, reader)
@@ -119,12 +143,36 @@ impl Comparison {
         let reading = reader.read(file, self.tables.slices());
         let wanted = Reading::accepted(&self.expected);
         must(reading == wanted, || format!("answered {reading:?}\nnot {wanted:?}"))?;
+        self.must_be_filled()
+    }
+
+    /// Every cell of the tables must be the Rust's, and every byte that is no cell as it was lent.
+    fn must_be_filled(&self) -> Result<(), Difference> {
         let written = std::array::from_fn(|table| 4 * self.expected.tables[table].len());
         for (table, &bytes) in written.iter().enumerate() {
             self.same_cells(table, self.tables.written(table, bytes))?;
         }
         let changed = self.tables.changed_beyond(written);
         must(changed.is_none(), || format!("table {:?}: a byte beyond its rows has changed", changed.map(|t| t + 1)))
+    }
+
+    /// Asks the questions of the tables as they were filled, which must not change them.
+    fn ask(
+        &mut self,
+        clip: &ClipInformation,
+        lengths: [usize; 9],
+        answerer: &mut impl Answerer,
+    ) -> Result<(), Difference> {
+        let lent = Lent {
+            packets: self.expected.scalars.number_of_source_packets,
+            tables: std::array::from_fn(|table| Table {
+                bytes: self.tables.written(table, lengths[table]),
+                rows: self.expected.rows(table) as u32,
+            }),
+            null: self.random.one_in(2),
+        };
+        self.questions.compare(&lent, Some(clip), &mut self.random, answerer)?;
+        self.must_be_filled().map_err(|why| format!("after the questions: {why}"))
     }
 
     /// Compares the cells of a table with the Rust's.

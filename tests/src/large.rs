@@ -9,7 +9,7 @@ use crate::record::{MOST_BYTES, Record, row_bytes};
 /// Compares one file, which must be answered with this refusal or, for 0, accepted; tells what was found.
 fn one(what: &str, file: &[u8], wanted: u32) -> bool {
     let (mut guarded, mut comparison) = (Guarded::new(file.len()), Comparison::new());
-    let found = comparison.compare(guarded.hold(file), file.len() as u64, &mut Library);
+    let found = comparison.compare(guarded.hold(file), file.len() as u64, &mut Library, &mut Library);
     let alike = found == Ok(wanted);
     match &found {
         Ok(0) => println!("{what}: {} bytes, accepted, {}", file.len(), rows(comparison.record())),

@@ -1,5 +1,7 @@
 //! Compares libclpi.a with the Rust it is a port of, on files made by seed. See README.md.
 
+mod answers;
+mod by_hand;
 mod compare;
 mod expected;
 mod guarded;
@@ -9,17 +11,21 @@ mod model;
 mod mutants;
 mod mutation;
 mod ours;
+mod plain_answers;
+mod questions;
 mod random;
 mod record;
 mod run;
+mod rust_answers;
 mod sample;
 mod tables;
 mod wrong;
+mod wrong_answers;
 
 use std::process::ExitCode;
 
-const USAGE: &str = "usage: compare compare FIRST COUNT   the files of COUNT seeds from FIRST on
-       compare mutants COUNT         each wrong reader must be caught by one of the first COUNT files
+const USAGE: &str = "usage: compare compare FIRST COUNT   the files and tables of COUNT seeds from FIRST on
+       compare mutants COUNT         wrong readers and answerers must be caught by one of the first COUNT seeds
        compare large                 the longest file and the longest tables (needs 6 GB)
        compare sample FOLDER COUNT   COUNT files of each class with the Rust's answers, for crates/replay
        compare show SEED             one file's bytes and what each reader says of it";
