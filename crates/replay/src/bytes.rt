@@ -4,7 +4,7 @@
 pub const DIFFERENT: usize = 18446744073709551615;
 
 // The place behind n bytes of the answer from `at`, where they are the n bytes of the other from `from`; else no place.
-pub(crate) fn pass(answer: &[u8], at: usize, other: &[u8], from: usize, n: usize) -> usize {
+pub fn pass(answer: &[u8], at: usize, other: &[u8], from: usize, n: usize) -> usize {
     if at > answer.len() {
         return DIFFERENT;
     }
@@ -28,7 +28,7 @@ pub(crate) fn pass(answer: &[u8], at: usize, other: &[u8], from: usize, n: usize
 }
 
 // The place behind the numbers, each a cell of the answer from its front; else no place.
-pub(crate) fn pass_numbers(answer: &[u8], numbers: &[u32]) -> usize {
+pub fn pass_numbers(answer: &[u8], numbers: &[u32]) -> usize {
     if answer.len() / 4 < numbers.len() {
         return DIFFERENT;
     }

@@ -109,7 +109,7 @@ fn pass_lists(
 }
 
 // Whether the file is read as the Rust read it: refused where the answer is the number 1 alone, else accepted with these numbers, rows and data.
-pub(crate) fn is_same(file: &[u8], answer: &[u8]) -> bool {
+pub fn is_same(file: &[u8], answer: &[u8]) -> bool {
     let mut atcs = [0; 3072];
     let mut stcs = [0; 4096];
     let mut programs = [0; 3072];
