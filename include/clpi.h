@@ -201,7 +201,7 @@ static inline struct clpi_reading clpi_read_tables(const uint8_t *file, size_t f
         (uint8_t *)t->list_streams, t->list_streams_room * sizeof *t->list_streams);
 }
 
-/* ---- the data of an extension */
+/* ---- an extension and its data */
 
 /* Where a row's data stands in the file; offset and length are 0 where `refusal` is not. */
 struct clpi_part {
@@ -220,7 +220,10 @@ struct clpi_part clpi_extension_data(
 /* ---- questions
  *
  * Each is asked of the tables that it looks at, as bytes, with the rows stated to be in each. CLPI_ROWS where more rows
- * are stated than lent, or where a row number is not one of them. A time in 90 kHz ticks has 64 bits. */
+ * are stated than lent, where a row number is not one of them, or, where a table of counts and the table counted are
+ * both lent, where the counts don't add up to the rows stated. A time in 90 kHz ticks has 32 bits where entries are
+ * looked up, else 64. A part of a table may be lent as a table: the streams of one program, say; and tables 8 and 9
+ * may be lent where tables 3 and 4 are asked for. */
 
 /* An answer. `found` is 0 where there is none, which is no refusal; then, and beside a refusal, `value` is 0. */
 struct clpi_answer {
@@ -228,6 +231,19 @@ struct clpi_answer {
     uint32_t found;   /* 1 where there is a value */
     uint64_t value;
 };
+
+/* The rows that belong to a row of another table; both numbers are 0 beside a refusal. */
+struct clpi_rows {
+    uint32_t refusal; /* 0 or CLPI_ROWS */
+    uint32_t count;
+    uint64_t first; /* the number of the first of them in their table */
+};
+
+/* The row of table 7 that has the first extension with two ids. */
+struct clpi_answer clpi_extension_entry(
+    const uint8_t *extensions, size_t extensions_bytes, uint32_t rows, uint16_t id1, uint16_t id2);
+
+/* ---- questions about the ATC and STC sequences */
 
 /* Minutes remaining at a time, the front figure: twice the latest STC end minus the time, not below 0, in whole
  * minutes; 0 without STCs. */
@@ -240,10 +256,55 @@ struct clpi_answer clpi_presentation_span_90k(const uint8_t *stcs, size_t stcs_b
 struct clpi_answer clpi_duration_45k(const uint8_t *stcs, size_t stcs_bytes, uint32_t rows, uint32_t stc);
 struct clpi_answer clpi_duration_90k(const uint8_t *stcs, size_t stcs_bytes, uint32_t rows, uint32_t stc);
 
-/* Entries of a map, by times of 32 bits in 90 kHz ticks; rows are counted within the map. The maps may be in any order.
- * At or before: the greatest time not above the one given, the earliest row among equals; row 0 if all are later;
- * nothing in an empty map. After: the least time above it, the earliest row among equals, or nothing. CLPI_ROWS also
- * where the maps' entry counts don't add up to the entries stated. */
+/* The row of the first STC, which is 0; nothing without STCs. */
+struct clpi_answer clpi_first_stc_sequence(const uint8_t *stcs, size_t stcs_bytes, uint32_t rows);
+
+/* The STCs of an ATC. */
+struct clpi_rows clpi_stcs_of_atc(
+    const uint8_t *atcs, size_t atcs_bytes, uint32_t atc_rows,
+    const uint8_t *stcs, size_t stcs_bytes, uint32_t stc_rows,
+    uint32_t atc);
+
+/* The row of table 2 that has the STC with an id: of the first ATC in which the id less the offset id is not negative
+ * and is one of its STCs. */
+struct clpi_answer clpi_stc_sequence_by_id(
+    const uint8_t *atcs, size_t atcs_bytes, uint32_t atc_rows,
+    const uint8_t *stcs, size_t stcs_bytes, uint32_t stc_rows,
+    uint8_t id);
+
+/* The row of table 2 that has the STC of a packet in one ATC: the last whose packet is at most the one given. */
+struct clpi_answer clpi_stc_sequence_for_spn(
+    const uint8_t *atcs, size_t atcs_bytes, uint32_t atc_rows,
+    const uint8_t *stcs, size_t stcs_bytes, uint32_t stc_rows,
+    uint32_t atc, uint32_t spn);
+
+/* ---- questions about the programs and their streams */
+
+/* The row of table 3 that has the first program whose map table has a PID. */
+struct clpi_answer clpi_program_by_pmt_pid(const uint8_t *programs, size_t programs_bytes, uint32_t rows, uint16_t pid);
+
+/* The streams of a program. */
+struct clpi_rows clpi_streams_of_program(
+    const uint8_t *programs, size_t programs_bytes, uint32_t program_rows,
+    const uint8_t *streams, size_t streams_bytes, uint32_t stream_rows,
+    uint32_t program);
+
+/* The row of table 4 that has the first stream with a PID. */
+struct clpi_answer clpi_stream_by_pid(const uint8_t *streams, size_t streams_bytes, uint32_t rows, uint16_t pid);
+
+/* The PID of the first video stream of table 4. */
+struct clpi_answer clpi_primary_video_pid(const uint8_t *streams, size_t streams_bytes, uint32_t rows);
+
+/* The first video or audio stream of table 4 from row `from` on; nothing where none is left. For all of them, ask from
+ * 0, then from each answer plus 1. */
+struct clpi_answer clpi_next_video_stream(const uint8_t *streams, size_t streams_bytes, uint32_t rows, uint32_t from);
+struct clpi_answer clpi_next_audio_stream(const uint8_t *streams, size_t streams_bytes, uint32_t rows, uint32_t from);
+
+/* ---- questions about the maps and their entries */
+
+/* Entries of a map, by times; rows are counted within the map. The entries may be in any order. At or before: the
+ * greatest time not above the one given, the earliest row among equals; row 0 if all are later; nothing in an empty
+ * map. After: the least time above it, the earliest row among equals, or nothing. */
 struct clpi_answer clpi_entry_point_at_or_before(
     const uint8_t *maps, size_t maps_bytes, uint32_t map_rows,
     const uint8_t *entries, size_t entries_bytes, uint32_t entry_rows,
@@ -253,8 +314,44 @@ struct clpi_answer clpi_entry_point_after(
     const uint8_t *entries, size_t entries_bytes, uint32_t entry_rows,
     uint32_t map, uint32_t at_90k);
 
+/* The packets of these entries: where to read from for a time, and the next such place. */
+struct clpi_answer clpi_seek_spn(
+    const uint8_t *maps, size_t maps_bytes, uint32_t map_rows,
+    const uint8_t *entries, size_t entries_bytes, uint32_t entry_rows,
+    uint32_t map, uint32_t at_90k);
+struct clpi_answer clpi_next_seek_spn(
+    const uint8_t *maps, size_t maps_bytes, uint32_t map_rows,
+    const uint8_t *entries, size_t entries_bytes, uint32_t entry_rows,
+    uint32_t map, uint32_t at_90k);
+
+/* The same in the primary map; nothing without maps. */
+struct clpi_answer clpi_primary_seek_spn(
+    const uint8_t *maps, size_t maps_bytes, uint32_t map_rows,
+    const uint8_t *entries, size_t entries_bytes, uint32_t entry_rows,
+    uint32_t at_90k);
+struct clpi_answer clpi_primary_next_seek_spn(
+    const uint8_t *maps, size_t maps_bytes, uint32_t map_rows,
+    const uint8_t *entries, size_t entries_bytes, uint32_t entry_rows,
+    uint32_t at_90k);
+
+/* The time of the first entry of a map, and of the last; nothing in an empty map. */
+struct clpi_answer clpi_first_pts(
+    const uint8_t *maps, size_t maps_bytes, uint32_t map_rows,
+    const uint8_t *entries, size_t entries_bytes, uint32_t entry_rows,
+    uint32_t map);
+struct clpi_answer clpi_last_pts(
+    const uint8_t *maps, size_t maps_bytes, uint32_t map_rows,
+    const uint8_t *entries, size_t entries_bytes, uint32_t entry_rows,
+    uint32_t map);
+
 /* The last time of a map less its first, not below 0, in 90 kHz ticks; 0 in an empty map. */
 struct clpi_answer clpi_indexed_span_90k(
+    const uint8_t *maps, size_t maps_bytes, uint32_t map_rows,
+    const uint8_t *entries, size_t entries_bytes, uint32_t entry_rows,
+    uint32_t map);
+
+/* The entries of a map. */
+struct clpi_rows clpi_entries_of_map(
     const uint8_t *maps, size_t maps_bytes, uint32_t map_rows,
     const uint8_t *entries, size_t entries_bytes, uint32_t entry_rows,
     uint32_t map);
@@ -263,17 +360,30 @@ struct clpi_answer clpi_indexed_span_90k(
  * the one with the least PID, the earliest among equals; nothing without maps. */
 struct clpi_answer clpi_primary_video_ep_map(const uint8_t *maps, size_t maps_bytes, uint32_t rows);
 
+/* The row of the first map of a type, by the low four bits of both. */
+struct clpi_answer clpi_ep_map_by_kind(const uint8_t *maps, size_t maps_bytes, uint32_t rows, uint8_t kind);
+
+/* The first video map, of type 1, 5, 6 or 8, from row `from` on; nothing where none is left. */
+struct clpi_answer clpi_next_video_ep_map(const uint8_t *maps, size_t maps_bytes, uint32_t rows, uint32_t from);
+
+/* ---- questions about the packet count and the rate: none is refused */
+
+/* The clip's length in bytes: 192 for each packet. */
+uint64_t clpi_clip_byte_len(uint32_t number_of_source_packets);
+
 /* The byte at which a packet starts, for packet numbers up to and including the packet count. */
 struct clpi_answer clpi_spn_to_byte(uint32_t number_of_source_packets, uint32_t spn);
 
 /* The packet in which a byte of the clip lies. */
 struct clpi_answer clpi_byte_to_spn(uint32_t number_of_source_packets, uint64_t byte);
 
-/* The row of table 4 that has the first stream with a PID. */
-struct clpi_answer clpi_stream_by_pid(const uint8_t *streams, size_t streams_bytes, uint32_t rows, uint16_t pid);
-
-/* The PID of the first video stream of table 4. */
-struct clpi_answer clpi_primary_video_pid(const uint8_t *streams, size_t streams_bytes, uint32_t rows);
+/* The seconds that the clip's bytes take at its rate; `found` is 0 where the rate is 0, and `seconds` then too. */
+struct clpi_seconds {
+    uint32_t refusal; /* 0 */
+    uint32_t found;   /* 1 where there is a rate */
+    double seconds;
+};
+struct clpi_seconds clpi_transfer_duration_secs(uint32_t ts_recording_rate, uint32_t number_of_source_packets);
 
 #ifdef __cplusplus
 }

@@ -1,5 +1,7 @@
 //! Reading measured side by side in one process: this library, the Rust, libbluray, and copies of the bytes that are read and stored.
+//! Then lookups of entries by their times.
 mod file;
+mod lookups;
 
 use oracle::bdmv::clpi::ClipInformation;
 use std::ffi::{c_char, c_void, CString};
@@ -59,7 +61,7 @@ fn median(mut times: Vec<f64>) -> f64 {
 
 /// Measures all of them in turn, round after round, and prints the medians.
 fn measure(name: &str, maps: usize, rows: usize, rounds: usize, turns: usize) {
-    let clip = file::clip(maps, rows);
+    let clip = file::clip(maps, rows, file::SECONDS);
     let path = format!("/dev/shm/clip_bench_{}.clpi", std::process::id());
     std::fs::write(&path, &clip).expect("memory-backed storage");
     let c_path = CString::new(path.as_str()).unwrap();
@@ -96,8 +98,10 @@ fn measure(name: &str, maps: usize, rows: usize, rounds: usize, turns: usize) {
     println!("  memcpy       {d:8.2} ns an entry for the file's bytes, {e:.2} for the table's");
 }
 
-/// A two-hour film with an entry a second, and the largest maps that a file can have.
+/// A map with as many entries as two hours have seconds, and the largest maps that a file can have; each read, then one map of each asked for times.
 fn main() {
-    measure("two-hour film", 1, 7_200, 15, 50);
+    measure("film", 1, 7_200, 15, 50);
     measure("large file", 4, 262_143, 9, 2);
+    lookups::measure("film", 7_200, file::SECONDS);
+    lookups::measure("largest map", 262_143, file::CLOSE);
 }

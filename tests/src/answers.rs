@@ -1,9 +1,12 @@
-//! The library's questions as include/clpi.h declares them, and what an answerer is to the comparison.
+//! The questions of include/clpi.h, the tables they are asked of, and what an answerer is to the comparison.
 
-use crate::ours::Library;
-use crate::record::{CELLS, ENTRIES, MAPS, STCS, STREAMS, row_bytes};
+use crate::record::{
+    ATCS, CELLS, ENTRIES, EXTENSIONS, LIST_PROGRAMS, LIST_STREAMS, MAPS, PROGRAMS, STCS, STREAMS, row_bytes,
+};
 
-/// What a question is answered with: `struct clpi_answer`.
+/// What a question is answered with: the three numbers of `struct clpi_answer`. Those of `struct clpi_rows` are held
+/// as the refusal, the count and the first row, those of `struct clpi_seconds` with the seconds' bits for the value, and
+/// a length in bytes as a value that there is.
 #[repr(C)]
 #[derive(Clone, Copy, Default, PartialEq, Eq, Debug)]
 pub struct Answer {
@@ -28,54 +31,173 @@ impl Answer {
     pub fn of_option(value: Option<u64>) -> Self {
         value.map_or(Answer::NONE, Answer::of)
     }
+
+    /// The answer of so many rows from one on.
+    pub fn of_rows(first: usize, count: usize) -> Self {
+        Answer { refusal: 0, found: count as u32, value: first as u64 }
+    }
 }
 
-/// A question with its arguments, but for the tables.
+/// A question with its arguments, but for the tables, the packet count and the rate.
 #[derive(Clone, Copy, PartialEq, Eq, Debug)]
 pub enum Question {
+    /// The row of table 7 with two ids.
+    ExtensionEntry(u16, u16),
     /// The minutes that remain at a 90 kHz time.
     MinutesRemaining(u64),
     PresentationSpan,
     /// The durations of an STC's row.
     Duration45k(u32),
     Duration90k(u32),
+    FirstStc,
+    /// The STCs of an ATC's row.
+    StcsOfAtc(u32),
+    /// An STC's id.
+    StcById(u8),
+    /// An ATC's row and a packet.
+    StcForSpn(u32, u32),
+    /// The PID of a program's map table.
+    ProgramByPmtPid(u16),
+    /// The streams of a program's row.
+    StreamsOfProgram(u32),
+    StreamByPid(u16),
+    PrimaryVideoPid,
+    /// The row from which on a stream is wanted.
+    NextVideoStream(u32),
+    NextAudioStream(u32),
     /// A map's row and a 90 kHz time.
     EntryAtOrBefore(u32, u32),
     EntryAfter(u32, u32),
-    /// The span of a map's row.
+    SeekSpn(u32, u32),
+    NextSeekSpn(u32, u32),
+    /// A 90 kHz time in the primary map.
+    PrimarySeekSpn(u32),
+    PrimaryNextSeekSpn(u32),
+    /// The times, the span and the entries of a map's row.
+    FirstPts(u32),
+    LastPts(u32),
     IndexedSpan(u32),
+    EntriesOfMap(u32),
     PrimaryMap,
+    /// A map's type.
+    MapByKind(u8),
+    /// The row from which on a map is wanted.
+    NextVideoMap(u32),
+    ClipByteLen,
     /// The byte of a packet number, the packet of a byte number.
     SpnToByte(u32),
     ByteToSpn(u64),
-    StreamByPid(u16),
-    PrimaryVideoPid,
+    TransferDuration,
 }
 
 use Question::*;
+
+/// Every question once, with arguments of 0.
+pub const EACH: [Question; 32] = [
+    ExtensionEntry(0, 0),
+    MinutesRemaining(0),
+    PresentationSpan,
+    Duration45k(0),
+    Duration90k(0),
+    FirstStc,
+    StcsOfAtc(0),
+    StcById(0),
+    StcForSpn(0, 0),
+    ProgramByPmtPid(0),
+    StreamsOfProgram(0),
+    StreamByPid(0),
+    PrimaryVideoPid,
+    NextVideoStream(0),
+    NextAudioStream(0),
+    EntryAtOrBefore(0, 0),
+    EntryAfter(0, 0),
+    SeekSpn(0, 0),
+    NextSeekSpn(0, 0),
+    PrimarySeekSpn(0),
+    PrimaryNextSeekSpn(0),
+    FirstPts(0),
+    LastPts(0),
+    IndexedSpan(0),
+    EntriesOfMap(0),
+    PrimaryMap,
+    MapByKind(0),
+    NextVideoMap(0),
+    ClipByteLen,
+    SpnToByte(0),
+    ByteToSpn(0),
+    TransferDuration,
+];
+
+/// A table of counts, the column with the counts, and the table that is counted.
+#[derive(Clone, Copy, PartialEq, Eq)]
+pub struct Counted {
+    pub heads: usize,
+    pub column: usize,
+    pub rows: usize,
+}
+
+/// The three pairs of such tables.
+pub const OF_ATCS: Counted = Counted { heads: ATCS, column: 1, rows: STCS };
+pub const OF_PROGRAMS: Counted = Counted { heads: PROGRAMS, column: 2, rows: STREAMS };
+pub const OF_MAPS: Counted = Counted { heads: MAPS, column: 2, rows: ENTRIES };
 
 impl Question {
     /// The tables that are lent to the question.
     pub fn tables(self) -> &'static [usize] {
         match self {
-            MinutesRemaining(_) | PresentationSpan | Duration45k(_) | Duration90k(_) => &[STCS],
-            EntryAtOrBefore(..) | EntryAfter(..) | IndexedSpan(_) => &[MAPS, ENTRIES],
-            PrimaryMap => &[MAPS],
-            SpnToByte(_) | ByteToSpn(_) => &[],
-            StreamByPid(_) | PrimaryVideoPid => &[STREAMS],
+            ExtensionEntry(..) => &[EXTENSIONS],
+            MinutesRemaining(_) | PresentationSpan | Duration45k(_) | Duration90k(_) | FirstStc => &[STCS],
+            StcsOfAtc(_) | StcById(_) | StcForSpn(..) => &[ATCS, STCS],
+            ProgramByPmtPid(_) => &[PROGRAMS],
+            StreamsOfProgram(_) => &[PROGRAMS, STREAMS],
+            StreamByPid(_) | PrimaryVideoPid | NextVideoStream(_) | NextAudioStream(_) => &[STREAMS],
+            EntryAtOrBefore(..) | EntryAfter(..) | SeekSpn(..) | NextSeekSpn(..) => &[MAPS, ENTRIES],
+            PrimarySeekSpn(_) | PrimaryNextSeekSpn(_) => &[MAPS, ENTRIES],
+            FirstPts(_) | LastPts(_) | IndexedSpan(_) | EntriesOfMap(_) => &[MAPS, ENTRIES],
+            PrimaryMap | MapByKind(_) | NextVideoMap(_) => &[MAPS],
+            ClipByteLen | SpnToByte(_) | ByteToSpn(_) | TransferDuration => &[],
         }
     }
 
-    /// The same question about another row, where it names one.
-    pub fn about_row(self, row: u32) -> Option<Self> {
-        match self {
-            Duration45k(_) => Some(Duration45k(row)),
-            Duration90k(_) => Some(Duration90k(row)),
-            EntryAtOrBefore(_, at) => Some(EntryAtOrBefore(row, at)),
-            EntryAfter(_, at) => Some(EntryAfter(row, at)),
-            IndexedSpan(_) => Some(IndexedSpan(row)),
+    /// The table of counts and the table counted, where both are lent.
+    pub fn counted(self) -> Option<Counted> {
+        match *self.tables() {
+            [ATCS, _] => Some(OF_ATCS),
+            [PROGRAMS, _] => Some(OF_PROGRAMS),
+            [MAPS, _] => Some(OF_MAPS),
             _ => None,
         }
+    }
+
+    /// The same question about another row, where it names one that must be there.
+    pub fn about_row(self, row: u32) -> Option<Self> {
+        Some(match self {
+            Duration45k(_) => Duration45k(row),
+            Duration90k(_) => Duration90k(row),
+            StcsOfAtc(_) => StcsOfAtc(row),
+            StcForSpn(_, spn) => StcForSpn(row, spn),
+            StreamsOfProgram(_) => StreamsOfProgram(row),
+            EntryAtOrBefore(_, at) => EntryAtOrBefore(row, at),
+            EntryAfter(_, at) => EntryAfter(row, at),
+            SeekSpn(_, at) => SeekSpn(row, at),
+            NextSeekSpn(_, at) => NextSeekSpn(row, at),
+            FirstPts(_) => FirstPts(row),
+            LastPts(_) => LastPts(row),
+            IndexedSpan(_) => IndexedSpan(row),
+            EntriesOfMap(_) => EntriesOfMap(row),
+            _ => return None,
+        })
+    }
+
+    /// Whether the question looks entries up by a time.
+    pub fn is_lookup(self) -> bool {
+        matches!(self, EntryAtOrBefore(..) | EntryAfter(..) | SeekSpn(..) | NextSeekSpn(..))
+            || matches!(self, PrimarySeekSpn(_) | PrimaryNextSeekSpn(_))
+    }
+
+    /// Whether the question is answered with rows.
+    pub fn is_of_rows(self) -> bool {
+        matches!(self, StcsOfAtc(_) | StreamsOfProgram(_) | EntriesOfMap(_))
     }
 }
 
@@ -86,13 +208,20 @@ pub struct Table<'a> {
     pub rows: u32,
 }
 
-/// What the questions are asked of: the packet count, and tables by their numbers.
+/// What the questions are asked of: the rate, the packet count, and tables by their numbers.
 #[derive(Clone, Copy)]
 pub struct Lent<'a> {
+    pub rate: u32,
     pub packets: u32,
     pub tables: [Table<'a>; 9],
     /// Whether a table of no bytes is lent as NULL, which the header allows.
     pub null: bool,
+}
+
+/// The number of four bytes, the first one lowest.
+#[inline]
+fn number(bytes: &[u8]) -> u32 {
+    u32::from_le_bytes(bytes.try_into().expect("four bytes"))
 }
 
 impl<'a> Lent<'a> {
@@ -102,10 +231,16 @@ impl<'a> Lent<'a> {
     }
 
     /// A cell of a table's row, which is lent.
+    #[inline]
     pub fn cell(&self, table: usize, row: usize, column: usize) -> u32 {
         let at = 4 * (row * CELLS[table] + column);
-        let bytes = self.tables[table].bytes;
-        u32::from_le_bytes([bytes[at], bytes[at + 1], bytes[at + 2], bytes[at + 3]])
+        number(&self.tables[table].bytes[at..at + 4])
+    }
+
+    /// The counts of the first rows of a table of counts, added up.
+    pub fn sum(&self, counted: Counted, heads: usize) -> u64 {
+        let rows = self.tables[counted.heads].bytes.chunks_exact(row_bytes(counted.heads)).take(heads);
+        rows.map(|row| u64::from(number(&row[4 * counted.column..4 * counted.column + 4]))).sum()
     }
 
     /// The same tables but for the bytes and stated rows of one.
@@ -115,11 +250,19 @@ impl<'a> Lent<'a> {
         other
     }
 
-    /// A table as the library takes it.
-    fn table(&self, table: usize) -> (*const u8, usize, u32) {
-        let Table { bytes, rows } = self.tables[table];
-        let first = if bytes.is_empty() && self.null { std::ptr::null() } else { bytes.as_ptr() };
-        (first, bytes.len(), rows)
+    /// The same tables, with the streams of one program alone as the streams.
+    pub fn streams_of(&self, program: usize) -> Self {
+        let [first, end] = [program, program + 1].map(|heads| self.sum(OF_PROGRAMS, heads) as usize);
+        let bytes = row_bytes(STREAMS);
+        self.with(STREAMS, &self.tables[STREAMS].bytes[first * bytes..end * bytes], (end - first) as u32)
+    }
+
+    /// The same tables, with the (2, 5) list's as the programs and the streams.
+    pub fn of_the_list(&self) -> Self {
+        let mut other = *self;
+        other.tables[PROGRAMS] = self.tables[LIST_PROGRAMS];
+        other.tables[STREAMS] = self.tables[LIST_STREAMS];
+        other
     }
 }
 
@@ -127,85 +270,4 @@ impl<'a> Lent<'a> {
 pub trait Answerer {
     /// The answer to a question asked of the tables.
     fn ask(&mut self, question: Question, lent: &Lent) -> Answer;
-}
-
-unsafe extern "C" {
-    fn clpi_minutes_remaining(stcs: *const u8, stcs_bytes: usize, rows: u32, at_90k: u64) -> Answer;
-    fn clpi_presentation_span_90k(stcs: *const u8, stcs_bytes: usize, rows: u32) -> Answer;
-    fn clpi_duration_45k(stcs: *const u8, stcs_bytes: usize, rows: u32, stc: u32) -> Answer;
-    fn clpi_duration_90k(stcs: *const u8, stcs_bytes: usize, rows: u32, stc: u32) -> Answer;
-    fn clpi_entry_point_at_or_before(
-        maps: *const u8,
-        maps_bytes: usize,
-        map_rows: u32,
-        entries: *const u8,
-        entries_bytes: usize,
-        entry_rows: u32,
-        map: u32,
-        at_90k: u32,
-    ) -> Answer;
-    fn clpi_entry_point_after(
-        maps: *const u8,
-        maps_bytes: usize,
-        map_rows: u32,
-        entries: *const u8,
-        entries_bytes: usize,
-        entry_rows: u32,
-        map: u32,
-        at_90k: u32,
-    ) -> Answer;
-    fn clpi_indexed_span_90k(
-        maps: *const u8,
-        maps_bytes: usize,
-        map_rows: u32,
-        entries: *const u8,
-        entries_bytes: usize,
-        entry_rows: u32,
-        map: u32,
-    ) -> Answer;
-    fn clpi_primary_video_ep_map(maps: *const u8, maps_bytes: usize, rows: u32) -> Answer;
-    fn clpi_spn_to_byte(number_of_source_packets: u32, spn: u32) -> Answer;
-    fn clpi_byte_to_spn(number_of_source_packets: u32, byte: u64) -> Answer;
-    fn clpi_stream_by_pid(streams: *const u8, streams_bytes: usize, rows: u32, pid: u16) -> Answer;
-    fn clpi_primary_video_pid(streams: *const u8, streams_bytes: usize, rows: u32) -> Answer;
-}
-
-impl Answerer for Library {
-    /// Makes the question's call.
-    fn ask(&mut self, question: Question, lent: &Lent) -> Answer {
-        let (stcs, stcs_bytes, stc_rows) = lent.table(STCS);
-        let (streams, streams_bytes, stream_rows) = lent.table(STREAMS);
-        let (maps, maps_bytes, map_rows) = lent.table(MAPS);
-        let (entries, entries_bytes, entry_rows) = lent.table(ENTRIES);
-        // SAFETY: each pointer has as many bytes behind it as its length says; the calls only read.
-        unsafe {
-            match question {
-                MinutesRemaining(at) => clpi_minutes_remaining(stcs, stcs_bytes, stc_rows, at),
-                PresentationSpan => clpi_presentation_span_90k(stcs, stcs_bytes, stc_rows),
-                Duration45k(stc) => clpi_duration_45k(stcs, stcs_bytes, stc_rows, stc),
-                Duration90k(stc) => clpi_duration_90k(stcs, stcs_bytes, stc_rows, stc),
-                EntryAtOrBefore(map, at) => clpi_entry_point_at_or_before(
-                    maps,
-                    maps_bytes,
-                    map_rows,
-                    entries,
-                    entries_bytes,
-                    entry_rows,
-                    map,
-                    at,
-                ),
-                EntryAfter(map, at) => {
-                    clpi_entry_point_after(maps, maps_bytes, map_rows, entries, entries_bytes, entry_rows, map, at)
-                }
-                IndexedSpan(map) => {
-                    clpi_indexed_span_90k(maps, maps_bytes, map_rows, entries, entries_bytes, entry_rows, map)
-                }
-                PrimaryMap => clpi_primary_video_ep_map(maps, maps_bytes, map_rows),
-                SpnToByte(spn) => clpi_spn_to_byte(lent.packets, spn),
-                ByteToSpn(byte) => clpi_byte_to_spn(lent.packets, byte),
-                StreamByPid(pid) => clpi_stream_by_pid(streams, streams_bytes, stream_rows, pid),
-                PrimaryVideoPid => clpi_primary_video_pid(streams, streams_bytes, stream_rows),
-            }
-        }
-    }
 }

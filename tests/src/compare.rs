@@ -164,6 +164,7 @@ impl Comparison {
         answerer: &mut impl Answerer,
     ) -> Result<(), Difference> {
         let lent = Lent {
+            rate: self.expected.scalars.ts_recording_rate,
             packets: self.expected.scalars.number_of_source_packets,
             tables: std::array::from_fn(|table| Table {
                 bytes: self.tables.written(table, lengths[table]),

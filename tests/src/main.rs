@@ -2,6 +2,7 @@
 
 mod answers;
 mod by_hand;
+mod calls;
 mod compare;
 mod expected;
 mod guarded;

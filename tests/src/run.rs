@@ -10,43 +10,90 @@ use crate::ours::{Library, Reader};
 use crate::questions::Questions;
 use crate::record::Record;
 use oracle::bdmv::clpi::ClipInformation;
+use std::ops::Range;
+use std::thread;
 
 /// How many differences are told in full; all are counted.
 const TOLD: u64 = 20;
 
-/// Compares the files and the tables made by hand of `count` seeds; tells the files of each class, the refusals, the
-/// questions, and the differences.
-pub fn compare(first: u64, count: u64) -> bool {
-    let (mut maker, mut guarded, mut comparison) = (Maker::new(), Guarded::new(1 << 16), Comparison::new());
-    let mut by_hand = ByHand::new();
-    let mut files = vec![[0u64; 2]; CLASSES.len()];
-    let mut refusals = [0u64; 32];
-    let mut differences = 0;
-    for seed in first..first + count {
-        let class = (seed % CLASSES.len() as u64) as usize;
-        files[class][0] += 1;
-        let file = comparison.compare(guarded.hold(maker.make(seed)), seed, &mut Library, &mut Library);
-        match file.and_then(|refusal| by_hand.compare(seed, &mut Library).map(|()| refusal)) {
-            Ok(0) => files[class][1] += 1,
-            Ok(refusal) => refusals[refusal as usize] += 1,
-            Err(difference) => {
-                differences += 1;
-                if differences <= TOLD {
-                    println!("seed {seed} ({}): {difference}", CLASSES[class].0);
+/// What the comparison of some seeds counts, and the differences it tells.
+struct Tally {
+    /// Of each class the files made and the files accepted.
+    files: [[u64; 2]; CLASSES.len()],
+    refusals: [u64; 32],
+    of_files: Questions,
+    by_hand: Questions,
+    differences: u64,
+    told: Vec<String>,
+}
+
+impl Tally {
+    /// Nothing counted.
+    fn new() -> Self {
+        let questions = Questions::default();
+        let (of_files, by_hand) = (questions, questions);
+        Tally { files: [[0; 2]; CLASSES.len()], refusals: [0; 32], of_files, by_hand, differences: 0, told: Vec::new() }
+    }
+
+    /// Compares the files and the tables made by hand of some seeds.
+    fn of(seeds: Range<u64>) -> Self {
+        let (mut maker, mut guarded, mut comparison) = (Maker::new(), Guarded::new(1 << 16), Comparison::new());
+        let (mut by_hand, mut tally) = (ByHand::new(), Tally::new());
+        for seed in seeds {
+            let class = (seed % CLASSES.len() as u64) as usize;
+            tally.files[class][0] += 1;
+            let file = comparison.compare(guarded.hold(maker.make(seed)), seed, &mut Library, &mut Library);
+            match file.and_then(|refusal| by_hand.compare(seed, &mut Library).map(|()| refusal)) {
+                Ok(0) => tally.files[class][1] += 1,
+                Ok(refusal) => tally.refusals[refusal as usize] += 1,
+                Err(difference) => {
+                    tally.differences += 1;
+                    if tally.differences <= TOLD {
+                        tally.told.push(format!("seed {seed} ({}): {difference}", CLASSES[class].0));
+                    }
                 }
             }
         }
+        tally.of_files = comparison.questions();
+        tally.by_hand = by_hand.questions;
+        tally
     }
-    for (class, [made, accepted]) in CLASSES.iter().zip(files) {
+
+    /// Counts what another tally has counted too.
+    fn add(&mut self, other: Tally) {
+        let counts = other.files.as_flattened().iter().chain(&other.refusals);
+        let sums = self.files.as_flattened_mut().iter_mut().chain(&mut self.refusals);
+        sums.zip(counts).for_each(|(sum, count)| *sum += count);
+        self.of_files += other.of_files;
+        self.by_hand += other.by_hand;
+        self.differences += other.differences;
+        self.told.extend(other.told);
+    }
+}
+
+/// Compares the files and the tables made by hand of `count` seeds, a part of them on each processor; tells the files of
+/// each class, the refusals, the questions, and the differences.
+pub fn compare(first: u64, count: u64) -> bool {
+    let parts = thread::available_parallelism().map_or(1, |parts| parts.get() as u64);
+    let border = |part: u64| first + count * part / parts;
+    let mut tally = Tally::new();
+    thread::scope(|scope| {
+        let run = |part: u64| scope.spawn(move || Tally::of(border(part)..border(part + 1)));
+        for part in (0..parts).map(run).collect::<Vec<_>>() {
+            tally.add(part.join().expect("a comparison ends"));
+        }
+    });
+    tally.told.iter().take(TOLD as usize).for_each(|difference| println!("{difference}"));
+    for (class, [made, accepted]) in CLASSES.iter().zip(tally.files) {
         println!("{:<40} {made:>8} files {accepted:>8} accepted", class.0);
     }
-    for (refusal, times) in refusals.iter().enumerate().filter(|(_, times)| **times > 0) {
+    for (refusal, times) in tally.refusals.iter().enumerate().filter(|(_, times)| **times > 0) {
         println!("refused by {refusal} {times:>37} files");
     }
-    tell("the files' tables", comparison.questions());
-    tell("tables made by hand", by_hand.questions);
-    println!("{count} files and {count} sets of tables made by hand compared, {differences} differences");
-    differences == 0
+    tell("the files' tables", tally.of_files);
+    tell("tables made by hand", tally.by_hand);
+    println!("{count} files and {count} sets of tables made by hand compared, {} differences", tally.differences);
+    tally.differences == 0
 }
 
 /// Tells how many questions were asked.

@@ -1,4 +1,6 @@
-//! The wrong rules of questions that the comparison must catch, one at a time.
+//! The wrong rules of questions that the comparison must catch, one at a time and in one question at a time.
+
+use crate::answers::{EACH, Question, Question::*};
 
 /// Which rule an answerer has wrong.
 #[derive(Clone, Copy, PartialEq, Eq, Debug)]
@@ -10,22 +12,42 @@ pub enum WrongAnswer {
     LatestOfEqualsAfter,
     BeforeOnly,
     AfterIncludesEqual,
-    EmptyMapRowZero,
     AllLaterNone,
     AllLaterLeast,
     SearchedByHalves,
     FirstAfter,
     SignedTimes,
+    EmptyMapRowZero,
     RowOfWholeTable,
+    EmptyMapPacketZero,
+    RowForPacket,
+    TimeForPacket,
+    ByteForPacket,
+    PacketOfWholeTable,
+    FirstMapForPrimary,
+    EmptyPrimaryPassedOver,
+    NoMapsRefused,
+    LeastForFirst,
+    LastForFirst,
+    FirstOfWholeTable,
+    GreatestForLast,
+    FirstForLast,
+    LastOfWholeTable,
+    EmptyMapTimeZero,
     SpanGreatestLessLeast,
     SpanWraps,
     EmptySpanNone,
-    // primary map
+    // maps
     PrimaryByPidFirst,
-    TypeNotMasked,
     Type8NotFirst,
     LatestOfEqualPids,
-    // times of STCs
+    TypeNotMasked,
+    KindNotMasked,
+    OtherKindsAlike,
+    LastOfKind,
+    Type8NotVideo,
+    AnyMap,
+    // STCs and their times
     EndNotDoubled,
     EndOfLastRow,
     MinutesRoundedUp,
@@ -41,93 +63,264 @@ pub enum WrongAnswer {
     PresentationNoneWithoutRows,
     DurationNotDoubled,
     DurationWraps,
-    // packets
+    FirstStcOfNone,
+    FirstStcByPacket,
+    FirstStcByTime,
+    IdWithoutOffset,
+    IdWraps,
+    OffsetOf8Bits,
+    IdAtTheEnd,
+    IdWithinAtc,
+    IdInFirstAtcAlone,
+    IdInLastAtc,
+    FirstWithPacket,
+    PacketBelowAlone,
+    PacketSearchStops,
+    GreatestPacket,
+    PacketBeforeAllFirst,
+    PacketWithinAtc,
+    PacketInAllAtcs,
+    // packets and seconds
     PacketCountRefused,
     ByteAtCountAccepted,
+    ByteOf32Bits,
     PacketBytesOf32Bits,
     PacketsOf188,
-    ByteOf32Bits,
-    // streams
-    LastStream,
-    LastVideo,
+    LastByteForLength,
+    NoRateInfinite,
+    NoRateZeroSeconds,
+    WholeSeconds,
+    SecondsOf32Bits,
+    SecondsByInverse,
+    SecondsCutOff,
+    PacketsForBytes,
+    // programs, streams and extensions
+    LastWithPid,
     PidOf16Bits,
-    VideoOf8Bits,
+    PacketForPid,
+    LastVideo,
+    CodingOf8Bits,
+    AnyStream,
     Type20NotVideo,
-    PidOfFirstStream,
-    // refusals and rows
+    Type86NotAudio,
+    AudioToTheEight,
+    SecondaryNotAudio,
+    AllButVideoAudio,
+    LastWithIds,
+    FirstIdAlone,
+    SecondIdAlone,
+    IdsSwapped,
+    IdsOf16Bits,
+    // rows
+    FromIgnored,
+    FromLeftOut,
+    CountedFromThere,
+    LastFromThere,
+    FromAtTheEndRefused,
+    RowsFromTheEnd,
+    RowsFromZero,
+    RowsOfNoneFromZero,
+    EndForTheCount,
+    CountAndFirstSwapped,
+    UnstatedRowsSeen,
+    NothingLookedAt,
+    ValueBesideNone,
+    // refusals
     SumsNotTested,
     SumsOf32Bits,
-    SumsToTheMap,
+    SumsToTheRow,
     SumsNotAbove,
+    SumsNotBelow,
     RowAtTheEnd,
     MoreStatedThanLent,
     PartialRowCounts,
+    FirstTableNotTested,
     SecondTableNotTested,
-    UnstatedRowsSeen,
     RefusedByNone,
-    ValueBesideNone,
 }
 
 use WrongAnswer::*;
 
 /// The wrong rules that no file can show: its cells are never wide enough.
-pub const NOT_BY_FILES: &[WrongAnswer] = &[TypeNotMasked, PidOf16Bits, VideoOf8Bits];
+pub const NOT_BY_FILES: &[WrongAnswer] = &[TypeNotMasked, PidOf16Bits, CodingOf8Bits, OffsetOf8Bits, IdsOf16Bits];
 
-/// Every wrong rule, in words.
-pub const WRONG_ANSWERS: &[(WrongAnswer, &str)] = &[
-    (LatestOfEquals, "at or before: the latest of equal times"),
-    (LatestOfEqualsAfter, "after: the latest of equal times"),
-    (BeforeOnly, "at or before: a time that is equal left out"),
-    (AfterIncludesEqual, "after: a time that is equal taken"),
-    (EmptyMapRowZero, "row 0 of an empty map"),
-    (AllLaterNone, "none where all times are later"),
-    (AllLaterLeast, "the least time where all are later"),
-    (SearchedByHalves, "at or before searched by halves in any order"),
-    (FirstAfter, "after: the first row above, not the least time"),
-    (SignedTimes, "times compared as signed numbers"),
-    (RowOfWholeTable, "entry rows counted from the table's start"),
-    (SpanGreatestLessLeast, "a map's span from its least to its greatest time"),
-    (SpanWraps, "a map's span wrapped below 0"),
-    (EmptySpanNone, "no span in an empty map"),
-    (PrimaryByPidFirst, "the primary map by the least PID first"),
-    (TypeNotMasked, "a map's type not masked to four bits"),
-    (Type8NotFirst, "type 8 not before the other video types"),
-    (LatestOfEqualPids, "the latest map of equal PIDs"),
-    (EndNotDoubled, "minutes: the end not doubled"),
-    (EndOfLastRow, "minutes: the last row's end, not the latest"),
-    (MinutesRoundedUp, "minutes rounded up"),
-    (MinutesNearest, "minutes rounded to the nearest"),
-    (MinutesOf45k, "minutes of 45 kHz ticks"),
-    (MinutesWrap, "minutes wrapped below 0"),
-    (MinutesNoneWithoutRows, "no minutes without STCs"),
-    (AtOf32Bits, "minutes: the time taken at 32 bits"),
-    (DoubledIn32Bits, "minutes: the end doubled in 32 bits"),
-    (PresentationNotDoubled, "the presentation span not doubled"),
-    (StartOfFirstRow, "the presentation span from the first row's start"),
-    (PresentationWraps, "the presentation span wrapped below 0"),
-    (PresentationNoneWithoutRows, "no presentation span without STCs"),
-    (DurationNotDoubled, "the 90 kHz duration not doubled"),
-    (DurationWraps, "a duration wrapped below 0"),
-    (PacketCountRefused, "packet number equal to the count not accepted"),
-    (ByteAtCountAccepted, "the byte at the clip's end accepted"),
-    (PacketBytesOf32Bits, "a packet's byte in 32 bits"),
-    (PacketsOf188, "packets of 188 bytes"),
-    (ByteOf32Bits, "a byte number taken at 32 bits"),
-    (LastStream, "the last stream with a PID"),
-    (LastVideo, "the last video stream"),
-    (PidOf16Bits, "a stream's PID cell taken at 16 bits"),
-    (VideoOf8Bits, "a coding type cell taken at 8 bits"),
-    (Type20NotVideo, "coding type 0x20 not video"),
-    (PidOfFirstStream, "the first stream's PID, video or not"),
-    (SumsNotTested, "entry counts not added up"),
-    (SumsOf32Bits, "entry counts added up in 32 bits"),
-    (SumsToTheMap, "entry counts added up to the map only"),
-    (SumsNotAbove, "entry counts that add up to less accepted"),
-    (RowAtTheEnd, "a row number equal to the rows stated"),
-    (MoreStatedThanLent, "more rows stated than lent"),
-    (PartialRowCounts, "a partial row counted as a row"),
-    (SecondTableNotTested, "more entries stated than lent"),
-    (UnstatedRowsSeen, "rows lent beyond those stated looked at"),
-    (RefusedByNone, "none told for a row that isn't there"),
-    (ValueBesideNone, "a value told beside none"),
+/// The questions that a rule is a rule of.
+type Of = fn(Question) -> bool;
+
+// By what a question looks for.
+const BEFORE: Of = |q| matches!(q, EntryAtOrBefore(..) | SeekSpn(..) | PrimarySeekSpn(_));
+const AFTER: Of = |q| matches!(q, EntryAfter(..) | NextSeekSpn(..) | PrimaryNextSeekSpn(_));
+const LOOKUPS: Of = Question::is_lookup;
+const ROWS_BY_TIME: Of = |q| matches!(q, EntryAtOrBefore(..) | EntryAfter(..));
+const PACKETS_BY_TIME: Of = |q| q.is_lookup() && !ROWS_BY_TIME(q);
+const IN_PRIMARY: Of = |q| matches!(q, PrimarySeekSpn(_) | PrimaryNextSeekSpn(_));
+const FIRST_PTS: Of = |q| matches!(q, FirstPts(_));
+const LAST_PTS: Of = |q| matches!(q, LastPts(_));
+const BOTH_PTS: Of = |q| FIRST_PTS(q) || LAST_PTS(q);
+const MAP_SPAN: Of = |q| matches!(q, IndexedSpan(_));
+const BY_PRIMARY: Of = |q| matches!(q, PrimaryMap | PrimarySeekSpn(_) | PrimaryNextSeekSpn(_));
+const BY_KIND: Of = |q| matches!(q, MapByKind(_));
+const NEXT_MAP: Of = |q| matches!(q, NextVideoMap(_));
+const BY_TYPE: Of = |q| BY_PRIMARY(q) || BY_KIND(q) || NEXT_MAP(q);
+const MINUTES: Of = |q| matches!(q, MinutesRemaining(_));
+const WHOLE_SPAN: Of = |q| q == PresentationSpan;
+const DURATIONS: Of = |q| matches!(q, Duration45k(_) | Duration90k(_));
+const DURATION_90K: Of = |q| matches!(q, Duration90k(_));
+const FIRST_STC: Of = |q| q == FirstStc;
+const BY_ID: Of = |q| matches!(q, StcById(_));
+const BY_PACKET: Of = |q| matches!(q, StcForSpn(..));
+const PACKET_BYTE: Of = |q| matches!(q, SpnToByte(_));
+const BYTE_PACKET: Of = |q| matches!(q, ByteToSpn(_));
+const LENGTH: Of = |q| q == ClipByteLen;
+const SECONDS: Of = |q| q == TransferDuration;
+const TO_BYTES: Of = |q| PACKET_BYTE(q) || LENGTH(q) || SECONDS(q);
+const OF_PACKETS: Of = |q| TO_BYTES(q) || BYTE_PACKET(q);
+const PROGRAM: Of = |q| matches!(q, ProgramByPmtPid(_));
+const BY_PID: Of = |q| matches!(q, ProgramByPmtPid(_) | StreamByPid(_));
+const VIDEO_PID: Of = |q| q == PrimaryVideoPid;
+const VIDEO: Of = |q| matches!(q, PrimaryVideoPid | NextVideoStream(_));
+const AUDIO: Of = |q| matches!(q, NextAudioStream(_));
+const BY_CODING: Of = |q| VIDEO(q) || AUDIO(q);
+const BY_IDS: Of = |q| matches!(q, ExtensionEntry(..));
+
+// By the form of a question.
+const NEXT: Of = |q| matches!(q, NextVideoStream(_) | NextAudioStream(_) | NextVideoMap(_));
+const OWN: Of = Question::is_of_rows;
+const TABLES: Of = |q| !q.tables().is_empty();
+const COUNTED: Of = |q| q.counted().is_some();
+const NAMED_ROW: Of = |q| q.about_row(0).is_some();
+const COUNTED_ROW: Of = |q| COUNTED(q) && NAMED_ROW(q);
+const ANY: Of = |_| true;
+const MAYBE_NONE: Of = |q| !(OWN(q) || MINUTES(q) || WHOLE_SPAN(q) || DURATIONS(q) || MAP_SPAN(q) || LENGTH(q));
+
+/// Every wrong rule, in words, with the questions that have it.
+pub const WRONG_ANSWERS: &[(WrongAnswer, &str, Of)] = &[
+    (LatestOfEquals, "at or before: the latest of equal times", BEFORE),
+    (LatestOfEqualsAfter, "after: the latest of equal times", AFTER),
+    (BeforeOnly, "at or before: a time that is equal left out", BEFORE),
+    (AfterIncludesEqual, "after: a time that is equal taken", AFTER),
+    (AllLaterNone, "none where all times are later", BEFORE),
+    (AllLaterLeast, "the least time where all are later", BEFORE),
+    (SearchedByHalves, "at or before searched by halves in any order", BEFORE),
+    (FirstAfter, "after: the first row above, not the least time", AFTER),
+    (SignedTimes, "times compared as signed numbers", LOOKUPS),
+    (EmptyMapRowZero, "row 0 of an empty map", ROWS_BY_TIME),
+    (RowOfWholeTable, "entry rows counted from the table's start", ROWS_BY_TIME),
+    (EmptyMapPacketZero, "packet 0 in an empty map", PACKETS_BY_TIME),
+    (RowForPacket, "an entry's row for its packet", PACKETS_BY_TIME),
+    (TimeForPacket, "an entry's time for its packet", PACKETS_BY_TIME),
+    (ByteForPacket, "the byte of an entry's packet", PACKETS_BY_TIME),
+    (PacketOfWholeTable, "the packet of a row counted from the table's start", PACKETS_BY_TIME),
+    (FirstMapForPrimary, "the first map for the primary one", IN_PRIMARY),
+    (EmptyPrimaryPassedOver, "another map where the primary one is empty", IN_PRIMARY),
+    (NoMapsRefused, "22 without maps", IN_PRIMARY),
+    (LeastForFirst, "the least time for the first", FIRST_PTS),
+    (LastForFirst, "the last time for the first", FIRST_PTS),
+    (FirstOfWholeTable, "the first time of the table, not of the map", FIRST_PTS),
+    (GreatestForLast, "the greatest time for the last", LAST_PTS),
+    (FirstForLast, "the first time for the last", LAST_PTS),
+    (LastOfWholeTable, "the last time of the table, not of the map", LAST_PTS),
+    (EmptyMapTimeZero, "time 0 in an empty map", BOTH_PTS),
+    (SpanGreatestLessLeast, "a map's span from its least to its greatest time", MAP_SPAN),
+    (SpanWraps, "a map's span wrapped below 0", MAP_SPAN),
+    (EmptySpanNone, "no span in an empty map", MAP_SPAN),
+    (PrimaryByPidFirst, "the primary map by the least PID first", BY_PRIMARY),
+    (Type8NotFirst, "type 8 not before the other video types", BY_PRIMARY),
+    (LatestOfEqualPids, "the latest map of equal PIDs", BY_PRIMARY),
+    (TypeNotMasked, "a map's type not masked to four bits", BY_TYPE),
+    (KindNotMasked, "the type asked for not masked to four bits", BY_KIND),
+    (OtherKindsAlike, "types that aren't video taken for one", BY_KIND),
+    (LastOfKind, "the last map of a type", BY_KIND),
+    (Type8NotVideo, "maps of type 8 not video", NEXT_MAP),
+    (AnyMap, "any map, video or not", NEXT_MAP),
+    (EndNotDoubled, "minutes: the end not doubled", MINUTES),
+    (EndOfLastRow, "minutes: the last row's end, not the latest", MINUTES),
+    (MinutesRoundedUp, "minutes rounded up", MINUTES),
+    (MinutesNearest, "minutes rounded to the nearest", MINUTES),
+    (MinutesOf45k, "minutes of 45 kHz ticks", MINUTES),
+    (MinutesWrap, "minutes wrapped below 0", MINUTES),
+    (MinutesNoneWithoutRows, "no minutes without STCs", MINUTES),
+    (AtOf32Bits, "minutes: the time taken at 32 bits", MINUTES),
+    (DoubledIn32Bits, "minutes: the end doubled in 32 bits", MINUTES),
+    (PresentationNotDoubled, "the presentation span not doubled", WHOLE_SPAN),
+    (StartOfFirstRow, "the presentation span from the first row's start", WHOLE_SPAN),
+    (PresentationWraps, "the presentation span wrapped below 0", WHOLE_SPAN),
+    (PresentationNoneWithoutRows, "no presentation span without STCs", WHOLE_SPAN),
+    (DurationNotDoubled, "the 90 kHz duration not doubled", DURATION_90K),
+    (DurationWraps, "a duration wrapped below 0", DURATIONS),
+    (FirstStcOfNone, "row 0 without STCs", FIRST_STC),
+    (FirstStcByPacket, "the STC with the least packet for the first", FIRST_STC),
+    (FirstStcByTime, "the STC with the least start for the first", FIRST_STC),
+    (IdWithoutOffset, "an STC's id not less its ATC's offset id", BY_ID),
+    (IdWraps, "an STC's id less the offset id wrapped below 0", BY_ID),
+    (OffsetOf8Bits, "an offset id cell taken at 8 bits", BY_ID),
+    (IdAtTheEnd, "an STC's id one beyond its ATC's rows", BY_ID),
+    (IdWithinAtc, "an STC's row by id counted within its ATC", BY_ID),
+    (IdInFirstAtcAlone, "an STC's id looked for in the first ATC alone", BY_ID),
+    (IdInLastAtc, "the last ATC that has an STC's id", BY_ID),
+    (FirstWithPacket, "the first STC whose packet is at most the one given", BY_PACKET),
+    (PacketBelowAlone, "an STC's packet that is equal left out", BY_PACKET),
+    (PacketSearchStops, "no STC looked at behind one that starts later", BY_PACKET),
+    (GreatestPacket, "the STC with the greatest packet, not the last", BY_PACKET),
+    (PacketBeforeAllFirst, "the first STC where all start later", BY_PACKET),
+    (PacketWithinAtc, "an STC's row by packet counted within its ATC", BY_PACKET),
+    (PacketInAllAtcs, "STCs of all ATCs looked at for a packet", BY_PACKET),
+    (PacketCountRefused, "packet number equal to the count not accepted", PACKET_BYTE),
+    (ByteAtCountAccepted, "the byte at the clip's end accepted", BYTE_PACKET),
+    (ByteOf32Bits, "a byte number taken at 32 bits", BYTE_PACKET),
+    (PacketBytesOf32Bits, "a packet's byte in 32 bits", TO_BYTES),
+    (PacketsOf188, "packets of 188 bytes", OF_PACKETS),
+    (LastByteForLength, "the last byte's number for the length", LENGTH),
+    (NoRateInfinite, "infinite seconds at rate 0", SECONDS),
+    (NoRateZeroSeconds, "0 seconds found at rate 0", SECONDS),
+    (WholeSeconds, "whole seconds", SECONDS),
+    (SecondsOf32Bits, "seconds of 32 bits", SECONDS),
+    (SecondsByInverse, "seconds by the inverse of the rate", SECONDS),
+    (SecondsCutOff, "seconds cut off, not rounded", SECONDS),
+    (PacketsForBytes, "seconds of packets, not of bytes", SECONDS),
+    (LastWithPid, "the last row with a PID", BY_PID),
+    (PidOf16Bits, "a PID cell taken at 16 bits", BY_PID),
+    (PacketForPid, "a program's packet for its PID", PROGRAM),
+    (LastVideo, "the last video stream", VIDEO_PID),
+    (CodingOf8Bits, "a coding type cell taken at 8 bits", BY_CODING),
+    (AnyStream, "any stream, of the kind or not", BY_CODING),
+    (Type20NotVideo, "coding type 0x20 not video", VIDEO),
+    (Type86NotAudio, "coding type 0x86 not audio", AUDIO),
+    (AudioToTheEight, "all coding types of 0x80 to 0x8F audio", AUDIO),
+    (SecondaryNotAudio, "secondary audio not audio", AUDIO),
+    (AllButVideoAudio, "all that isn't video audio", AUDIO),
+    (LastWithIds, "the last extension with two ids", BY_IDS),
+    (FirstIdAlone, "an extension by its first id alone", BY_IDS),
+    (SecondIdAlone, "an extension by its second id alone", BY_IDS),
+    (IdsSwapped, "an extension's ids swapped", BY_IDS),
+    (IdsOf16Bits, "an extension's id cells taken at 16 bits", BY_IDS),
+    (FromIgnored, "the next one looked for from row 0", NEXT),
+    (FromLeftOut, "the next one looked for behind the row given", NEXT),
+    (CountedFromThere, "the next one's row counted from the row given", NEXT),
+    (LastFromThere, "the last one from the row given on", NEXT),
+    (FromAtTheEndRefused, "22 where the row given is beyond the rows", NEXT),
+    (RowsFromTheEnd, "own rows from behind the last of them", OWN),
+    (RowsFromZero, "own rows from row 0", OWN),
+    (RowsOfNoneFromZero, "no own rows told from row 0", OWN),
+    (EndForTheCount, "the end of own rows for their count", OWN),
+    (CountAndFirstSwapped, "count and first of own rows swapped", OWN),
+    (UnstatedRowsSeen, "rows lent beyond those stated looked at", TABLES),
+    (NothingLookedAt, "none before a row was looked at", ANY),
+    (ValueBesideNone, "a value told beside none", MAYBE_NONE),
+    (SumsNotTested, "counts not added up", COUNTED),
+    (SumsOf32Bits, "counts added up in 32 bits", COUNTED),
+    (SumsToTheRow, "counts added up to the row asked about", COUNTED_ROW),
+    (SumsNotAbove, "counts that add up to less accepted", COUNTED),
+    (SumsNotBelow, "counts that add up to more accepted", COUNTED),
+    (RowAtTheEnd, "a row number equal to the rows stated", NAMED_ROW),
+    (MoreStatedThanLent, "more rows stated than lent", TABLES),
+    (PartialRowCounts, "a partial row counted as a row", TABLES),
+    (FirstTableNotTested, "more rows stated than lent of the table of counts", COUNTED),
+    (SecondTableNotTested, "more rows stated than lent of the table counted", COUNTED),
+    (RefusedByNone, "none told for a refusal", TABLES),
 ];
+
+/// The questions that have a rule.
+pub fn questions_of(of: Of) -> impl Iterator<Item = Question> {
+    EACH.into_iter().filter(move |question| of(*question))
+}

@@ -1,3 +1,2 @@
--- What the bit reader and writer answer, and the packed rows as the code's structs.
+-- What the bit reader and writer answer.
 pub mod Words
-pub mod Rows

@@ -4,7 +4,7 @@ use mathlib.Core.Path.{_≡_, refl, sym, subst}
 use lib.IntN.{pos}
 use lib.Ieee.{binary64, ofInt, div}
 use borrow.Author.Tests.{eq-eqb, ne-eqb, le-leb, lt-leb, lt-ltb, le-ltb}
-use Rattle.format.specs.Questions.{none, number, seconds, noRate, spnToByte, byteToSpn, transferDurationSecs, byteOf, spnOf, transferSecs, IsTransfer, answer, ask}
+use Rattle.format.specs.Questions.{clipByteLen, none, number, seconds, noRate, spnToByte, byteToSpn, transferDurationSecs, byteOf, spnOf, transferSecs, IsTransfer, answer, ask}
 use Rattle.format.specs.Tables.{clipIn}
 use Rattle.format.proofs.Rounding.{transfer-near}
 use Rattle.queries.specs.Asked.{onlyCounts, onlyScalars}
@@ -39,3 +39,9 @@ module _ (rate packets : ℕ) where
   pub near : (rate ≡ 0 → ⊥) → rate < 2 ^ 32 → packets < 2 ^ 32 → IsTransfer rate packets (seconds (div binary64 (ofInt binary64 (pos (packets * 192))) (ofInt binary64 (pos rate))))
   unfolding transferSecs
   near h r p = rw (ne-eqb rate 0 h) at (transfer-near rate packets r p)
+
+-- ---- the clip's length
+
+pub len-is : (packets : ℕ) → number (packets * 192) ≡ ask clipByteLen (onlyScalars (onlyCounts 0 packets))
+unfolding ask answer clipIn
+len-is packets = refl

@@ -1,6 +1,6 @@
 // Questions about the packet count and the rate.
 ghost use mathlib.Core.Path.{_≡_};
-ghost use Rattle.format.specs.Questions.{ask, spnToByte, byteToSpn, transferDurationSecs, IsTransfer};
+ghost use Rattle.format.specs.Questions.{number, ask, clipByteLen, spnToByte, byteToSpn, transferDurationSecs, IsTransfer};
 ghost use Rattle.queries.specs.Answers.{foundOf};
 ghost use Rattle.queries.specs.Asked.{onlyCounts, onlyScalars};
 ghost use Rattle.clip_info_queries.specs.Durations.{durationOf};
@@ -13,6 +13,13 @@ const PACKET: u64 = 192;
 pub enum Duration {
     Seconds(f64),
     NoRate,
+}
+
+// The clip's length in bytes.
+pub fn clip_byte_len(packets: u32) -> u64
+    ensures { λ r. ⌜ number r ≡ ask clipByteLen (onlyScalars (onlyCounts 0 packets)) ⌝ }
+{
+    (packets as u64) * PACKET
 }
 
 // The byte at which a packet starts; the packet count itself gives the clip's end.

@@ -23,8 +23,8 @@ use Rattle.sequence_info.specs.Sequences as Sequences
 use Rattle.program_info.specs.Programs.{Fillable}
 use Rattle.cpi.specs.Maps as Maps
 use Rattle.clip_information.specs.Fill.{SectionsFit, ListFits, MarksThere}
-use Rattle.clip_information.proofs.Laws.{both-pass}
-use Rattle.clip_information.proofs.PrepareLaws.{accepted-bounds}
+use Rattle.clip_sections.proofs.Laws.{both-pass}
+use Rattle.clip_sections.proofs.PrepareLaws.{accepted-bounds}
 
 -- ---- the sections
 

@@ -1,6 +1,4 @@
 -- Laws that the proofs of this crate cite.
 pub mod Laws
-pub mod ListLaws
-pub mod PrepareLaws
 pub mod FillLaws
 pub mod ReadLaws

@@ -1,7 +1,4 @@
 -- What the functions of this crate promise.
-pub mod Clips
-pub mod Room
-pub mod Lists
+pub mod Infos
 pub mod Fill
-pub mod Prepare
 pub mod Read

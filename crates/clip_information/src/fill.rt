@@ -4,9 +4,9 @@ ghost use Rattle.format.specs.ClipRecord.{marksFrom};
 ghost use Rattle.format.specs.Reading.{clipOf, recordOf};
 ghost use Rattle.format.specs.Tables.{tableBytes, overwritten};
 ghost use Rattle.clip_information.specs.Fill.{SectionsFit, ListFits, MarksThere};
-use common::numbers::u16_at;
-use common::numbers::u32_at;
 use extension::ListData;
+use numbers::u16_at;
+use numbers::u32_at;
 
 // Tables 1 to 6; the maps are counted already.
 pub(crate) fn fill_sections(

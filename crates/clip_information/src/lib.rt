@@ -1,7 +1,4 @@
-// A clip file read whole: every section is measured, then the lent tables, and only then are rows put into them.
+// A clip file read whole: once it is measured and the lent tables have room, rows are put into them and the scalars are told.
 pub mod fill;
-pub mod list;
-pub mod prepare;
+pub mod info;
 pub mod read;
-pub mod sections;
-pub mod tables;

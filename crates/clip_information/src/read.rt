@@ -5,12 +5,12 @@ ghost use Rattle.clip_information.specs.Read.{answerOf, nineTables};
 use crate::fill::fill_list;
 use crate::fill::fill_sections;
 use crate::fill::mark_count;
-use crate::prepare::Prepared;
-use crate::prepare::prepare;
-use crate::sections::ClipInfo;
-use crate::sections::clip_info;
-use crate::tables::Rows;
-use common::numbers::u32_at;
+use crate::info::ClipInfo;
+use crate::info::clip_info;
+use clip_sections::prepare::Prepared;
+use clip_sections::prepare::prepare;
+use clip_sections::tables::Rows;
+use numbers::u32_at;
 
 // What is stated of an accepted file beside its rows: the scalars, the number of marks, the rows of each table, and whether it has a (2, 5) list; or a refusal's number; or the lowest table that is too short and the rows it needs.
 pub enum Answer {

@@ -11,9 +11,9 @@ use Rattle.format.specs.Refusals.{readAnswer, readNumbers, flag, tablesOf, stat
 use Rattle.format.specs.Tables.{Nine, Table}
 use Rattle.format.proofs.Counts.{tables-few, needed-few}
 use Rattle.format.proofs.Listing.{accepted-is}
-use Rattle.extension.specs.Part.{partOf}
-use Rattle.extension.specs.declared.Part.{Part}
-use Rattle.extension.proofs.Laws.{given, not-given}
+use Rattle.extension_entry.specs.Part.{partOf}
+use Rattle.extension_entry.specs.declared.Part.{Part}
+use Rattle.extension_entry.proofs.Laws.{given, not-given}
 use Rattle.clip_information.specs.Read.{answerOf, nineTables}
 use Rattle.clip_information.specs.declared.read.Answer.{Answer}
 use Rattle.clpi.specs.Numbers.{CountsFit}

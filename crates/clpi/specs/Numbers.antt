@@ -2,11 +2,10 @@
 use Prim.Native.Nat.{ℕ, _≤_}
 use mathlib.Core.List.{List, [], _∷_}
 use lib.ListN.{replicate}
-use Rattle.clip_information.specs.declared.tables.Rows.{Rows}
+use Rattle.clip_sections.specs.declared.tables.Rows.{Rows}
 use Rattle.clip_information.specs.declared.read.Answer.{Answer}
 use Rattle.clpi.specs.declared.read.ClpiReading.{ClpiReading}
 use Rattle.clpi.specs.declared.extension_data.ClpiPart.{ClpiPart}
-use Rattle.clpi.specs.declared.questions.ClpiAnswer.{ClpiAnswer}
 
 -- the 21 numbers of reading's answer
 abbrev pub readingNumbers : ClpiReading → List ℕ
@@ -24,10 +23,6 @@ refusedNumbers refusal table rows = refusal ∷ table ∷ rows ∷ replicate 18 
 -- the three numbers of an extension's data
 abbrev pub partNumbers : ClpiPart → List ℕ
 partNumbers p = p .refusal ∷ p .offset ∷ p .length ∷ []
-
--- the three numbers of a question's answer
-abbrev pub foundNumbers : ClpiAnswer → List ℕ
-foundNumbers a = a .refusal ∷ a .found ∷ a .value ∷ []
 
 -- counts of rows that 32 bits can hold: none is above 66,846,465
 pub record RowsFit (rows : Rows) : Type 0 where

@@ -1,10 +1,16 @@
-// An extension's data, as a place in the file.
+// The extension with two ids, and an extension's data as a place in the file.
 ghost use mathlib.Core.Path.{_≡_};
+ghost use Rattle.format.specs.Questions.{answerNumbers};
 ghost use Rattle.format.specs.Refusals.{dataNumbers};
-ghost use Rattle.extension.specs.Part.{tableOf};
+ghost use Rattle.extension_entry.specs.Part.{tableOf};
+ghost use Rattle.extension_queries.specs.ById.{askEntry};
+ghost use Rattle.queries.specs.Asked.{stated};
+ghost use Rattle.clpi_answers.specs.Numbers.{foundNumbers};
 ghost use Rattle.clpi.specs.Numbers.{partNumbers};
-use extension::Part;
-use extension::data_place;
+use clpi_answers::ClpiAnswer;
+use clpi_answers::answer_of;
+use extension_entry::Part;
+use extension_entry::data_place;
 
 // Where the data of a row stands, or 22 and zeros.
 #[repr(C)]
@@ -36,4 +42,17 @@ pub extern "C" fn clpi_extension_data(
         offset: start,
         length: len,
     }
+}
+
+// The row of the first extension with two ids.
+#[no_mangle]
+pub extern "C" fn clpi_extension_entry(
+    extensions: &[u8],
+    rows: u32,
+    id1: u16,
+    id2: u16,
+) -> ClpiAnswer
+    ensures { λ r. ⌜ foundNumbers r ≡ answerNumbers (askEntry (stated (now (extensions .entry)) rows) id1 id2) ⌝ }
+{
+    answer_of(extension_queries::entry(extensions, rows, id1, id2))
 }

@@ -2,7 +2,7 @@
 ghost use mathlib.Core.Path.{_≡_};
 ghost use Rattle.format.specs.ClipRecord.{areLetters};
 ghost use Rattle.common.specs.Header.{headerOf};
-use crate::numbers::u32_at;
+use numbers::u32_at;
 
 // What the front of a file says.
 pub enum BdmvHeader {

@@ -1,5 +1,3 @@
-// What every section is read and written with: numbers in files, cells of tables, the reader, the header.
-pub mod cells;
+// What every section is read with: the reader and the header.
 pub mod header;
-pub mod numbers;
 pub mod reader;

@@ -4,10 +4,10 @@ ghost use Prim.Native.Nat.{_+_, _-_};
 ghost use lib.ListN.{length};
 ghost use lib.Dec.{leb};
 ghost use Rattle.common.specs.Reader.{start, movedTo, partAt, NumberIs};
-use crate::numbers::u8_at;
-use crate::numbers::u16_at;
-use crate::numbers::u32_at;
-use crate::numbers::u64_at;
+use numbers::u8_at;
+use numbers::u16_at;
+use numbers::u32_at;
+use numbers::u64_at;
 
 // A place in a buffer; it may lie past the end.
 pub struct Reader {

@@ -14,8 +14,8 @@ use Rattle.format.proofs.Rows.{rows-length, gather-adds}
 use Rattle.format.proofs.Cpi.{count-by}
 use Rattle.format.proofs.Read.{own-length}
 use Rattle.format.proofs.Loops.{one-left, none-left}
-use Rattle.bits.specs.Rows.{headerOf}
-use Rattle.bits.specs.declared.MapHeader.{MapHeader}
+use Rattle.ep_rows.specs.Rows.{headerOf}
+use Rattle.ep_rows.specs.declared.MapHeader.{MapHeader}
 use Rattle.cpi.specs.Maps.{headOf, mapRows, mapsMeasured, measured, HeadersIn}
 use Rattle.cpi.specs.declared.maps.Head.{Head}
 use Rattle.cpi.specs.declared.maps.MapRows.{MapRows}

@@ -1,4 +1,2 @@
 -- What the functions of this crate promise.
-pub mod Walks
-pub mod Entries
 pub mod Maps

@@ -1,4 +1,2 @@
-// The entry index: its maps, and the entries that coarse and fine rows make. First measured, then put into tables.
-pub mod entries;
+// The entry index: its maps and all their entries. First measured, then put into tables.
 pub mod maps;
-pub mod walk;

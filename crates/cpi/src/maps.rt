@@ -7,16 +7,16 @@ ghost use lib.Seq.{sets};
 ghost use Rattle.format.specs.EntryPoints.{mapAt, entriesOf, fineCountAt, mapsFrom, entriesFrom};
 ghost use Rattle.format.specs.Tables.{rowBytes, tableBytes, overwritten};
 ghost use Rattle.cpi.specs.Maps.{headOf, mapRows, mapsMeasured, measured, HeaderIn, HeadersIn, OneMap, Fill};
-use crate::entries::put_entries;
-use bits::map_header;
-use common::cells::put_row3;
-use common::numbers::u8_at;
-use common::numbers::u16_at;
-use common::numbers::u32_at;
-use common::numbers::u48_at;
+use cells::put_row3;
 use common::reader::Moved;
 use common::reader::Number;
 use common::reader::Reader;
+use ep_entries::entries::put_entries;
+use ep_rows::map_header;
+use numbers::u8_at;
+use numbers::u16_at;
+use numbers::u32_at;
+use numbers::u48_at;
 
 // What the head of the section says: maps, of which the headers are in the file; none; or a length or headers that pass the end.
 pub enum Head {

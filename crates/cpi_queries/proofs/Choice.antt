@@ -1,65 +1,48 @@
--- The choice of the primary map: types that are wanted, the first of them, and the least PID.
-use Prim.Native.Nat.{ℕ, _+_, _*_, _-_, _%_, _<_, _≤_}
+-- The choice of the primary map: the first of a type, the least PID, and the packets that are sought in it.
+use Prim.Native.Nat.{ℕ, zero, suc, _+_, _*_, _-_, _%_, _<_, _≤_}
 use mathlib.Core.Path.{_≡_, refl, sym, ap, _∙_}
 use mathlib.Core.List.{List, [], _∷_, map}
-use mathlib.Core.Bool.{Bool, true, false, not}
+use mathlib.Core.Bool.{Bool, true, false}
 use native.Mathlib.Numerals.{add-one}
 use native.Mathlib.Omega.{arith}
-use lib.Dec.{eqb, ltb, lit<}
-use borrow.Author.Tests.{ne-eqb, lt-ltb, le-ltb, ltb-true, ltb-false, not-true, not-false}
-use Rattle.format.specs.Bytes.{either, pick}
-use Rattle.format.specs.ClipRecord.{Row, mapPid, mapType}
-use Rattle.format.specs.Questions.{Answer, none, number, Best, nothing, best, better, bestOf, firstWhere, rowOr, orElse, isVideoMap, primaryMap, primaryVideoEpMap, answer}
-use Rattle.format.specs.Tables.{cellsAt, tableRows, clipIn, mapCells}
-use Rattle.common.specs.Reads.{CellIs}
-use Rattle.queries.specs.Asked.{stated, onlyMaps}
-use Rattle.queries.proofs.Scans.{rowsLeft, left-all, left-turn, left-done, cell-in, First, first-turn, first-found, first-none}
-use Rattle.cpi_queries.specs.Nearest.{far}
-use Rattle.cpi_queries.specs.PrimaryMap.{wanted, kindOf, leastPid, videoOrLeast}
-use Rattle.cpi_queries.specs.declared.entries.Nearest.{Nearest}
+use lib.Dec.{eqb, ltb, leb, lit<}
+use lib.ListN.{length}
+use borrow.Author.Tests.{ne-eqb, lt-ltb, le-ltb, ltb-true, ltb-false, leb-true, le-leb}
+use Rattle.format.specs.Bytes.{both, pick, every}
+use Rattle.format.specs.ClipRecord.{Row, mapPid, mapType, entryCount}
+use Rattle.format.specs.Questions.{epMapByKind, nextVideoEpMap, primaryVideoEpMap, Answer, refused, none, number, Best, nothing, best, better, bestOf, firstWhere, rowOr, orElse, isVideoMap, kinds, primaryMap, inMap, ofMap, ofPrimaryMap, ownRows, unless22, partsOf, partStated, answer, ask}
+use Rattle.format.specs.Questions as of
+use Rattle.format.specs.Tables.{Table, isStated, addUp, isRow, rowsOf, rowRoom, cellsAt, tableRows, clipIn, mapCells, entryCells}
+use Rattle.format.proofs.Lookups.{NoneOrRow, primary-row, primary-none, primary-empty, primary-rows}
+use Rattle.format.proofs.Rows.{rows-length}
+use Rattle.format.proofs.Tests.{both-true}
+use Rattle.cells.specs.Reads.{CellIs}
+use Rattle.queries.specs.Asked.{stated, onlyMaps, mapsAndEntries}
+use Rattle.table_rows.specs.FirstRow.{askRow}
+use Rattle.table_rows.specs.declared.search.Test.{Test}
+use Rattle.table_rows.proofs.Scans.{rowsLeft, left-all, left-turn, left-done, cell-in}
+use Rattle.table_rows.proofs.FirstRow.{row-answers, through, next-through}
+use Rattle.queries.proofs.Asking.{through-test}
+use Rattle.ep_map_queries.specs.InMap.{seekIn, seekQuestion, primarySeekQuestion}
+use Rattle.ep_map_queries.specs.Nearest.{far}
+use Rattle.cpi_queries.specs.PrimaryMap.{leastPid, videoOrLeast}
+use Rattle.ep_map_queries.specs.declared.entries.Nearest.{Nearest}
+use Rattle.ep_map_queries.proofs.Answers.{seek-asks}
 
--- ---- wanted types
+-- ---- by type
 
-either-false : (b : Bool) → either b false ≡ b
-either-false true = refl
-either-false false = refl
+-- the searches of the type's low four bits
+pub kind-asked : (t : Table) (kind : ℕ) → askRow mapCells 1 0 (Test.Kind (kind % 16)) t ≡ ask (epMapByKind kind) (onlyMaps t)
+unfolding answer clipIn
+kind-asked t kind =
+    row-answers (epMapByKind kind) (onlyMaps t) of.maps mapCells 1 0 (Test.Kind (kind % 16)) t refl refl
+    (through (λ y. y % 16) (λ y. eqb y (kind % 16)) mapType 0 (rowsOf mapCells t))
 
-module _ (any : Bool) (y : ℕ) where
-  pub is-8 : y ≡ 8 → true ≡ wanted any y
-  is-8 e = rw e (by-any any)
-    where
-      by-any : (a : Bool) → true ≡ wanted a 8
-      by-any true = refl
-      by-any false = refl
-
-  pub only-8 : (y ≡ 8 → ⊥) → not any ≡ true → false ≡ wanted any y
-  only-8 h a = rw (not-true any a, ne-eqb y 8 h)
-
-  pub is-1 : not any ≡ false → y ≡ 1 → true ≡ wanted any y
-  is-1 a e = rw (not-false any a, e)
-
-  pub is-5 : not any ≡ false → y ≡ 5 → true ≡ wanted any y
-  is-5 a e = rw (not-false any a, e)
-
-  pub is-6 : (y ≡ 8 → ⊥) → not any ≡ false → (y ≡ 1 → ⊥) → (y ≡ 5 → ⊥) → eqb y 6 ≡ wanted any y
-  is-6 h a f g = rw (not-false any a, ne-eqb y 1 f, ne-eqb y 5 g, ne-eqb y 8 h) (sym (either-false (eqb y 6)))
-
--- ---- the first of a type
-
-module _ (t : List ℕ) (n : ℕ) (any : Bool) where
-  abbrev pub OfType : ℕ → Type 0
-  OfType k = First mapCells t n kindOf (wanted any) k
-
-  module _ (k : ℕ) {v : ℕ} {b : Bool} (h : k < n) (c : CellIs t (12 * k + 4) v) (is : b ≡ wanted any (v % 16)) (i : OfType k) where
-    -- the type that was read is the row's
-    is-kind : b ≡ wanted any (kindOf (cellsAt t mapCells (4 * mapCells * k)))
-    is-kind = is ∙ ap (λ (x : ℕ). wanted any (x % 16)) (cell-in mapCells t n k 1 (lit< tt) refl (c .same))
-
-    pub type-turn : b ≡ false → OfType (k + 1)
-    type-turn f = first-turn mapCells t n kindOf (wanted any) k h i (sym is-kind ∙ f)
-
-    pub type-found : b ≡ true → number k ≡ firstWhere (wanted any) 0 (map kindOf (tableRows mapCells t n))
-    type-found f = first-found mapCells t n kindOf (wanted any) k h i (sym is-kind ∙ f)
+pub video-asked : (t : Table) (from : ℕ) → askRow mapCells 1 from Test.VideoMap t ≡ ask (nextVideoEpMap from) (onlyMaps t)
+unfolding answer clipIn
+video-asked t from =
+    row-answers (nextVideoEpMap from) (onlyMaps t) of.maps mapCells 1 from Test.VideoMap t refl refl
+    (next-through (λ y. y % 16) isVideoMap mapType from (rowsOf mapCells t))
 
 -- ---- the least PID
 
@@ -132,16 +115,132 @@ module _ (t : List ℕ) (n : ℕ) where
 
 -- ---- the choice
 
--- the first search that finds a row answers
+-- an answer that is not none stands
 pub else-found : {a : Answer} {k : ℕ} (later : Answer) → number k ≡ a → number k ≡ orElse a later
 else-found later e = rw (← e)
+
+pub else-refused : {a : Answer} {n : ℕ} (later : Answer) → refused n ≡ a → refused n ≡ orElse a later
+else-refused later e = rw (← e)
 
 -- else the later one
 pub else-later : {a later r : Answer} → none ≡ a → r ≡ later → r ≡ orElse a later
 else-later e f = rw (← e) f
 
 -- the primary map is chosen in this order
-pub choice : (t : List ℕ) (n : ℕ)
-    → orElse (firstWhere (wanted false) 0 (map kindOf (tableRows mapCells t n))) (videoOrLeast (tableRows mapCells t n)) ≡ answer primaryVideoEpMap (clipIn (onlyMaps (stated t n)))
-unfolding answer clipIn primaryMap
-choice t n = refl
+pub choice : (t : Table) → orElse (ask (epMapByKind 8) (onlyMaps t)) (videoOrLeast t) ≡ ask primaryVideoEpMap (onlyMaps t)
+unfolding ask answer clipIn primaryMap
+choice t = go (isStated mapCells t)
+  where
+    go : (b : Bool)
+        → orElse (unless22 (both b true) (firstWhere (λ y. eqb y 8) 0 (kinds (rowsOf mapCells t)))) (orElse (unless22 (both b true) (firstWhere isVideoMap 0 (kinds (rowsOf mapCells t)))) (leastPid (map mapPid (rowsOf mapCells t))))
+        ≡ unless22 (both b true) (orElse (firstWhere (λ y. eqb y 8) 0 (kinds (rowsOf mapCells t))) (orElse (firstWhere isVideoMap 0 (kinds (rowsOf mapCells t))) (leastPid (map mapPid (rowsOf mapCells t)))))
+    go true = refl
+    go false = refl
+
+-- where none of type 8 is found, the rows are there
+none-through : (b : Bool) (x : Answer) → none ≡ unless22 b x → b ≡ true
+none-through true x h = refl
+none-through false x h = let z : _≡_ {A = ℕ} 0 1 = cc in absurd (omega arith)
+
+pub maps-there : (t : Table) → none ≡ ask (epMapByKind 8) (onlyMaps t) → t .rows ≤ rowRoom mapCells (t .bytes)
+unfolding ask
+maps-there t h =
+    let b = both-true (isStated mapCells t) true (none-through (both (isStated mapCells t) true) (answer (epMapByKind 8) (clipIn (onlyMaps t))) h) in
+    leb-true (t .rows) (rowRoom mapCells (t .bytes)) (b .0)
+
+-- ---- the packet in the primary map
+
+-- where the first answer is a refusal, the rows are not there
+refused-through : {n : ℕ} (b : Bool) (maps : List Row) → refused n ≡ unless22 (both b true) (primaryMap maps) → (b ≡ false) × (n ≡ 22)
+refused-through true maps h = absurd (no-refusal (primary-rows maps) (sym h))
+  where
+    no-refusal : {m n : ℕ} {a : Answer} → NoneOrRow m a → a ≡ refused n → ⊥
+    no-refusal NoneOrRow.no-row e = let z : _≡_ {A = ℕ} 0 1 = cc in omega arith
+    no-refusal (NoneOrRow.a-row k l) e = let z : _≡_ {A = ℕ} 0 1 = cc in omega arith
+refused-through false maps h = (refl, cc)
+
+module _ (side : Bool) (at : ℕ) (maps entries : Table) where
+  -- the question, by its tests
+  asks : ask (primarySeekQuestion side at) (mapsAndEntries maps entries)
+      ≡ unless22 (both (isStated mapCells maps) (both (isStated entryCells entries) true)) (ofPrimaryMap (rowsOf mapCells maps) (rowsOf entryCells entries) (λ es. seekIn side es at))
+  unfolding ask answer clipIn
+  asks = go side
+    where
+      go : (s : Bool) → ask (primarySeekQuestion s at) (mapsAndEntries maps entries)
+          ≡ unless22 (both (isStated mapCells maps) (both (isStated entryCells entries) true)) (ofPrimaryMap (rowsOf mapCells maps) (rowsOf entryCells entries) (λ es. seekIn s es at))
+      go true = refl
+      go false = refl
+
+  pub not-there : {n : ℕ} → refused n ≡ ask primaryVideoEpMap (onlyMaps maps) → refused n ≡ ask (primarySeekQuestion side at) (mapsAndEntries maps entries)
+  unfolding ask answer clipIn
+  not-there {n} h =
+      let r = refused-through (isStated mapCells maps) (rowsOf mapCells maps) h in
+      rw (asks, r .0, r .1)
+
+  -- ---- without maps
+
+  module _ (h : none ≡ ask primaryVideoEpMap (onlyMaps maps)) where
+    none-of : (b : Bool) (x : Answer) → none ≡ unless22 (both b true) x → (b ≡ true) × (x ≡ none)
+    none-of true x e = (refl, sym e)
+    none-of false x e = let z : _≡_ {A = ℕ} 0 1 = cc in absurd (omega arith)
+
+    -- the rows are there, and there are none
+    no-rows : (isStated mapCells maps ≡ true) × (rowsOf mapCells maps ≡ [])
+    unfolding ask answer clipIn
+    no-rows =
+        let n = none-of (isStated mapCells maps) (primaryMap (rowsOf mapCells maps)) h in
+        (n .0, primary-none (rowsOf mapCells maps) (n .1))
+
+    -- as many entries as stated
+    entry-rows : length (rowsOf entryCells entries) ≡ entries .rows
+    unfolding tableRows
+    entry-rows = rows-length (cellsAt (entries .bytes) entryCells) (λ p. p + 4 * entryCells) 0 (entries .rows)
+
+    refused-too : (b : Bool) → refused 22 ≡ unless22 (both b true) (refused 22)
+    refused-too true = refl
+    refused-too false = refl
+
+    -- entries without maps don't add up
+    pub no-maps-refused : (entries .rows ≡ 0 → ⊥) → refused 22 ≡ ask (primarySeekQuestion side at) (mapsAndEntries maps entries)
+    unfolding ofPrimaryMap
+    no-maps-refused some =
+        rw (asks, no-rows .0, no-rows .1, entry-rows, ne-eqb 0 (entries .rows) (λ e. some (sym e))) (refused-too (isStated entryCells entries))
+
+    -- without maps and entries there is none
+    pub no-maps-none : entries .rows ≡ 0 → none ≡ ask (primarySeekQuestion side at) (mapsAndEntries maps entries)
+    unfolding ofPrimaryMap
+    no-maps-none e =
+        let l : length (rowsOf entryCells entries) ≡ 0 = entry-rows ∙ e in
+        rw (asks, no-rows .0, no-rows .1, l, e, le-leb 0 (rowRoom entryCells (entries .bytes)) (omega arith), primary-empty)
+
+  -- ---- with one
+
+  module _ {k : ℕ} (h : number k ≡ ask primaryVideoEpMap (onlyMaps maps)) where
+    -- the primary map is one of them
+    is-primary : (isStated mapCells maps ≡ true) × (primaryMap (rowsOf mapCells maps) ≡ number k)
+    unfolding ask answer clipIn
+    is-primary =
+        let t = through-test (both (isStated mapCells maps) true) (primaryMap (rowsOf mapCells maps)) h in
+        (both-true (isStated mapCells maps) true (t .0) .0, t .1)
+
+    pub map-below : k < maps .rows
+    unfolding tableRows
+    map-below =
+        rw (rows-length (cellsAt (maps .bytes) mapCells) (λ p. p + 4 * mapCells) 0 (maps .rows)) at (primary-row (rowsOf mapCells maps) k (is-primary .1))
+
+    -- the question about one map, by its tests
+    seek-by-tests : ask (seekQuestion side k at) (mapsAndEntries maps entries)
+        ≡ unless22 (both (isStated mapCells maps) (both (isStated entryCells entries) true)) (ofMap (rowsOf mapCells maps) (rowsOf entryCells entries) k (λ es. seekIn side es at))
+    unfolding ask
+    seek-by-tests = let a = seek-asks maps entries k side at in rw (a .two, a .asks)
+
+    both-alone : (b : Bool) → both b true ≡ b
+    both-alone true = refl
+    both-alone false = refl
+
+    -- the packet is sought in it
+    pub sought : ask (seekQuestion side k at) (mapsAndEntries maps entries) ≡ ask (primarySeekQuestion side at) (mapsAndEntries maps entries)
+    unfolding ofPrimaryMap ofMap
+    sought =
+        let row : isRow k (rowsOf mapCells maps) ≡ true = lt-ltb k (length (rowsOf mapCells maps)) (primary-row (rowsOf mapCells maps) k (is-primary .1)) in
+        rw (seek-by-tests, asks, is-primary .0, is-primary .1, row, both-alone (addUp entryCount (rowsOf mapCells maps) (rowsOf entryCells entries)))

@@ -1,6 +1,2 @@
--- Laws of counts of entries and of the entries of one map.
-pub mod Counts
-pub mod Nearest
-pub mod Answers
-pub mod Lasts
+-- Laws of the choice of the primary map.
 pub mod Choice

@@ -1,4 +1,2 @@
--- The entries of one map.
-pub mod Own
-pub mod Nearest
+-- The choice of the primary map.
 pub mod PrimaryMap

@@ -1,5 +1,136 @@
-// Questions about the entry point maps and their entries.
-pub mod entries;
-pub mod own;
-pub mod primary;
-pub mod spans;
+// The maps by their types, and the primary map: by its type, else by its PID.
+ghost use mathlib.Core.Path.{_≡_};
+ghost use Prim.Native.Nat.{_≤_};
+ghost use mathlib.Core.List.{map};
+ghost use Rattle.format.specs.ClipRecord.{mapPid};
+ghost use Rattle.format.specs.Questions.{ask, primaryVideoEpMap, epMapByKind, nextVideoEpMap, primarySeekSpn, primaryNextSeekSpn};
+ghost use Rattle.format.specs.Tables.{tableRows, rowRoom, mapCells};
+ghost use Rattle.queries.specs.Answers.{foundOf};
+ghost use Rattle.queries.specs.Asked.{stated, onlyMaps, mapsAndEntries};
+ghost use Rattle.ep_map_queries.specs.InMap.{primarySeekQuestion};
+ghost use Rattle.cpi_queries.specs.PrimaryMap.{leastPid, videoOrLeast};
+use cells::cell_at;
+use ep_map_queries::entries::FAR;
+use ep_map_queries::entries::Nearest;
+use ep_map_queries::entries::closer;
+use ep_map_queries::entries::seek;
+use queries::Found;
+use table_rows::search::Test;
+use table_rows::search::first_row;
+
+// The cells of a map's row: PID, type, entry count.
+const MAP: usize = 3;
+
+// The first map of a type, by its low four bits.
+pub fn ep_map_by_kind(maps: &[u8], rows: u32, kind: u8) -> Found
+    ensures { λ r. ⌜ foundOf r ≡ ask (epMapByKind kind) (onlyMaps (stated (now (maps .entry)) rows)) ⌝ }
+{
+    first_row(maps, rows, MAP, 1, 0, Test::Kind((kind % 16) as u32))
+}
+
+// The first video map from a row on.
+pub fn next_video_ep_map(maps: &[u8], rows: u32, from: u32) -> Found
+    ensures { λ r. ⌜ foundOf r ≡ ask (nextVideoEpMap «from») (onlyMaps (stated (now (maps .entry)) rows)) ⌝ }
+{
+    first_row(maps, rows, MAP, 1, from, Test::VideoMap)
+}
+
+// The map with the least PID, the earliest among equals.
+fn least_pid(maps: &[u8], rows: u32) -> Found
+    requires { ⌜ rows ≤ rowRoom mapCells (now maps) ⌝ }
+    ensures { λ r. ⌜ foundOf r ≡ leastPid (map mapPid (tableRows mapCells (now (maps .entry)) rows)) ⌝ }
+{
+    let mut best = Nearest {
+        row: 0,
+        distance: FAR,
+    };
+    let mut k: u32 = 0;
+    while k < rows {
+        best = closer(best, k, cell_at(maps, 4 * MAP * (k as usize)) as u64);
+        k += 1;
+    }
+    if best.distance == FAR {
+        return Found::Nothing;
+    }
+    Found::Number(best.row as u64)
+}
+
+// The first video map, else the one with the least PID.
+fn video_or_least(maps: &[u8], rows: u32) -> Found
+    requires { ⌜ rows ≤ rowRoom mapCells (now maps) ⌝ }
+    ensures { λ r. ⌜ foundOf r ≡ videoOrLeast (stated (now (maps .entry)) rows) ⌝ }
+{
+    match next_video_ep_map(maps, rows, 0) {
+        Found::Refused(refusal) => Found::Refused(refusal),
+        Found::Nothing => least_pid(maps, rows),
+        Found::Number(row) => Found::Number(row),
+    }
+}
+
+// The primary map: the first of type 8, else the first video map, else the one with the least PID.
+pub fn primary_video_ep_map(maps: &[u8], rows: u32) -> Found
+    ensures { λ r. ⌜ foundOf r ≡ ask primaryVideoEpMap (onlyMaps (stated (now (maps .entry)) rows)) ⌝ }
+{
+    match ep_map_by_kind(maps, rows, 8) {
+        Found::Refused(refusal) => Found::Refused(refusal),
+        Found::Nothing => video_or_least(maps, rows),
+        Found::Number(row) => Found::Number(row),
+    }
+}
+
+// The packet of the primary map's entry after a time, or at or before it; nothing without maps.
+fn primary_seek(
+    maps: &[u8],
+    map_rows: u32,
+    entries: &[u8],
+    entry_rows: u32,
+    is_after: bool,
+    at: u32,
+) -> Found
+    ensures { λ r. ⌜ foundOf r ≡ ask (primarySeekQuestion «is_after» at) (mapsAndEntries (stated (now (maps .entry)) «map_rows») (stated (now (entries .entry)) «entry_rows»)) ⌝ }
+{
+    match primary_video_ep_map(maps, map_rows) {
+        Found::Refused(refusal) => Found::Refused(refusal),
+        Found::Nothing => {
+            if entry_rows != 0 {
+                return Found::Refused(22);
+            }
+            Found::Nothing
+        }
+        Found::Number(row) => seek(
+            maps,
+            map_rows,
+            entries,
+            entry_rows,
+            row as u32,
+            is_after,
+            at,
+        ),
+    }
+}
+
+// The packet to read from for a time, by the primary map.
+pub fn primary_seek_spn(
+    maps: &[u8],
+    map_rows: u32,
+    entries: &[u8],
+    entry_rows: u32,
+    at: u32,
+) -> Found
+    ensures { λ r. ⌜ foundOf r ≡ ask (primarySeekSpn (record { ticks = at })) (mapsAndEntries (stated (now (maps .entry)) «map_rows») (stated (now (entries .entry)) «entry_rows»)) ⌝ }
+{
+    primary_seek(maps, map_rows, entries, entry_rows, false, at)
+}
+
+// The packet of the entry after a time, by the primary map.
+pub fn primary_next_seek_spn(
+    maps: &[u8],
+    map_rows: u32,
+    entries: &[u8],
+    entry_rows: u32,
+    at: u32,
+) -> Found
+    ensures { λ r. ⌜ foundOf r ≡ ask (primaryNextSeekSpn (record { ticks = at })) (mapsAndEntries (stated (now (maps .entry)) «map_rows») (stated (now (entries .entry)) «entry_rows»)) ⌝ }
+{
+    primary_seek(maps, map_rows, entries, entry_rows, true, at)
+}

@@ -1,37 +1,32 @@
--- The head and an entry by their tests, a turn of each pass over the entries, and the data of a row.
+-- The head and an entry by their tests, and a turn of each pass over the entries.
 use Prim.Native.Nat.{ℕ, _+_, _*_, _-_, _<_, _≤_, min}
 use mathlib.Core.Path.{_≡_, refl, sym, ap, _∙_}
-use mathlib.Core.Logic.{_⊎_, inl, inr, ⊎-elim}
 use mathlib.Core.List.{List, [], _∷_, _++_, append-nil}
 use mathlib.Core.Bool.{Bool, true, false, not}
 use native.Mathlib.Nat.{sub-zero}
 use native.Mathlib.Omega.{arith}
-use lib.ListN.{length, take, drop, length-append}
+use lib.ListN.{length, length-append}
 use lib.Seq.{sets}
-use lib.Dec.{leb, ltb, eqb, lit<}
+use lib.Dec.{leb, ltb, eqb}
 use borrow.Author.Tests.{eq-eqb, ne-eqb, le-leb, lt-leb, lt-ltb, le-ltb, leb-true}
-use Rattle.format.specs.Bytes.{IsBytes, both, pick, unless, gather}
+use Rattle.format.specs.Bytes.{IsBytes, both, pick, gather}
 use Rattle.format.specs.ClipRecord.{Row}
-use Rattle.format.specs.Extensions.{blockLength, blockEnd, extensionCount, addressAt, dataLengthAt, nextExtension, extensionAt, isKept, keptAt, hasExtensions, extensionRows, extensionsFrom, dataIn, dataStart, dataLength, Found, nothing, found, listData}
-use Rattle.format.specs.Tables.{rowBytes, tableBytes, rowRoom, overwritten, Table, isStated, extensionCells}
-use Rattle.format.specs.Refusals.{extensionRow, dataRefusal, dataAsked}
+use Rattle.format.specs.Extensions.{blockLength, blockEnd, extensionCount, addressAt, dataLengthAt, nextExtension, extensionAt, isKept, keptAt, hasExtensions, extensionRows, extensionsFrom, Found, nothing, found, listData}
+use Rattle.format.specs.Tables.{rowBytes, tableBytes, rowRoom, overwritten, extensionCells}
 use Rattle.format.proofs.Tests.{both-true, left-fails, right-fails, ap-pick}
 use Rattle.format.proofs.Lists.{none, more}
 use Rattle.format.proofs.Stores.{be-below}
-use Rattle.format.proofs.Cell.{cell-of}
 use Rattle.format.proofs.Rows.{gather-all}
 use Rattle.format.proofs.Loops.{one-left, none-left, sets-front}
 use Rattle.format.proofs.Sweep.{row-bytes, HaveCells, table-bytes, Filling, filled, group-room, group-put}
-use Rattle.common.specs.Reads.{ReadIs, CellIs}
+use Rattle.numbers.specs.Reads.{ReadIs}
 use Rattle.extension.specs.Block.{headOf, Block, InBlock, rowsIn, extensionsIn, entryRows, entryEnd, EntryIs, entryList, orList, foundIn, listEnd, MeasuredIs, PutIs}
-use Rattle.extension.specs.Part.{partOf, PartIs}
 use Rattle.extension.specs.declared.Head.{Head}
 use Rattle.extension.specs.declared.ExtensionDataEntry.{ExtensionDataEntry}
 use Rattle.extension.specs.declared.ExtensionDataEntry.the-variants.{Kept, LeftOut}
 use Rattle.extension.specs.declared.ListData.{ListData}
 use Rattle.extension.specs.declared.ListData.the-variants.{At, Absent}
 use Rattle.extension.specs.declared.Measured.{Measured}
-use Rattle.extension.specs.declared.Part.{Part}
 
 -- ---- the head
 
@@ -362,86 +357,3 @@ module _ (f : List ℕ) (start n : ℕ) where
 -- a table that gets no rows
 pub table-kept : (f : List ℕ) (start : ℕ) (t : List ℕ) → extensionRows f start ≡ [] → t ≡ overwritten (tableBytes (extensionRows f start)) t
 table-kept f start t is = rw is
-
--- ---- the data of a row
-
-module _ (f : List ℕ) (t : Table) (k : ℕ) where
-  -- 22 is no place
-  refused : dataRefusal f t k ≡ 22 → PartIs f t k Part.Refused
-  unfolding partOf
-  refused h = record { same = rw h; inside = omega arith }
-
-  -- more rows are stated than lent
-  pub not-stated : rowRoom extensionCells (t .bytes) < t .rows → PartIs f t k Part.Refused
-  unfolding dataRefusal
-  not-stated h = refused (rw (lt-leb (t .rows) (rowRoom extensionCells (t .bytes)) h))
-
-  module _ (stated : t .rows ≤ rowRoom extensionCells (t .bytes)) where
-    -- the row is not one of them
-    pub no-row : t .rows ≤ k → PartIs f t k Part.Refused
-    unfolding dataRefusal
-    no-row h = refused (rw (le-leb (t .rows) (rowRoom extensionCells (t .bytes)) stated, le-ltb k (t .rows) h))
-
-    module _ {start len : ℕ} (row : k < t .rows) (s : CellIs (t .bytes) (16 * k + 8) start) (l : CellIs (t .bytes) (16 * k + 12) len) where
-      -- the two cells say where the data stands
-      start-is : start ≡ dataStart (extensionRow t k)
-      start-is = cell-of 4 (t .bytes) (t .rows) k 2 row (lit< tt) (omega arith) (s .same)
-
-      -- and how long it is
-      len-is : len ≡ dataLength (extensionRow t k)
-      len-is = cell-of 4 (t .bytes) (t .rows) k 3 row (lit< tt) (omega arith) (l .same)
-
-      -- its data passes the end
-      pub outside : length f < start + len → PartIs f t k Part.Refused
-      unfolding dataRefusal
-      outside h =
-          refused
-          (rw (
-            le-leb (t .rows) (rowRoom extensionCells (t .bytes)) stated,
-            lt-ltb k (t .rows) row,
-            lt-leb (dataStart (extensionRow t k) + dataLength (extensionRow t k)) (length f) (rw (start-is, len-is) at h),
-          ))
-
-      -- its data lies inside
-      pub within : start + len ≤ length f → PartIs f t k (Part.At start len)
-      unfolding dataRefusal partOf
-      within h = record {
-        same =
-            rw (
-              le-leb (t .rows) (rowRoom extensionCells (t .bytes)) stated,
-              lt-ltb k (t .rows) row,
-              le-leb (dataStart (extensionRow t k) + dataLength (extensionRow t k)) (length f) (rw (start-is, len-is) at h),
-              start-is,
-              len-is,
-            );
-        inside = h;
-      }
-
-  -- there are two answers
-  two-ways : (dataRefusal f t k ≡ 0) ⊎ (dataRefusal f t k ≡ 22)
-  unfolding dataRefusal
-  two-ways = by-tests (isStated extensionCells t) (ltb k (t .rows)) (dataIn f (extensionRow t k))
-    where
-      by-tests : (a b c : Bool) → (unless a 22 (unless b 22 (unless c 22 0)) ≡ 0) ⊎ (unless a 22 (unless b 22 (unless c 22 0)) ≡ 22)
-      by-tests false b c = inr refl
-      by-tests true false c = inr refl
-      by-tests true true false = inr refl
-      by-tests true true true = inl refl
-
-  -- what a place says of the call
-  pub given : {start len : ℕ} → Part.At start len ≡ partOf f t k → (0 ≡ dataRefusal f t k) × (take len (drop start f) ≡ dataAsked f t k)
-  unfolding partOf dataAsked
-  given e =
-      ⊎-elim
-      (λ h. let is = rw h at e in (sym h, rw h (cc)))
-      (λ h. let is = rw h at e in let z : _≡_ {A = ℕ} 0 1 = cc in absurd (omega arith))
-      two-ways
-
-  -- and what a refusal says
-  pub not-given : Part.Refused ≡ partOf f t k → (22 ≡ dataRefusal f t k) × ([] ≡ dataAsked f t k)
-  unfolding partOf dataAsked
-  not-given e =
-      ⊎-elim
-      (λ h. let is = rw h at e in let z : _≡_ {A = ℕ} 0 1 = cc in absurd (omega arith))
-      (λ h. (sym h, rw h))
-      two-ways

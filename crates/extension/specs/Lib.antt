@@ -1,3 +1,2 @@
 -- What the functions of this crate promise.
 pub mod Block
-pub mod Part

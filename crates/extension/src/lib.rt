@@ -1,20 +1,17 @@
-// The extension block: which entries are kept, where the second list of programs stands, table 7, and the data of one of its rows.
+// The extension block: which entries are kept, where the second list of programs stands, and table 7.
 ghost use mathlib.Core.Path.{_≡_};
 ghost use Prim.Native.Nat.{_+_, _≤_, min};
 ghost use lib.ListN.{length};
 ghost use lib.Seq.{sets};
 ghost use Rattle.format.specs.Extensions.{extensionRows, extensionsFrom};
-ghost use Rattle.format.specs.Refusals.{dataRefusal, dataAsked};
 ghost use Rattle.format.specs.Tables.{tableBytes, rowRoom, overwritten, extensionCells};
 ghost use Rattle.extension.specs.Block.{headOf, Block, InBlock, EntryIs, entryRows, entryList, orList, rowsIn, extensionsIn, MeasuredIs, PutIs};
-ghost use Rattle.extension.specs.Part.{tableOf, PartIs};
-use common::cells::cell_at;
-use common::cells::put_row4;
-use common::numbers::u16_at;
-use common::numbers::u32_at;
+use cells::put_row4;
 use common::reader::Moved;
 use common::reader::Number;
 use common::reader::Reader;
+use numbers::u16_at;
+use numbers::u32_at;
 
 // The head and each entry, in bytes.
 const SIZE: usize = 12;
@@ -55,12 +52,6 @@ enum ExtensionDataEntry {
         len: u32,
     },
     LeftOut,
-}
-
-// Where the data of a row stands in the file.
-pub enum Part {
-    At { start: usize, len: usize },
-    Refused,
 }
 
 // The smaller of two numbers.
@@ -246,44 +237,4 @@ pub fn fill(file: &[u8], start: usize, table: &mut [u8])
         return;
     };
     fill_entries(file, start, n, end, table);
-}
-
-// Where the data of a row stands in the lent file, for a lent table 7, any rows stated to be in it and any row number.
-pub fn data_place(file: &[u8], table: &[u8], rows: u32, row: u32) -> Part
-    ensures { λ r. ⌜ PartIs (now (file .entry)) (tableOf (now (table .entry)) rows) row r ⌝ }
-{
-    if table.len() / ROW < (rows as usize) {
-        return Part::Refused;
-    }
-    if row >= rows {
-        return Part::Refused;
-    }
-    let at = ROW * (row as usize);
-    let start = cell_at(table, at + 8) as usize;
-    let len = cell_at(table, at + 12) as usize;
-    if start + len > file.len() {
-        return Part::Refused;
-    }
-    Part::At { start, len }
-}
-
-// 22 where the data of a row is refused, else 0.
-pub fn data_refusal(file: &[u8], table: &[u8], rows: u32, row: u32) -> u32
-    ensures { λ r. ⌜ r ≡ dataRefusal (now (file .entry)) (tableOf (now (table .entry)) rows) row ⌝ }
-{
-    if let Part::Refused = data_place(file, table, rows, row) {
-        return 22;
-    }
-    0
-}
-
-// The data of a row, a part of the lent file itself; the empty part where it is refused, which `data_refusal` tells apart.
-pub fn data<'a>(file: &'a [u8], table: &[u8], rows: u32, row: u32) -> &'a [u8]
-    ensures { λ r. ⌜ now r ≡ dataAsked (now (file .entry)) (tableOf (now (table .entry)) rows) row ⌝ }
-{
-    let Part::At { start, len } = data_place(file, table, rows, row) else {
-        return &file[0..0];
-    };
-    let end = start + len;
-    &file[start..end]
 }

@@ -7,7 +7,7 @@ use lib.ListN.{length, drop}
 use lib.Dec.{lit<, lit≤}
 use borrow.Author.Tests.{le-leb}
 use Rattle.format.specs.ClipRecord.{Row, Clip}
-use Rattle.format.specs.Questions.{Part, scalars, atcs, stcs, streams, maps, entries, partsOf, partStated, HoldsPart, Question, entryPointAtOrBefore, entryPointAfter, primaryVideoEpMap, spnToByte, byteToSpn, stcSequenceById, stcSequenceForSpn, streamByPid, primaryVideoPid, duration45k, duration90k, presentationSpan90k, indexedSpan90k, transferDurationSecs, minutesRemaining, answer, ask}
+use Rattle.format.specs.Questions.{Part, scalars, atcs, stcs, programs, streams, maps, entries, partsOf, partStated, HoldsPart, Question, entryPointAtOrBefore, entryPointAfter, primaryVideoEpMap, spnToByte, byteToSpn, stcSequenceById, stcSequenceForSpn, streamByPid, primaryVideoPid, duration45k, duration90k, presentationSpan90k, indexedSpan90k, transferDurationSecs, minutesRemaining, seekSpn, nextSeekSpn, primarySeekSpn, primaryNextSeekSpn, firstPts, lastPts, epMapByKind, nextVideoEpMap, clipByteLen, firstStcSequence, programByPmtPid, nextVideoStream, nextAudioStream, answer, ask}
 use Rattle.format.specs.Refusals.{accepted, tablesOf, statedOf, tablesAnswer, allStated}
 use Rattle.format.specs.Tables.{tableBytes, rowRoom, overwritten, atcCells, stcCells, programCells, streamCells, mapCells, entryCells, Table, isStated, rowsOf, ClipTables, clipIn, Nine, HoldsRows, HoldsClip, Room}
 use Rattle.format.proofs.Fields.{Fit}
@@ -54,10 +54,10 @@ shaped most c g = record {
 -- ---- a table that holds rows
 
 module _ (cells : ℕ) (t : Table) {rows : List Row} (good : All (Cells cells) rows) (h : HoldsRows t rows) where
-  rows-held : rowsOf cells t ≡ rows
+  pub rows-held : rowsOf cells t ≡ rows
   rows-held = rw (h .stated, h .bytes) (table-back cells good (h .beyond))
 
-  is-stated : 0 < cells → isStated cells t ≡ true
+  pub is-stated : 0 < cells → isStated cells t ≡ true
   is-stated pos = rw (h .stated, h .bytes) (le-leb (length rows) (rowRoom cells (tableBytes rows ++ h .beyond)) (table-room cells pos good (h .beyond)))
 
 -- ---- all six
@@ -106,12 +106,16 @@ module _ (l : ClipTables) (c : Clip) (s : Shaped c) where
   part-stated scalars h = refl
   part-stated atcs h = is-stated atcCells (l .atcs) (s .atcs) h (lit< tt)
   part-stated stcs h = is-stated stcCells (l .stcs) (s .stcs) h (lit< tt)
+  part-stated programs h = is-stated programCells (l .programs) (s .programs) h (lit< tt)
   part-stated streams h = is-stated streamCells (l .streams) (s .streams) h (lit< tt)
   part-stated maps h = is-stated mapCells (l .maps) (s .maps) h (lit< tt)
   part-stated entries h = is-stated entryCells (l .entries) (s .entries) h (lit< tt)
 
   stcs-held : HoldsPart l c stcs → rowsOf stcCells (l .stcs) ≡ c .stcs
   stcs-held h = rows-held stcCells (l .stcs) (s .stcs) h
+
+  programs-held : HoldsPart l c programs → rowsOf programCells (l .programs) ≡ c .programs
+  programs-held h = rows-held programCells (l .programs) (s .programs) h
 
   streams-held : HoldsPart l c streams → rowsOf streamCells (l .streams) ≡ c .streams
   streams-held h = rows-held streamCells (l .streams) (s .streams) h
@@ -143,6 +147,19 @@ module _ (l : ClipTables) (c : Clip) (s : Shaped c) where
   same-answer (indexedSpan90k m) (more hm (more he none)) = rw (maps-held hm, entries-held he)
   same-answer transferDurationSecs (more h none) = rw h
   same-answer (minutesRemaining at) (more h none) = rw (stcs-held h)
+  same-answer (seekSpn m at) (more hm (more he none)) = rw (maps-held hm, entries-held he)
+  same-answer (nextSeekSpn m at) (more hm (more he none)) = rw (maps-held hm, entries-held he)
+  same-answer (primarySeekSpn at) (more hm (more he none)) = rw (maps-held hm, entries-held he)
+  same-answer (primaryNextSeekSpn at) (more hm (more he none)) = rw (maps-held hm, entries-held he)
+  same-answer (firstPts m) (more hm (more he none)) = rw (maps-held hm, entries-held he)
+  same-answer (lastPts m) (more hm (more he none)) = rw (maps-held hm, entries-held he)
+  same-answer (epMapByKind kind) (more hm none) = rw (maps-held hm)
+  same-answer (nextVideoEpMap from) (more hm none) = rw (maps-held hm)
+  same-answer clipByteLen (more h none) = rw h
+  same-answer firstStcSequence (more h none) = rw (stcs-held h)
+  same-answer (programByPmtPid pid) (more h none) = rw (programs-held h)
+  same-answer (nextVideoStream from) (more h none) = rw (streams-held h)
+  same-answer (nextAudioStream from) (more h none) = rw (streams-held h)
 
   pub asked : (q : Question) → All (HoldsPart l c) (partsOf q) → ask q l ≡ answer q c
   unfolding ask

@@ -25,3 +25,4 @@ pub mod ClipTables
 pub mod Counts
 pub mod Listing
 pub mod Rounding
+pub mod Lookups

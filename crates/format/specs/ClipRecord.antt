@@ -65,6 +65,9 @@ stcStart stc = record { ticks = getD stc 2 0 }
 abbrev pub stcEnd : Row → Ticks45
 stcEnd stc = record { ticks = getD stc 3 0 }
 
+abbrev pub pmtPid : Row → ℕ
+pmtPid program = getD program 1 0
+
 abbrev pub streamCount : Row → ℕ
 streamCount program = getD program 2 0
 

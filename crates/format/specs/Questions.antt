@@ -9,12 +9,13 @@ use lib.IntN.{pos}
 use lib.Ieee.{Float, nan, inf, fin, binary64, up, down, ofInt, div, ofBits, toBits}
 use Rattle.format.specs.Bytes.{both, either, pick, every, total}
 use Rattle.format.specs.Ticks.{Ticks45, Ticks90, doubled, less45, less90, minutes}
-use Rattle.format.specs.ClipRecord.{Row, Clip, atcStcCount, offsetId, stcPacket, stcStart, stcEnd, streamPid, codingType, mapPid, mapType, entryCount, time, entryTime}
+use Rattle.format.specs.ClipRecord.{Row, Clip, atcStcCount, offsetId, stcPacket, stcStart, stcEnd, pmtPid, streamPid, codingType, mapPid, mapType, entryCount, time, packet, entryTime}
 use Rattle.format.specs.Programs.{isVideo}
-use Rattle.format.specs.Tables.{ClipTables, isStated, addUp, isRow, clipIn, HoldsRows, atcCells, stcCells, streamCells, mapCells, entryCells}
+use Rattle.format.specs.Tables.{ClipTables, isStated, addUp, isRow, clipIn, HoldsRows, atcCells, stcCells, programCells, streamCells, mapCells, entryCells}
 
 -- every question with its arguments, and what it answers. Rows are counted from 0, entries within their map, STCs through all ATCs.
--- A caller's 90 kHz time has 32 bits for entry lookups and 64 elsewhere; the answers here hold for any number
+-- A caller's 90 kHz time has 32 bits for entry lookups and 64 elsewhere; the answers here hold for any number.
+-- From seekSpn on: questions that document 01 does not list, further methods of the Rust and, for the primary map, the next packet too
 pub data Question : Type 0 where
   entryPointAtOrBefore : (map : ℕ) (at : Ticks90) → Question  -- a row of the map's entries
   entryPointAfter : (map : ℕ) (at : Ticks90) → Question  -- a row of the map's entries, or none
@@ -31,6 +32,19 @@ pub data Question : Type 0 where
   indexedSpan90k : (map : ℕ) → Question  -- 90 kHz ticks
   transferDurationSecs : Question  -- seconds, or no rate
   minutesRemaining : (at : Ticks90) → Question  -- minutes
+  seekSpn : (map : ℕ) (at : Ticks90) → Question  -- the packet of the entry at or before, or none
+  nextSeekSpn : (map : ℕ) (at : Ticks90) → Question  -- the packet of the entry after, or none
+  primarySeekSpn : (at : Ticks90) → Question  -- the same two in the primary map, or none
+  primaryNextSeekSpn : (at : Ticks90) → Question
+  firstPts : (map : ℕ) → Question  -- 90 kHz ticks, or none
+  lastPts : (map : ℕ) → Question  -- 90 kHz ticks, or none
+  epMapByKind : (kind : ℕ) → Question  -- a row of table 5, or none
+  nextVideoEpMap : (from : ℕ) → Question  -- a row of table 5, or none
+  clipByteLen : Question  -- bytes
+  firstStcSequence : Question  -- a row of table 2, or none
+  programByPmtPid : (pid : ℕ) → Question  -- a row of table 3, or none
+  nextVideoStream : (from : ℕ) → Question  -- a row of table 4, or none
+  nextAudioStream : (from : ℕ) → Question  -- a row of table 4, or none
 
 -- a refusal's number, none, a number (a row, packet, byte, PID or minutes), a time, or the choice of seconds or no rate
 pub data Answer : Type 0 where
@@ -84,6 +98,20 @@ orElse (ticks90 t) later = ticks90 t
 orElse (seconds q) later = seconds q
 orElse noRate later = noRate
 
+-- the first row from row k on that passes
+abbrev pub nextWhere : (ℕ → Bool) → ℕ → List ℕ → Answer
+nextWhere test k xs = firstWhere test k (drop k xs)
+
+-- a number of the row that was found
+abbrev pub ofRow : (Row → ℕ) → List Row → Answer → Answer
+ofRow column rows (number k) = number (column (getD rows k []))
+ofRow column rows none = none
+ofRow column rows (refused n) = refused n
+ofRow column rows (ticks45 t) = ticks45 t
+ofRow column rows (ticks90 t) = ticks90 t
+ofRow column rows (seconds q) = seconds q
+ofRow column rows noRate = noRate
+
 -- ---- rows that belong to a row of another table
 
 -- the rows that stand before those of header row h
@@ -119,16 +147,35 @@ unfoldable pub spanOf : List Row → Ticks90
 spanOf [] = record { ticks = 0 }
 spanOf (e ∷ es) = less90 (lastOf (entryTime e) es) (entryTime e)
 
+-- the packet to read from for a time: of the entry at or before it, and of the one after
+abbrev pub seek : List Row → ℕ → Answer
+seek es t = ofRow packet es (atOrBefore (map time es) t)
+
+abbrev pub nextSeek : List Row → ℕ → Answer
+nextSeek es t = ofRow packet es (after (map time es) t)
+
+-- the first time and the last, or none
+abbrev pub firstTime : List Row → Answer
+firstTime [] = none
+firstTime (e ∷ es) = ticks90 (entryTime e)
+
+abbrev pub lastTime : List Row → Answer
+lastTime [] = none
+lastTime (e ∷ es) = ticks90 (lastOf (entryTime e) es)
+
 -- ---- the primary map, by the low four bits of the type: first of type 8, else first of 1, 5, 6, 8, else least PID, earliest among equals
 
 abbrev pub isVideoMap : ℕ → Bool
 isVideoMap type = either (eqb type 1) (either (eqb type 5) (either (eqb type 6) (eqb type 8)))
 
+-- the low four bits of each map's type
+abbrev pub kinds : List Row → List ℕ
+kinds maps = map (λ (m : Row). mapType m % 16) maps
+
 unfoldable pub primaryMap : List Row → Answer
 primaryMap maps =
-    let types = map (λ (m : Row). mapType m % 16) maps in
-    orElse (firstWhere (λ y. eqb y 8) 0 types)
-    (orElse (firstWhere isVideoMap 0 types)
+    orElse (firstWhere (λ y. eqb y 8) 0 (kinds maps))
+    (orElse (firstWhere isVideoMap 0 (kinds maps))
     (rowOr none (bestOf (λ y. true) (λ y z. ltb y z) 0 (map mapPid maps) nothing)))
 
 -- ---- packets and bytes: a packet has 192 bytes, 4 before its 188
@@ -183,8 +230,16 @@ minutesLeft stcs at = minutes (less90 (doubled (latestEnd stcs)) at)
 -- ---- streams: the first in file order
 
 unfoldable pub videoPid : List Row → Answer
-videoPid [] = none
-videoPid (s ∷ later) = pick (isVideo (codingType s)) (number (streamPid s)) (videoPid later)
+videoPid streams = ofRow streamPid streams (firstWhere isVideo 0 (map codingType streams))
+
+-- the coding types that the Rust takes for audio: 0x80 to 0x86, 0xA1 and 0xA2
+unfoldable pub isAudio : ℕ → Bool
+isAudio coding = either (both (leb 0x80 coding) (leb coding 0x86)) (either (eqb coding 0xA1) (eqb coding 0xA2))
+
+-- the first row, or none
+abbrev pub anyRow : List Row → Answer
+anyRow [] = none
+anyRow (r ∷ rows) = number 0
 
 -- ---- transfer duration
 
@@ -221,6 +276,21 @@ unfoldable pub ofMap : List Row → List Row → ℕ → (List Row → Answer) �
 ofMap maps entries m question =
     unless22 (both (addUp entryCount maps entries) (isRow m maps)) (question (ownRows entryCount maps entries m))
 
+-- a question on the map that was found
+abbrev pub inMap : Answer → (ℕ → Answer) → Answer
+inMap (number m) question = question m
+inMap none question = none
+inMap (refused n) question = refused n
+inMap (ticks45 t) question = ticks45 t
+inMap (ticks90 t) question = ticks90 t
+inMap (seconds q) question = seconds q
+inMap noRate question = noRate
+
+-- the entries of the primary map; none without maps, if no entries are stated either
+unfoldable pub ofPrimaryMap : List Row → List Row → (List Row → Answer) → Answer
+ofPrimaryMap maps entries question =
+    unless22 (addUp entryCount maps entries) (inMap (primaryMap maps) (λ m. question (ownRows entryCount maps entries m)))
+
 -- the STCs through all ATCs
 unfoldable pub ofAtcs : List Row → List Row → Answer → Answer
 ofAtcs atcs stcs question = unless22 (addUp atcStcCount atcs stcs) question
@@ -253,6 +323,19 @@ answer presentationSpan90k c = ticks90 (presentationSpan (c .stcs))
 answer (indexedSpan90k m) c = ofMap (c .maps) (c .entries) m (λ es. ticks90 (spanOf es))
 answer transferDurationSecs c = transferSecs (c .scalars .rate) (c .scalars .packets)
 answer (minutesRemaining at) c = number (minutesLeft (c .stcs) at)
+answer (seekSpn m at) c = ofMap (c .maps) (c .entries) m (λ es. seek es (at .ticks))
+answer (nextSeekSpn m at) c = ofMap (c .maps) (c .entries) m (λ es. nextSeek es (at .ticks))
+answer (primarySeekSpn at) c = ofPrimaryMap (c .maps) (c .entries) (λ es. seek es (at .ticks))
+answer (primaryNextSeekSpn at) c = ofPrimaryMap (c .maps) (c .entries) (λ es. nextSeek es (at .ticks))
+answer (firstPts m) c = ofMap (c .maps) (c .entries) m firstTime
+answer (lastPts m) c = ofMap (c .maps) (c .entries) m lastTime
+answer (epMapByKind kind) c = firstWhere (λ y. eqb y (kind % 16)) 0 (kinds (c .maps))
+answer (nextVideoEpMap from) c = nextWhere isVideoMap from (kinds (c .maps))
+answer clipByteLen c = number (c .scalars .packets * packetBytes)
+answer firstStcSequence c = anyRow (c .stcs)
+answer (programByPmtPid pid) c = firstWhere (λ y. eqb y pid) 0 (map pmtPid (c .programs))
+answer (nextVideoStream from) c = nextWhere isVideo from (map codingType (c .streams))
+answer (nextAudioStream from) c = nextWhere isAudio from (map codingType (c .streams))
 
 -- ---- the answer from lent tables
 
@@ -261,6 +344,7 @@ pub data Part : Type 0 where
   scalars : Part
   atcs : Part
   stcs : Part
+  programs : Part
   streams : Part
   maps : Part
   entries : Part
@@ -281,12 +365,26 @@ partsOf presentationSpan90k = stcs ∷ []
 partsOf (indexedSpan90k m) = maps ∷ entries ∷ []
 partsOf transferDurationSecs = scalars ∷ []
 partsOf (minutesRemaining at) = stcs ∷ []
+partsOf (seekSpn m at) = maps ∷ entries ∷ []
+partsOf (nextSeekSpn m at) = maps ∷ entries ∷ []
+partsOf (primarySeekSpn at) = maps ∷ entries ∷ []
+partsOf (primaryNextSeekSpn at) = maps ∷ entries ∷ []
+partsOf (firstPts m) = maps ∷ entries ∷ []
+partsOf (lastPts m) = maps ∷ entries ∷ []
+partsOf (epMapByKind kind) = maps ∷ []
+partsOf (nextVideoEpMap from) = maps ∷ []
+partsOf clipByteLen = scalars ∷ []
+partsOf firstStcSequence = stcs ∷ []
+partsOf (programByPmtPid pid) = programs ∷ []
+partsOf (nextVideoStream from) = streams ∷ []
+partsOf (nextAudioStream from) = streams ∷ []
 
 -- in a part that is lent, not more rows are stated than lent, else 22
 abbrev pub partStated : ClipTables → Part → Bool
 partStated l scalars = true
 partStated l atcs = isStated atcCells (l .atcs)
 partStated l stcs = isStated stcCells (l .stcs)
+partStated l programs = isStated programCells (l .programs)
 partStated l streams = isStated streamCells (l .streams)
 partStated l maps = isStated mapCells (l .maps)
 partStated l entries = isStated entryCells (l .entries)
@@ -299,6 +397,7 @@ abbrev pub HoldsPart : ClipTables → Clip → Part → Type 0
 HoldsPart l c scalars = l .scalars ≡ c .scalars
 HoldsPart l c atcs = HoldsRows (l .atcs) (c .atcs)
 HoldsPart l c stcs = HoldsRows (l .stcs) (c .stcs)
+HoldsPart l c programs = HoldsRows (l .programs) (c .programs)
 HoldsPart l c streams = HoldsRows (l .streams) (c .streams)
 HoldsPart l c maps = HoldsRows (l .maps) (c .maps)
 HoldsPart l c entries = HoldsRows (l .entries) (c .entries)

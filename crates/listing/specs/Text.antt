@@ -1,30 +1,12 @@
--- Text stored into a lent output, and the text of a record in its numbers and rows.
+-- The text of a record in its numbers and rows, at the front of a lent output.
 use Prim.Native.Nat.{ℕ, _+_, _*_, _≤_}
 use mathlib.Core.Path.{_≡_}
 use mathlib.Core.List.{List, [], _∷_, _++_}
 use lib.ListN.{length}
-use lib.Seq.{sets}
 use Rattle.format.specs.ClipRecord.{Row, Record, entryCount}
 use Rattle.format.specs.Bytes.{rowsAt, total}
 use Rattle.format.specs.Tables.{cellsAt, tableRows, rowRoom, overwritten, mapCells, entryCells}
 use Rattle.format.specs.Listing.{line, clipWord, seqWord, progWord, markWord, mapLines}
-
--- s was stored into d from place `at`, which gives e, and r is the place behind it
-pub record Wrote (d : List ℕ) (at : ℕ) (s : List ℕ) (r : ℕ) (e : List ℕ) : Type 0 where
-  pub place : r ≡ at + length s
-  pub bytes : e ≡ sets d at s
-  pub size : length e ≡ length d
-
--- the same with room for the text: at most so many bytes
-pub record WroteIn (most : ℕ) (d : List ℕ) (at : ℕ) (s : List ℕ) (r : ℕ) (e : List ℕ) : Type 0 where
-  pub text : Wrote d at s r e
-  pub short : r ≤ at + most
-
--- in a loop: `rest`, stored into e from place p, gives what the whole gives from place `at` of d
-pub record Still (d : List ℕ) (at : ℕ) (whole rest : List ℕ) (p : ℕ) (e : List ℕ) : Type 0 where
-  pub place : p + length rest ≡ at + length whole
-  pub bytes : sets e p rest ≡ sets d at whole
-  pub size : length e ≡ length d
 
 -- the first r bytes of e are the text s, and what stands beyond them is what d had
 pub record Shows (d s : List ℕ) (r : ℕ) (e : List ℕ) : Type 0 where
@@ -82,10 +64,6 @@ recordText n maps entries =
     ++ line markWord (n .marks ∷ []))))
 
 -- ---- room
-
--- bytes for a line: a space and at most ten digits for a number of 32 bits
-abbrev pub lineRoom : List ℕ → List ℕ → ℕ
-lineRoom word numbers = length word + 11 * length numbers + 1
 
 -- bytes for the text of a record with n maps and m entries
 abbrev pub recordRoom : ℕ → ℕ → ℕ

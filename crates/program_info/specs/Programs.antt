@@ -1,10 +1,9 @@
--- The programs section measured, what filling its tables asks, and a byte of a stream's body.
-use Prim.Native.Nat.{ℕ, _+_, _<_, _≤_}
-use mathlib.Core.Path.{_≡_}
+-- The programs section measured, and what filling its tables asks.
+use Prim.Native.Nat.{ℕ, _≤_}
 use mathlib.Core.List.{List}
 use lib.ListN.{length}
 use lib.Dec.{leb}
-use Rattle.format.specs.Bytes.{pick, beAt}
+use Rattle.format.specs.Bytes.{pick}
 use Rattle.format.specs.Programs.{programsFrom, streamsFrom, programsEnd}
 use Rattle.format.specs.Tables.{rowRoom, programCells, streamCells}
 use Rattle.program_info.specs.declared.Measured.{Measured}
@@ -21,8 +20,3 @@ pub record Fillable (f : List ℕ) (start : ℕ) (programs streams : List ℕ) :
   pub ends : programsEnd f start ≤ length f
   pub programs-room : length (programsFrom f start) ≤ rowRoom programCells programs
   pub streams-room : length (streamsFrom f start) ≤ rowRoom streamCells streams
-
--- byte i of a body of `size` bytes from p, 0 where it is absent
-pub record BodyByte (f : List ℕ) (p size i r : ℕ) : Type 0 where
-  pub same : r ≡ pick (leb (i + 1) size) (beAt f (p + i) 1) 0
-  pub below : r < 256

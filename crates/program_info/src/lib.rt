@@ -1,23 +1,22 @@
 // The programs section: a length that is ignored, a spare byte, a count of programs, and each program with its streams behind it.
 ghost use mathlib.Core.Path.{_≡_};
-ghost use Prim.Native.Nat.{_+_, _*_, _^_, _<_, _≤_};
+ghost use Prim.Native.Nat.{_+_, _*_, _≤_};
 ghost use lib.ListN.{length};
 ghost use lib.Seq.{sets};
 ghost use Rattle.format.specs.Bytes.{rowsAt, endOf};
-ghost use Rattle.format.specs.Programs.{lower, lowered, aspectAt, languageAt, streamAt, nextStream, programAt, nextProgram, programsFrom, streamsFrom};
+ghost use Rattle.format.specs.Programs.{streamAt, nextStream, programAt, nextProgram, programsFrom, streamsFrom};
 ghost use Rattle.format.specs.Tables.{rowBytes, tableBytes, overwritten};
 ghost use Rattle.common.specs.Reader.{movedTo};
-ghost use Rattle.program_info.specs.Programs.{measured, Fillable, BodyByte};
-use common::cells::put_row3;
-use common::cells::put_row5;
-use common::numbers::u8_at;
-use common::numbers::u16_at;
-use common::numbers::u32_at;
+ghost use Rattle.program_info.specs.Programs.{measured, Fillable};
+use cells::put_row3;
 use common::reader::Moved;
 use common::reader::Number;
 use common::reader::Reader;
 use common::reader::read_count;
-use stream_coding::is_video;
+use numbers::u8_at;
+use numbers::u16_at;
+use numbers::u32_at;
+use stream_coding_info::put_stream;
 
 // How many programs and streams the section has and where it ends, or that it passes the file's end.
 pub enum Measured {
@@ -95,61 +94,6 @@ pub fn measure(file: &[u8], start: usize) -> Measured
     }
 }
 
-// A letter from A to Z as lower case, every other number as it is.
-fn lower(b: u32) -> u32
-    ensures { λ r. ⌜ r ≡ lower b ⌝ }
-{
-    if b < 65 {
-        return b;
-    }
-    if b > 90 {
-        return b;
-    }
-    b + 32
-}
-
-// The three letters of a language, each lowered.
-fn lower_language(x: u32) -> u32
-    requires { ⌜ x < 2 ^ 24 ⌝ }
-    ensures { λ r. ⌜ r ≡ lowered x ⌝ }
-{
-    lower(x / 65536) * 65536 + lower(x / 256 % 256) * 256 + lower(x % 256)
-}
-
-// Byte i of the body of `size` bytes from p, 0 where it is absent.
-fn body_byte(file: &[u8], p: usize, size: usize, i: usize) -> u32
-    requires { ⌜ p + size ≤ length (now file) ⌝ }
-    ensures { λ r. ⌜ BodyByte (now (file .entry)) p size i r ⌝ }
-{
-    if i < size { u8_at(file, p + i) } else { 0 }
-}
-
-// The aspect of a body: the high four bits of a video body's byte 2.
-fn aspect(file: &[u8], p: usize, size: usize, video: bool) -> u32
-    requires { ⌜ p + size ≤ length (now file) ⌝ }
-    ensures { λ r. ⌜ r ≡ aspectAt video (now (file .entry)) p size ⌝ }
-{
-    if video {
-        body_byte(file, p, size, 2) / 16
-    } else {
-        0
-    }
-}
-
-// The language of a body: bytes 2 to 4 of one that is not video.
-fn language(file: &[u8], p: usize, size: usize, video: bool) -> u32
-    requires { ⌜ p + size ≤ length (now file) ⌝ }
-    ensures { λ r. ⌜ r ≡ languageAt video (now (file .entry)) p size ⌝ }
-{
-    if video {
-        return 0;
-    }
-    if size < 5 {
-        return 0;
-    }
-    lower_language(u8_at(file, p + 2) * 65536 + u16_at(file, p + 3))
-}
-
 // The row of the program at p, from byte `at` of the table.
 fn put_program(file: &[u8], p: usize, table: &mut [u8], at: usize)
     requires { ⌜ (p + 8 ≤ length (now file)) × (at + 12 ≤ length (now table)) ⌝ }
@@ -162,22 +106,6 @@ fn put_program(file: &[u8], p: usize, table: &mut [u8], at: usize)
         u16_at(file, p + 4),
         u8_at(file, p + 6),
     );
-}
-
-// The row of the stream at p, from byte `at` of the table. Nothing is read past the body's end.
-fn put_stream(file: &[u8], p: usize, table: &mut [u8], at: usize)
-    requires { ⌜ (nextStream (now file) p ≤ length (now file)) × (at + 20 ≤ length (now table)) ⌝ }
-    ensures { λ _. ⌜ now (table .exit) ≡ sets (now (table .entry)) at (rowBytes (streamAt (now (file .entry)) p)) ⌝ }
-{
-    let pid = u16_at(file, p);
-    let size = u8_at(file, p + 2) as usize;
-    let body = p + 3;
-    let coding = body_byte(file, body, size, 0);
-    let format = body_byte(file, body, size, 1);
-    let video = is_video(coding);
-    let ratio = aspect(file, body, size, video);
-    let tag = language(file, body, size, video);
-    put_row5(table, at, pid, coding, format, ratio, tag);
 }
 
 // The rows of the n streams at p, from byte `at` of the table; answers where the streams end.

@@ -1,65 +1,63 @@
--- The first stream with a PID, and the first that is video, while a loop goes over the streams.
+-- What the searches of the tables of programs and streams answer.
 use Prim.Native.Nat.{ℕ, _+_, _*_, _<_, _≤_}
-use mathlib.Core.Path.{_≡_, refl, sym, ap, _∙_}
-use mathlib.Core.List.{List, [], _∷_, map}
+use mathlib.Core.Path.{_≡_, refl}
+use mathlib.Core.List.{List, map}
 use mathlib.Core.Bool.{Bool, true, false}
-use native.Mathlib.Omega.{arith}
-use lib.Dec.{eqb, lit<}
-use borrow.Author.Tests.{eq-eqb, ne-eqb}
-use Rattle.format.specs.ClipRecord.{Row, streamPid, codingType}
+use lib.ListN.{length-map}
+use borrow.Author.Tests.{leb-true}
+use Rattle.format.specs.Bytes.{both}
+use Rattle.format.specs.ClipRecord.{streamPid, codingType}
 use Rattle.format.specs.Programs.{isVideo}
-use Rattle.format.specs.Questions.{none, number, streamByPid, primaryVideoPid, firstWhere, videoPid, answer}
-use Rattle.format.specs.Tables.{cellsAt, tableRows, clipIn, streamCells}
-use Rattle.common.specs.Reads.{CellIs}
-use Rattle.queries.specs.Asked.{stated, onlyStreams}
-use Rattle.queries.proofs.Scans.{rowsLeft, left-all, left-turn, left-done, cell-in, First, first-turn, first-found, first-none}
+use Rattle.format.specs.Questions.{number, firstWhere, unless22, ofRow, videoPid, primaryVideoPid, streamByPid, programByPmtPid, nextVideoStream, nextAudioStream, answer, ask}
+use Rattle.format.specs.Questions as of
+use Rattle.format.specs.Tables.{Table, isStated, rowsOf, rowRoom, cellsAt, tableRows, clipIn, programCells, streamCells}
+use Rattle.format.proofs.Lookups.{first-row}
+use Rattle.format.proofs.Rows.{rows-length}
+use Rattle.format.proofs.Tests.{both-true}
+use Rattle.queries.specs.Asked.{onlyPrograms, onlyStreams}
+use Rattle.table_rows.specs.FirstRow.{askRow}
+use Rattle.table_rows.specs.declared.search.Test.{Test}
+use Rattle.queries.proofs.Asking.{through-test}
+use Rattle.table_rows.proofs.FirstRow.{row-answers}
 
-module _ (t : List ℕ) (n : ℕ) where
-  -- ---- by PID
+-- a program by its PID
+pub program-asked : (t : Table) (pid : ℕ) → askRow programCells 1 0 (Test.Is pid) t ≡ ask (programByPmtPid pid) (onlyPrograms t)
+unfolding answer clipIn
+program-asked t pid = row-answers (programByPmtPid pid) (onlyPrograms t) of.programs programCells 1 0 (Test.Is pid) t refl refl refl
 
-  module _ (pid : ℕ) where
-    abbrev pub ByPid : ℕ → Type 0
-    ByPid k = First streamCells t n streamPid (λ y. eqb y pid) k
+-- a stream by its PID
+pub stream-asked : (t : Table) (pid : ℕ) → askRow streamCells 0 0 (Test.Is pid) t ≡ ask (streamByPid pid) (onlyStreams t)
+unfolding answer clipIn
+stream-asked t pid = row-answers (streamByPid pid) (onlyStreams t) of.streams streamCells 0 0 (Test.Is pid) t refl refl refl
 
-    module _ (k : ℕ) {v : ℕ} (h : k < n) (c : CellIs t (20 * k) v) (i : ByPid k) where
-      -- the PID that was read is the row's
-      is-pid : v ≡ streamPid (cellsAt t streamCells (4 * streamCells * k))
-      is-pid = cell-in streamCells t n k 0 (lit< tt) (omega arith) (c .same)
+-- the next video stream, and the next audio stream
+pub video-asked : (t : Table) (from : ℕ) → askRow streamCells 1 from Test.VideoStream t ≡ ask (nextVideoStream from) (onlyStreams t)
+unfolding answer clipIn
+video-asked t from = row-answers (nextVideoStream from) (onlyStreams t) of.streams streamCells 1 from Test.VideoStream t refl refl refl
 
-      pub pid-turn : (v ≡ pid → ⊥) → ByPid (k + 1)
-      pid-turn other = first-turn streamCells t n streamPid (λ y. eqb y pid) k h i (ap (λ (x : ℕ). eqb x pid) (sym is-pid) ∙ ne-eqb v pid other)
+pub audio-asked : (t : Table) (from : ℕ) → askRow streamCells 1 from Test.AudioStream t ≡ ask (nextAudioStream from) (onlyStreams t)
+unfolding answer clipIn
+audio-asked t from = row-answers (nextAudioStream from) (onlyStreams t) of.streams streamCells 1 from Test.AudioStream t refl refl refl
 
-      pub pid-found : v ≡ pid → number k ≡ answer (streamByPid pid) (clipIn (onlyStreams (stated t n)))
-      unfolding answer clipIn
-      pid-found same = first-found streamCells t n streamPid (λ y. eqb y pid) k h i (ap (λ (x : ℕ). eqb x pid) (sym is-pid) ∙ eq-eqb v pid same)
+-- ---- the PID of the first video stream
 
-    pub pid-none : (k : ℕ) → n ≤ k → ByPid k → none ≡ answer (streamByPid pid) (clipIn (onlyStreams (stated t n)))
-    unfolding answer clipIn
-    pid-none k h i = first-none streamCells t n streamPid (λ y. eqb y pid) k h i
+-- it is that of the row that is found
+pub pid-of : (t : Table) → ofRow streamPid (rowsOf streamCells t) (ask (nextVideoStream 0) (onlyStreams t)) ≡ ask primaryVideoPid (onlyStreams t)
+unfolding ask answer clipIn videoPid
+pid-of t = go (isStated streamCells t)
+  where
+    go : (b : Bool)
+        → ofRow streamPid (rowsOf streamCells t) (unless22 (both b true) (firstWhere isVideo 0 (map codingType (rowsOf streamCells t))))
+        ≡ unless22 (both b true) (ofRow streamPid (rowsOf streamCells t) (firstWhere isVideo 0 (map codingType (rowsOf streamCells t))))
+    go true = refl
+    go false = refl
 
-  -- ---- the first video
-
-  abbrev pub Video : ℕ → Type 0
-  Video k = videoPid (rowsLeft streamCells t n k) ≡ videoPid (tableRows streamCells t n)
-
-  pub video-all : Video 0
-  video-all = rw (left-all streamCells t n)
-
-  module _ (k : ℕ) {c : ℕ} {b : Bool} (h : k < n) (coding : CellIs t (20 * k + 4) c) (is : b ≡ isVideo c) (i : Video k) where
-    -- the coding type that was read is the row's
-    is-coding : c ≡ codingType (cellsAt t streamCells (4 * streamCells * k))
-    is-coding = cell-in streamCells t n k 1 (lit< tt) (omega arith) (coding .same)
-
-    pub video-turn : b ≡ false → Video (k + 1)
-    unfolding videoPid
-    video-turn f = rw (left-turn streamCells t n k h, ← is-coding, ← is, f) at i
-
-    pub video-found : {v : ℕ} → b ≡ true → CellIs t (20 * k) v → number v ≡ answer primaryVideoPid (clipIn (onlyStreams (stated t n)))
-    unfolding answer clipIn videoPid
-    video-found f pid =
-        ap (λ (x : ℕ). number x) (cell-in streamCells t n k 0 (lit< tt) (omega arith) (pid .same))
-        ∙ rw (left-turn streamCells t n k h, ← is-coding, ← is, f) at i
-
-  pub video-none : (k : ℕ) → n ≤ k → Video k → none ≡ answer primaryVideoPid (clipIn (onlyStreams (stated t n)))
-  unfolding answer clipIn videoPid
-  video-none k h i = rw (left-done streamCells t n k h) at i
+-- that row is one of the table's
+pub row-there : (t : Table) (k : ℕ) → number k ≡ ask (nextVideoStream 0) (onlyStreams t) → (k < t .rows) × (t .rows ≤ rowRoom streamCells (t .bytes))
+unfolding ask answer clipIn tableRows
+row-there t k h =
+    let codings = map codingType (rowsOf streamCells t) in
+    let through = through-test (both (isStated streamCells t) true) (firstWhere isVideo 0 codings) h in
+    let there = leb-true (t .rows) (rowRoom streamCells (t .bytes)) (both-true (isStated streamCells t) true (through .0) .0) in
+    let row = first-row isVideo codings k (through .1) in
+    (rw (length-map (rowsOf streamCells t) codingType, rows-length (cellsAt (t .bytes) streamCells) (λ p. p + 4 * streamCells) 0 (t .rows)) at row, there)

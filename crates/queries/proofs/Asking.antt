@@ -1,11 +1,12 @@
 -- The tests that a question begins with: stated rows that are not there are refused, else the record in the tables answers.
 use Prim.Native.Nat.{ℕ, _≤_}
-use mathlib.Core.Path.{_≡_, sym, _∙_}
+use mathlib.Core.Path.{_≡_, refl, sym, _∙_}
 use mathlib.Core.List.{List, [], _∷_}
 use mathlib.Core.Bool.{Bool, true, false, not}
+use native.Mathlib.Omega.{arith}
 use borrow.Author.Tests.{leb-true, not-true, not-false}
 use Rattle.format.specs.Bytes.{every}
-use Rattle.format.specs.Questions.{Question, Part, partsOf, partStated, refused, answer, ask}
+use Rattle.format.specs.Questions.{Question, Part, partsOf, partStated, Answer, refused, number, unless22, answer, ask}
 use Rattle.format.specs.Tables.{Table, ClipTables, clipIn, isStated, rowRoom}
 
 module _ (q : Question) (l : ClipTables) where
@@ -32,3 +33,8 @@ module _ (q : Question) (l : ClipTables) (p : Part) {b : Bool} (one : partsOf q 
 -- there is room for rows that are there
 pub room : (cells : ℕ) (t : Table) {b : Bool} → b ≡ isStated cells t → not b ≡ false → t .rows ≤ rowRoom cells (t .bytes)
 room cells t {b} is h = leb-true (t .rows) (rowRoom cells (t .bytes)) (sym is ∙ not-false b h)
+
+-- a row that a test lets through is the row that was found
+pub through-test : (b : Bool) (x : Answer) {k : ℕ} → number k ≡ unless22 b x → (b ≡ true) × (x ≡ number k)
+through-test true x h = (refl, sym h)
+through-test false x h = let z : _≡_ {A = ℕ} 0 1 = cc in absurd (omega arith)

@@ -1,3 +1,2 @@
--- Laws that the questions' proofs cite.
-pub mod Scans
+-- Laws of the tests that a question begins with.
 pub mod Asking

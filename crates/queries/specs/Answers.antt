@@ -16,6 +16,8 @@ abbrev pub time45Of : Time45 → Answer
 time45Of (Time45.Refused n) = refused n
 time45Of (Time45.Ticks t) = ticks45 (as45 t)
 
+-- a refusal, nothing, or a time
 abbrev pub time90Of : Time90 → Answer
 time90Of (Time90.Refused n) = refused n
+time90Of Time90.Nothing = none
 time90Of (Time90.Ticks t) = ticks90 (as90 t)

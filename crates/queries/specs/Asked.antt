@@ -28,12 +28,12 @@ abbrev pub noScalars : Scalars
 noScalars = onlyCounts 0 0
 
 -- scalars and the tables that questions look at
-abbrev pub tablesWith : Scalars → (atcs stcs streams maps entries : Table) → ClipTables
-tablesWith s atcs stcs streams maps entries = record {
+abbrev pub tablesWith : Scalars → (atcs stcs programs streams maps entries : Table) → ClipTables
+tablesWith s atcs stcs programs streams maps entries = record {
   scalars = s;
   atcs = atcs;
   stcs = stcs;
-  programs = noTable;
+  programs = programs;
   streams = streams;
   maps = maps;
   entries = entries;
@@ -41,23 +41,27 @@ tablesWith s atcs stcs streams maps entries = record {
 
 -- scalars alone
 abbrev pub onlyScalars : Scalars → ClipTables
-onlyScalars s = tablesWith s noTable noTable noTable noTable noTable
+onlyScalars s = tablesWith s noTable noTable noTable noTable noTable noTable
 
 -- the STCs alone
 abbrev pub onlyStcs : Table → ClipTables
-onlyStcs t = tablesWith noScalars noTable t noTable noTable noTable
+onlyStcs t = tablesWith noScalars noTable t noTable noTable noTable noTable
+
+-- the programs alone
+abbrev pub onlyPrograms : Table → ClipTables
+onlyPrograms t = tablesWith noScalars noTable noTable t noTable noTable noTable
 
 -- the streams alone
 abbrev pub onlyStreams : Table → ClipTables
-onlyStreams t = tablesWith noScalars noTable noTable t noTable noTable
+onlyStreams t = tablesWith noScalars noTable noTable noTable t noTable noTable
 
 -- the maps alone, and with their entries
 abbrev pub onlyMaps : Table → ClipTables
-onlyMaps t = tablesWith noScalars noTable noTable noTable t noTable
+onlyMaps t = tablesWith noScalars noTable noTable noTable noTable t noTable
 
 abbrev pub mapsAndEntries : Table → Table → ClipTables
-mapsAndEntries maps entries = tablesWith noScalars noTable noTable noTable maps entries
+mapsAndEntries maps entries = tablesWith noScalars noTable noTable noTable noTable maps entries
 
 -- the ATCs with their STCs
 abbrev pub atcsAndStcs : Table → Table → ClipTables
-atcsAndStcs atcs stcs = tablesWith noScalars atcs stcs noTable noTable noTable
+atcsAndStcs atcs stcs = tablesWith noScalars atcs stcs noTable noTable noTable noTable

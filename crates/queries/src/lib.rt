@@ -15,8 +15,9 @@ pub enum Time45 {
     Ticks(Ticks45),
 }
 
-// A refusal, or a time in 90 kHz ticks.
+// A refusal, nothing, or a time in 90 kHz ticks.
 pub enum Time90 {
     Refused(u32),
+    Nothing,
     Ticks(Ticks90),
 }

@@ -1,10 +1,15 @@
 // Bytes held against the stored answer, from front to back.
+ghost use mathlib.Core.Path.{_≡_};
+ghost use Rattle.format.specs.Tables.{rowBytes};
+ghost use Rattle.replay.specs.Parts.{behind, behindPart};
 
 // No place: what differs once stays different.
 pub const DIFFERENT: usize = 18446744073709551615;
 
 // The place behind n bytes of the answer from `at`, where they are the n bytes of the other from `from`; else no place.
-pub fn pass(answer: &[u8], at: usize, other: &[u8], from: usize, n: usize) -> usize {
+pub fn pass(answer: &[u8], at: usize, other: &[u8], from: usize, n: usize) -> usize
+    ensures { λ r. ⌜ r ≡ behindPart (now (answer .entry)) at (now (other .entry)) from n ⌝ }
+{
     if at > answer.len() {
         return DIFFERENT;
     }
@@ -28,16 +33,18 @@ pub fn pass(answer: &[u8], at: usize, other: &[u8], from: usize, n: usize) -> us
 }
 
 // The place behind the numbers, each a cell of the answer from its front; else no place.
-pub fn pass_numbers(answer: &[u8], numbers: &[u32]) -> usize {
+pub fn pass_numbers(answer: &[u8], numbers: &[u32]) -> usize
+    ensures { λ r. ⌜ r ≡ behind (now (answer .entry)) 0 (rowBytes (now (numbers .entry))) ⌝ }
+{
     if answer.len() / 4 < numbers.len() {
         return DIFFERENT;
     }
-    let mut i = 0;
-    while i < numbers.len() {
-        if common::cells::cell_at(answer, 4 * i) != numbers[i] {
+    let mut k = 0;
+    while k < numbers.len() {
+        if cells::cell_at(answer, 4 * k) != numbers[k] {
             return DIFFERENT;
         }
-        i += 1;
+        k += 1;
     }
-    4 * i
+    4 * k
 }

@@ -1,4 +1,14 @@
 // One case of the sample: a file, and what the Rust answered for it.
+ghost use mathlib.Core.Path.{_≡_};
+ghost use Prim.Native.Nat.{_<_};
+ghost use Rattle.format.specs.Extensions.{extensionOf};
+ghost use Rattle.format.specs.Refusals.{extensionRow};
+ghost use Rattle.format.specs.Tables.{rowBytes, rowsOf, extensionCells};
+ghost use Rattle.extension_entry.specs.Part.{tableOf};
+ghost use Rattle.clpi.specs.Numbers.{readingNumbers};
+ghost use Rattle.replay.specs.Parts.{sameBytes, behind};
+ghost use Rattle.replay.specs.Expected.{extensionBytes, expected};
+ghost use Rattle.replay.specs.Places.{behindRows, behindStreams, behindLists, extensionsBytes, DataInside};
 use crate::bytes::DIFFERENT;
 use crate::bytes::pass;
 use crate::bytes::pass_numbers;
@@ -6,7 +16,9 @@ use clpi::read::ClpiReading;
 use clpi::read::clpi_read;
 
 // The place behind the answer's 21 numbers.
-fn pass_reading(answer: &[u8], r: ClpiReading) -> usize {
+fn pass_reading(answer: &[u8], r: ClpiReading) -> usize
+    ensures { λ p. ⌜ p ≡ behind (now (answer .entry)) 0 (rowBytes (readingNumbers r)) ⌝ }
+{
     let numbers = [
         r.refusal,
         r.table,
@@ -34,26 +46,25 @@ fn pass_reading(answer: &[u8], r: ClpiReading) -> usize {
 }
 
 // The place behind one extension: its ids, its length and its data.
-fn pass_extension(
-    answer: &[u8],
-    at: usize,
-    file: &[u8],
-    table: &[u8],
-    rows: u32,
-    row: u32,
-) -> usize {
+fn pass_extension(answer: &[u8], at: usize, file: &[u8], table: &[u8], rows: u32, row: u32) -> usize
+    requires { ⌜ (DataInside (now file) (tableOf (now table) rows)) × (row < rows) ⌝ }
+    ensures { λ r. ⌜ r ≡ behind (now (answer .entry)) at (extensionBytes (extensionOf (now (file .entry)) (extensionRow (tableOf (now (table .entry)) rows) row))) ⌝ }
+{
     let from = 16 * (row as usize);
     let ids = pass(answer, at, table, from, 8);
     let length = pass(answer, ids, table, from + 12, 4);
-    if extension::data_refusal(file, table, rows, row) != 0 {
-        return DIFFERENT;
-    }
-    let data = extension::data(file, table, rows, row);
+    let data = extension_entry::data(file, table, rows, row);
     pass(answer, length, data, 0, data.len())
 }
 
 // The place behind all extensions.
-fn pass_extensions(answer: &[u8], at: usize, file: &[u8], table: &[u8], rows: u32) -> usize {
+fn pass_extensions(answer: &[u8], at: usize, file: &[u8], table: &[u8], rows: u32) -> usize
+    requires { ⌜ DataInside (now file) (tableOf (now table) rows) ⌝ }
+    ensures { λ r. ⌜ r ≡ behind (now (answer .entry)) at (extensionsBytes (now (file .entry)) (rowsOf extensionCells (tableOf (now (table .entry)) rows))) ⌝ }
+{
+    if at > answer.len() {
+        return DIFFERENT;
+    }
     let mut p = at;
     let mut row = 0;
     while row < rows {
@@ -63,20 +74,28 @@ fn pass_extensions(answer: &[u8], at: usize, file: &[u8], table: &[u8], rows: u3
     p
 }
 
-// The place behind so many rows of three, four and five cells.
-fn pass_rows3(answer: &[u8], at: usize, table: &[u8], rows: u32) -> usize {
+// The place behind so many rows of three cells.
+fn pass_rows3(answer: &[u8], at: usize, table: &[u8], rows: u32) -> usize
+    ensures { λ r. ⌜ r ≡ behindRows (now (answer .entry)) at 3 (now (table .entry)) rows ⌝ }
+{
     pass(answer, at, table, 0, 12 * (rows as usize))
 }
 
-fn pass_rows4(answer: &[u8], at: usize, table: &[u8], rows: u32) -> usize {
+// Of four cells.
+fn pass_rows4(answer: &[u8], at: usize, table: &[u8], rows: u32) -> usize
+    ensures { λ r. ⌜ r ≡ behindRows (now (answer .entry)) at 4 (now (table .entry)) rows ⌝ }
+{
     pass(answer, at, table, 0, 16 * (rows as usize))
 }
 
-fn pass_rows5(answer: &[u8], at: usize, table: &[u8], rows: u32) -> usize {
+// Of five cells.
+fn pass_rows5(answer: &[u8], at: usize, table: &[u8], rows: u32) -> usize
+    ensures { λ r. ⌜ r ≡ behindRows (now (answer .entry)) at 5 (now (table .entry)) rows ⌝ }
+{
     pass(answer, at, table, 0, 20 * (rows as usize))
 }
 
-// The place behind tables 1 to 4.
+// The place behind the numbers and tables 1 to 4.
 fn pass_streams(
     answer: &[u8],
     r: ClpiReading,
@@ -84,7 +103,9 @@ fn pass_streams(
     stcs: &[u8],
     programs: &[u8],
     streams: &[u8],
-) -> usize {
+) -> usize
+    ensures { λ p. ⌜ p ≡ behindStreams (now (answer .entry)) r (now (atcs .entry)) (now (stcs .entry)) (now (programs .entry)) (now (streams .entry)) ⌝ }
+{
     let mut p = pass_reading(answer, r);
     p = pass_rows3(answer, p, atcs, r.atcs);
     p = pass_rows4(answer, p, stcs, r.stcs);
@@ -101,7 +122,9 @@ fn pass_lists(
     entries: &[u8],
     programs2: &[u8],
     streams2: &[u8],
-) -> usize {
+) -> usize
+    ensures { λ p. ⌜ p ≡ behindLists (now (answer .entry)) at r (now (maps .entry)) (now (entries .entry)) (now (programs2 .entry)) (now (streams2 .entry)) ⌝ }
+{
     let mut p = pass_rows3(answer, at, maps, r.maps);
     p = pass_rows5(answer, p, entries, r.entries);
     p = pass_rows3(answer, p, programs2, r.list_programs);
@@ -109,7 +132,9 @@ fn pass_lists(
 }
 
 // Whether the file is read as the Rust read it: refused where the answer is the number 1 alone, else accepted with these numbers, rows and data.
-pub fn is_same(file: &[u8], answer: &[u8]) -> bool {
+pub fn is_same(file: &[u8], answer: &[u8]) -> bool
+    ensures { λ r. ⌜ r ≡ sameBytes (expected (now (file .entry))) (now (answer .entry)) ⌝ }
+{
     let mut atcs = [0; 3072];
     let mut stcs = [0; 4096];
     let mut programs = [0; 3072];

@@ -2,9 +2,12 @@
 mod bytes;
 mod case;
 
+ghost use mathlib.Core.Path.{_≡_};
 ghost use Prim.Native.Nat.{_+_, _^_, _≤_, _<_};
 ghost use lib.ListN.{length};
-use common::cells::cell_at;
+ghost use Rattle.format.specs.Refusals.{flag};
+ghost use Rattle.replay.specs.Sample.{caseSame, casesOf, tallyOf};
+use cells::cell_at;
 use input::Input;
 use input::read_input;
 use libc::STDOUT_FILENO;
@@ -18,6 +21,7 @@ pub struct Tally {
 // Whether the file of n bytes at `at` is read as the answer of m bytes behind it says.
 fn is_case_same(sample: &[u8], at: usize, n: usize, m: usize) -> bool
     requires { ⌜ at + n + m ≤ length (now sample) ⌝ }
+    ensures { λ r. ⌜ r ≡ caseSame (now (sample .entry)) at n m ⌝ }
 {
     let middle = at + n;
     let end = middle + m;
@@ -27,13 +31,15 @@ fn is_case_same(sample: &[u8], at: usize, n: usize, m: usize) -> bool
 // The count with one more where the case is the same.
 fn one_more(count: usize, is_same: bool) -> usize
     requires { ⌜ count + 1 < 2 ^ 64 ⌝ }
-    ensures { λ r. ⌜ r ≤ count + 1 ⌝ }
+    ensures { λ r. ⌜ r ≡ count + flag «is_same» ⌝ }
 {
     if is_same { count + 1 } else { count }
 }
 
 // Goes through the cases: two cells with the lengths of file and answer, then both.
-fn replay(sample: &[u8]) -> Tally {
+fn replay(sample: &[u8]) -> Tally
+    ensures { λ r. ⌜ r ≡ tallyOf (casesOf (now (sample .entry))) ⌝ }
+{
     let mut cases: usize = 0;
     let mut same: usize = 0;
     let mut at: usize = 0;

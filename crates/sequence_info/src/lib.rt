@@ -8,15 +8,15 @@ ghost use Rattle.format.specs.ClipRecord.{atcAt, stcAt, nextStc, nextAtc, atcsF
 ghost use Rattle.format.specs.Tables.{rowBytes, tableBytes, overwritten};
 ghost use Rattle.common.specs.Reader.{movedTo};
 ghost use Rattle.sequence_info.specs.Sequences.{measured, Fillable};
-use common::cells::put_row3;
-use common::cells::put_row4;
-use common::numbers::u8_at;
-use common::numbers::u16_at;
-use common::numbers::u32_at;
+use cells::put_row3;
+use cells::put_row4;
 use common::reader::Moved;
 use common::reader::Number;
 use common::reader::Reader;
 use common::reader::read_count;
+use numbers::u8_at;
+use numbers::u16_at;
+use numbers::u32_at;
 
 // How many ATCs and STCs the section has and where it ends, or that it passes the file's end.
 pub enum Measured {

@@ -1,5 +1,5 @@
 -- The latest end and the least start while a loop goes over the STCs, and the tests that a question begins with.
-use Prim.Native.Nat.{ℕ, _+_, _*_, _<_, _≤_, max, min}
+use Prim.Native.Nat.{ℕ, suc, _+_, _*_, _-_, _<_, _≤_, max, min}
 use mathlib.Core.Path.{_≡_, refl, sym, ap, _∙_}
 use mathlib.Core.List.{List, [], _∷_}
 use mathlib.Core.Bool.{Bool, true, false, not}
@@ -9,14 +9,14 @@ use lib.Dec.{ltb, lit<}
 use borrow.Author.Tests.{lt-ltb, le-ltb}
 use Rattle.format.specs.ClipRecord.{Row, stcStart, stcEnd}
 use Rattle.format.specs.Ticks.{Ticks45, Ticks90, doubled, less45, less90, minutes}
-use Rattle.format.specs.Questions.{Question, minutesRemaining, presentationSpan90k, Answer, refused, number, ticks90, stcs, partsOf, latestEnd, leastStart, presentationSpan, minutesLeft, durationOf, ofStc, answer, ask}
+use Rattle.format.specs.Questions.{Question, firstStcSequence, minutesRemaining, presentationSpan90k, Answer, refused, none, number, ticks90, stcs, partsOf, latestEnd, leastStart, presentationSpan, minutesLeft, durationOf, ofStc, answer, ask}
 use Rattle.format.specs.Tables.{cellsAt, tableRows, rowRoom, stcCells, isStated, clipIn}
 use Rattle.format.proofs.Cell.{cell-of}
 use Rattle.format.proofs.Rows.{rows-length}
-use Rattle.common.specs.Reads.{CellIs}
+use Rattle.cells.specs.Reads.{CellIs}
 use Rattle.queries.specs.Asked.{stated, onlyStcs}
 use Rattle.queries.proofs.Asking.{answered}
-use Rattle.queries.proofs.Scans.{rowsLeft, left-all, left-turn, left-done, cell-in}
+use Rattle.table_rows.proofs.Scans.{rowsLeft, left-all, left-turn, left-done, cell-in}
 
 module _ (t : List ℕ) (n : ℕ) where
   -- the latest of the ends seen and those left is that of all
@@ -100,3 +100,13 @@ module _ (t : List ℕ) (n : ℕ) where
       let end = cell-of stcCells t n k 3 h (lit< tt) (omega arith) (e .same) in
       let start = cell-of stcCells t n k 2 h (lit< tt) (omega arith) (s .same) in
       rw (r, end, start)
+
+-- ---- the first row
+
+pub no-first : (t : List ℕ) (n : ℕ) → n ≡ 0 → none ≡ answer firstStcSequence (clipIn (onlyStcs (stated t n)))
+unfolding answer clipIn tableRows
+no-first t n e = rw e
+
+pub a-first : (t : List ℕ) (n : ℕ) → (n ≡ 0 → ⊥) → number 0 ≡ answer firstStcSequence (clipIn (onlyStcs (stated t n)))
+unfolding answer clipIn tableRows
+a-first t n some = let e : n ≡ suc (n - 1) = omega arith in rw e

@@ -1,2 +1,3 @@
 -- Laws of the loops over the STCs.
 pub mod Laws
+pub mod Atcs

@@ -1,34 +1,32 @@
-// Questions about the STC sequences: how long they are, and how many minutes remain.
+// Questions about the STC sequences: the first, how long they are, and how many minutes remain.
+pub mod by_atc;
+
 ghost use mathlib.Core.Path.{_≡_};
 ghost use mathlib.Core.List.{[]};
 ghost use lib.ListN.{getD};
 ghost use Prim.Native.Nat.{_≤_, _<_, max, min};
-ghost use Rattle.format.specs.Questions.{ask, duration45k, duration90k, presentationSpan90k, minutesRemaining, latestEnd, leastStart, durationOf};
-ghost use Rattle.format.specs.Tables.{isStated, tableRows, rowRoom, stcCells};
+ghost use Rattle.format.specs.Questions.{ask, firstStcSequence, duration45k, duration90k, presentationSpan90k, minutesRemaining, latestEnd, leastStart, durationOf};
+ghost use Rattle.format.specs.Tables.{tableRows, rowRoom, stcCells};
 ghost use Rattle.ticks.specs.Times.{as45, as90};
 ghost use Rattle.queries.specs.Answers.{foundOf, time45Of, time90Of};
 ghost use Rattle.queries.specs.Asked.{stated, onlyStcs};
-use common::cells::cell_at;
+use cells::cell_at;
 use queries::Found;
 use queries::Time45;
 use queries::Time90;
+use table_rows::own::is_stated;
 use ticks::Ticks45;
 use ticks::Ticks90;
 
-// The bytes of a row: PID, packet, start, end.
+// The cells of a row (PID, packet, start, end), and its bytes.
+pub(crate) const STC: usize = 4;
+
 const ROW: usize = 16;
 
 // Where a row's start and end stand in it.
 const START: usize = 8;
 
 const END: usize = 12;
-
-// Whether the table has room for the rows that are stated.
-fn is_stated(stcs: &[u8], rows: u32) -> bool
-    ensures { λ r. ⌜ r ≡ isStated stcCells (stated (now (stcs .entry)) rows) ⌝ }
-{
-    (rows as usize) <= stcs.len() / ROW
-}
 
 // The later of two times.
 fn later(a: u32, b: u32) -> u32
@@ -76,7 +74,7 @@ fn least_start(stcs: &[u8], rows: u32, first: u32) -> Ticks45
 pub fn minutes_remaining(stcs: &[u8], rows: u32, at: Ticks90) -> Found
     ensures { λ r. ⌜ foundOf r ≡ ask (minutesRemaining (as90 at)) (onlyStcs (stated (now (stcs .entry)) rows)) ⌝ }
 {
-    if !is_stated(stcs, rows) {
+    if !is_stated(stcs, rows, STC) {
         return Found::Refused(22);
     }
     Found::Number(latest_end(stcs, rows).doubled().less(at).minutes())
@@ -86,7 +84,7 @@ pub fn minutes_remaining(stcs: &[u8], rows: u32, at: Ticks90) -> Found
 pub fn presentation_span_90k(stcs: &[u8], rows: u32) -> Time90
     ensures { λ r. ⌜ time90Of r ≡ ask presentationSpan90k (onlyStcs (stated (now (stcs .entry)) rows)) ⌝ }
 {
-    if !is_stated(stcs, rows) {
+    if !is_stated(stcs, rows, STC) {
         return Time90::Refused(22);
     }
     if rows == 0 {
@@ -112,7 +110,7 @@ fn row_duration(stcs: &[u8], rows: u32, stc: u32) -> Ticks45
 pub fn duration_45k(stcs: &[u8], rows: u32, stc: u32) -> Time45
     ensures { λ r. ⌜ time45Of r ≡ ask (duration45k stc) (onlyStcs (stated (now (stcs .entry)) rows)) ⌝ }
 {
-    if !is_stated(stcs, rows) {
+    if !is_stated(stcs, rows, STC) {
         return Time45::Refused(22);
     }
     if stc >= rows {
@@ -125,11 +123,24 @@ pub fn duration_45k(stcs: &[u8], rows: u32, stc: u32) -> Time45
 pub fn duration_90k(stcs: &[u8], rows: u32, stc: u32) -> Time90
     ensures { λ r. ⌜ time90Of r ≡ ask (duration90k stc) (onlyStcs (stated (now (stcs .entry)) rows)) ⌝ }
 {
-    if !is_stated(stcs, rows) {
+    if !is_stated(stcs, rows, STC) {
         return Time90::Refused(22);
     }
     if stc >= rows {
         return Time90::Refused(22);
     }
     Time90::Ticks(row_duration(stcs, rows, stc).doubled())
+}
+
+// The first STC in file order, or nothing.
+pub fn first_stc_sequence(stcs: &[u8], rows: u32) -> Found
+    ensures { λ r. ⌜ foundOf r ≡ ask firstStcSequence (onlyStcs (stated (now (stcs .entry)) rows)) ⌝ }
+{
+    if !is_stated(stcs, rows, STC) {
+        return Found::Refused(22);
+    }
+    if rows == 0 {
+        return Found::Nothing;
+    }
+    Found::Number(0)
 }

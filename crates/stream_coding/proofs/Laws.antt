@@ -1,14 +1,16 @@
 -- A match on a number against a list of numbers is a chain of tests, for any list.
-use Prim.Native.Nat.{ℕ}
+use Prim.Native.Nat.{ℕ, _<_, _≤_}
 use mathlib.Core.Path.{_≡_, refl, sym}
 use mathlib.Core.List.{List, [], _∷_}
 use mathlib.Core.Bool.{Bool, true, false}
 use mathlib.Core.Logic.{inl, inr}
+use native.Mathlib.Omega.{arith}
 use lib.Dec.{eqb}
-use borrow.Author.Tests.{eq-eqb, ne-eqb}
+use borrow.Author.Tests.{eq-eqb, ne-eqb, le-leb, lt-leb}
 use types.Run.{OneOf}
 use Rattle.format.specs.Bytes.{either}
 use Rattle.format.specs.Programs.{isVideo}
+use Rattle.format.specs.Questions.{isAudio, isVideoMap}
 
 -- the chain of tests: x is k or one of ks
 abbrev tested : ℕ → List ℕ → ℕ → Bool
@@ -44,3 +46,27 @@ listed x h = sym (taken 0x02 others x h)
 pub not-listed : (x : ℕ) → (OneOf (0x02 ∷ others) x → ⊥) → false ≡ isVideo x
 unfolding isVideo
 not-listed x h = sym (passed 0x02 others x h)
+
+-- ---- audio, by its range and two more
+
+module _ (x : ℕ) where
+  pub below-audio : x < 0x80 → false ≡ isAudio x
+  unfolding isAudio
+  below-audio h = rw (lt-leb 0x80 x h, ne-eqb x 0xA1 (λ e. omega arith), ne-eqb x 0xA2 (λ e. omega arith))
+
+  pub in-range : 0x80 ≤ x → x ≤ 0x86 → true ≡ isAudio x
+  unfolding isAudio
+  in-range h g = rw (le-leb 0x80 x h, le-leb x 0x86 g)
+
+  pub secondary : 0x80 ≤ x → 0x86 < x → x ≡ 0xA1 → true ≡ isAudio x
+  unfolding isAudio
+  secondary h g e = rw e
+
+  pub last-audio : 0x80 ≤ x → 0x86 < x → (x ≡ 0xA1 → ⊥) → eqb x 0xA2 ≡ isAudio x
+  unfolding isAudio
+  last-audio h g n = rw (le-leb 0x80 x h, lt-leb x 0x86 g, ne-eqb x 0xA1 n)
+
+  -- ---- video maps, one test behind another
+
+  pub last-map : (x ≡ 1 → ⊥) → (x ≡ 5 → ⊥) → (x ≡ 6 → ⊥) → eqb x 8 ≡ isVideoMap x
+  last-map a b c = rw (ne-eqb x 1 a, ne-eqb x 5 b, ne-eqb x 6 c)

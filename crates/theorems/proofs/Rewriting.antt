@@ -19,7 +19,7 @@ use Rattle.format.proofs.Read.{good-clip, narrow, lowered-streams}
 use Rattle.format.proofs.Write.{encode-bytes, counts, cells, runs-fit, written as not-refused}
 use Rattle.format.proofs.Whole.{is-short, is-accepted, reads-back, record-back}
 use Rattle.format.proofs.Maker.{good-made}
-use Rattle.format.proofs.ClipTables.{shaped, clip-held, all-stated, asked, no-short, filled-holds}
+use Rattle.format.proofs.ClipTables.{Shaped, shaped, clip-held, all-stated, asked, no-short, filled-holds}
 
 -- ---- a file's record
 
@@ -108,6 +108,10 @@ module _ (f : List ℕ) (h : Rewritable f) where
       let s = shaped 65535 (recordOf f .clip) good in
       let hn′ : All (HoldsPart new (recordOf f .clip)) (partsOf question) = rw same-clip at hn in
       asked old (recordOf f .clip) s question ho ∙ sym (asked new (recordOf f .clip) s question hn′)
+
+-- the rows of a file's record have the cells that their tables say
+pub file-shaped : (f : List ℕ) → Rewritable f → Shaped (recordOf f .clip)
+file-shaped f h = shaped 65535 (recordOf f .clip) (good f h)
 
 -- demand 3
 pub rewriting-keeps : (f : List ℕ) → Rewritable f → RewritingKeeps f

@@ -5,3 +5,5 @@ pub mod BitFields
 pub mod ReadByRead
 pub mod Rewriting
 pub mod Extensions
+pub mod Lookups
+pub mod Choices

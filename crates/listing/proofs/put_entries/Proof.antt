@@ -6,8 +6,10 @@ use denote.Ref.{now}
 use borrow.Author.Needs.{needs}
 use Rattle.format.specs.Bytes.{flat}
 use Rattle.format.specs.Listing.{epLine}
-use Rattle.listing.specs.Text.{Still, entriesFrom}
-use Rattle.listing.proofs.Laws.{still-as, still-turn, still-none, still-all, entries-all, entries-turn, entries-done}
+use Rattle.text_lines.specs.Stored.{Still}
+use Rattle.listing.specs.Text.{entriesFrom}
+use Rattle.text_lines.proofs.Laws.{still-as, still-turn, still-none, still-all}
+use Rattle.listing.proofs.Laws.{entries-all, entries-turn, entries-done}
 use Rattle.listing.proofs.put_entries.Statement.{statement}
 use Rattle.listing.proofs.put_entries.Tie as tie
 

@@ -1,6 +1,7 @@
 -- The two cells are the entry's time and packet.
 use denote.Ref.{now}
-use Rattle.listing.proofs.Laws.{in-as, entry-line}
+use Rattle.text_lines.proofs.Laws.{in-as}
+use Rattle.listing.proofs.Laws.{entry-line}
 use borrow.Author.Needs.{needs}
 use Rattle.listing.proofs.put_entry.Statement.{statement}
 use Rattle.listing.proofs.put_entry.Tie as tie

@@ -1,6 +1,7 @@
 -- The three cells are the map's PID, type and count of entries.
 use denote.Ref.{now}
-use Rattle.listing.proofs.Laws.{in-as, map-line}
+use Rattle.text_lines.proofs.Laws.{in-as}
+use Rattle.listing.proofs.Laws.{map-line}
 use borrow.Author.Needs.{needs}
 use Rattle.listing.proofs.put_map.Statement.{statement}
 use Rattle.listing.proofs.put_map.Tie as tie

@@ -9,8 +9,10 @@ use Rattle.format.specs.Bytes.{total}
 use Rattle.format.specs.ClipRecord.{entryCount}
 use Rattle.format.specs.Tables.{mapCells}
 use Rattle.format.specs.Listing.{mapLines}
-use Rattle.listing.specs.Text.{Still, mapsFrom, entriesFrom}
-use Rattle.listing.proofs.Laws.{in-then, still-as, still-turn, still-none, still-all, cell-is, counts-all, maps-all, counts-turn, maps-turn, maps-done}
+use Rattle.text_lines.specs.Stored.{Still}
+use Rattle.listing.specs.Text.{mapsFrom, entriesFrom}
+use Rattle.text_lines.proofs.Laws.{in-then, still-as, still-turn, still-none, still-all}
+use Rattle.listing.proofs.Laws.{cell-is, counts-all, maps-all, counts-turn, maps-turn, maps-done}
 use Rattle.listing.proofs.put_maps.Statement.{statement}
 use Rattle.listing.proofs.put_maps.Tie as tie
 

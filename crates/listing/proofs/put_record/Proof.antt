@@ -3,7 +3,8 @@ use native.Mathlib.Omega.{arith}
 use Rattle.format.specs.Tables.{tableRows}
 use borrow.Author.Needs.{needs}
 use Rattle.listing.specs.Text.{recordText}
-use Rattle.listing.proofs.Laws.{in-then, shows}
+use Rattle.text_lines.proofs.Laws.{in-then}
+use Rattle.listing.proofs.Laws.{shows}
 use Rattle.listing.proofs.put_record.Statement.{statement}
 use Rattle.listing.proofs.put_record.Tie as tie
 

@@ -1,107 +1,75 @@
--- Rows that are not there are refused; each turn passes a row that is not video.
-use Prim.Native.Nat.{_-_, _≤_}
-use mathlib.Core.Path.{_≡_, refl, _∙_}
+-- The number in the row of the first video stream.
+use mathlib.Core.Path.{_≡_, sym, ap, _∙_}
 use native.Mathlib.Omega.{arith}
+use lib.Dec.{lit<}
 use denote.Ref.{now}
-use Rattle.format.specs.Questions.{primaryVideoPid}
-use Rattle.format.specs.Questions as of
-use Rattle.format.specs.Tables.{rowRoom, clipIn, streamCells}
+use Rattle.format.specs.ClipRecord.{streamPid}
+use Rattle.format.specs.Questions.{number, nextVideoStream, ofRow, ask}
+use Rattle.format.specs.Tables.{rowsOf, streamCells}
+use Rattle.queries.specs.Answers.{foundOf}
 use Rattle.queries.specs.Asked.{stated, onlyStreams}
-use Rattle.queries.proofs.Asking.{unstated, answered, room}
-use Rattle.program_queries.proofs.Laws.{Video, video-all, video-turn, video-found, video-none}
+use Rattle.table_rows.proofs.FirstRow.{of-row}
+use Rattle.program_queries.proofs.Laws.{pid-of, row-there}
 use borrow.Author.Needs.{needs}
 use Rattle.program_queries.proofs.primary_video_pid.Statement.{statement}
 use Rattle.program_queries.proofs.primary_video_pid.Tie as tie
 
-abbrev Inv-loop : tie.InvT-loop
-Inv-loop streams rows k₀ k = (k ≤ rows) × Video streams rows k
+next-video-stream-requires : tie.Need-next-video-stream-requires
+next-video-stream-requires c κs = search needs
 
-abbrev μ-loop : tie.MeasureT-loop
-μ-loop streams rows k₀ k = rows - k
+enum-known-refusal : tie.Need-enum-known-refusal
+enum-known-refusal c = search needs
 
-is-stated-requires : tie.Need-is-stated-requires Inv-loop μ-loop
-is-stated-requires c κs = search needs
+enum-told : tie.Need-enum-told
+enum-told c = search needs
 
-returns : tie.Need-returns Inv-loop μ-loop
+enum-known-row : tie.Need-enum-known-row
+enum-known-row c = search needs
+
+-- the row that was found
+found-row : (k : tie.After-known-told2) → let a = k .before .before .before .before .before .args in number (k .before .row .given .0 .0) ≡ ask (nextVideoStream 0) (onlyStreams (stated (now (a .streams)) (a .rows)))
+found-row k = sym (ap foundOf (k .before .row .given .1)) ∙ k .before .before .before .next-video-stream .ensures
+
+mul-cell-at : tie.Need-mul-cell-at
+mul-cell-at c = let a = c .before .before .before .before .before .args in record { fits = omega (arith, row-there (stated (now (a .streams)) (a .rows)) (c .before .row .given .0 .0) (found-row c)) }
+
+cell-at-requires : tie.Need-cell-at-requires
+cell-at-requires c κs = let a = c .before .before .before .before .before .args in omega (arith, row-there (stated (now (a .streams)) (a .rows)) (c .before .row .given .0 .0) (found-row c))
+
+cast-t10 : tie.Need-cast-t10
+cast-t10 c = search needs
+
+returns : tie.Need-returns
 returns c =
-    let a = c .before .before .before .args in
-    unstated primaryVideoPid (onlyStreams (stated (now (a .streams)) (a .rows))) of.streams refl (c .before .is-stated .ensures) (c .if1 .taken)
+    let t = c .before .before .before .before .before .args in
+    let l = stated (now (t .streams)) (t .rows) in
+    ap (ofRow streamPid (rowsOf streamCells l)) (sym (ap foundOf (c .before .refusal .given .1)) ∙ c .before .before .before .next-video-stream .ensures) ∙ pid-of l
 
--- the rows are there, so they answer
-module _ (e : tie.Else1 Inv-loop μ-loop) where
-  rows-fit : let a = e .before .before .before .args in a .rows ≤ rowRoom streamCells (now (a .streams))
-  rows-fit = let a = e .before .before .before .args in room streamCells (stated (now (a .streams)) (a .rows)) (e .before .is-stated .ensures) (e .if1 .left)
-
-  asked : let a = e .before .before .before .args in of.answer primaryVideoPid (clipIn (onlyStreams (stated (now (a .streams)) (a .rows)))) ≡ of.ask primaryVideoPid (onlyStreams (stated (now (a .streams)) (a .rows)))
-  asked = let a = e .before .before .before .args in answered primaryVideoPid (onlyStreams (stated (now (a .streams)) (a .rows))) of.streams refl (e .before .is-stated .ensures) (e .if1 .left)
-
-loop-holds : tie.Need-loop-holds Inv-loop μ-loop
-loop-holds c = let a = c .before .before .before .args in (omega arith, video-all (now (a .streams)) (a .rows))
-
-cast-at : tie.Need-cast-at Inv-loop μ-loop
-cast-at c = search needs
-
-mul-at : tie.Need-mul-at Inv-loop μ-loop
-mul-at c = search needs
-
-add-cell-at : tie.Need-add-cell-at Inv-loop μ-loop
-add-cell-at c = search needs
-
-cell-at-requires : tie.Need-cell-at-requires Inv-loop μ-loop
-cell-at-requires c κs = omega (arith, rows-fit (c .before .before))
-
-is-video-requires : tie.Need-is-video-requires Inv-loop μ-loop
-is-video-requires c κs = search needs
-
-cell-at-requires-2 : tie.Need-cell-at-requires-2 Inv-loop μ-loop
-cell-at-requires-2 c κs = omega (arith, rows-fit (c .before .before .before .before .before))
-
-cast-t12 : tie.Need-cast-t12 Inv-loop μ-loop
-cast-t12 c = search needs
-
-returns-2 : tie.Need-returns-2 Inv-loop μ-loop
+returns-2 : tie.Need-returns-2
 returns-2 c =
-    let t = c .before in
-    let a = t .before .before .before .before .before .before .before .before .args in
-    let l = t .before .before .before .before .loop in
-    video-found (now (a .streams)) (a .rows) (l .k) (omega arith) (t .before .before .cell-at .ensures) (t .before .is-video .ensures) (l .inv .1) (t .if2 .taken) (c .cell-at2 .ensures) ∙ asked (t .before .before .before .before .before)
+    let t = c .before .before .before .before .args in
+    let l = stated (now (t .streams)) (t .rows) in
+    ap (ofRow streamPid (rowsOf streamCells l)) (sym (ap foundOf (c .enum-told .given .1)) ∙ c .before .before .next-video-stream .ensures) ∙ pid-of l
 
-add-k : tie.Need-add-k Inv-loop μ-loop
-add-k c = search needs
-
-loop-less : tie.Need-loop-less Inv-loop μ-loop
-loop-less c = search needs
-
-loop-again : tie.Need-loop-again Inv-loop μ-loop
-loop-again c =
-    let a = c .before .before .before .before .before .before .before .before .args in
-    let l = c .before .before .before .before .loop in
-    (omega arith, video-turn (now (a .streams)) (a .rows) (l .k) (omega arith) (c .before .before .cell-at .ensures) (c .before .is-video .ensures) (l .inv .1) (c .if2 .left))
-
-returns-3 : tie.Need-returns-3 Inv-loop μ-loop
+returns-3 : tie.Need-returns-3
 returns-3 c =
-    let a = c .before .before .before .before .before .args in
-    let l = c .before .loop in
-    video-none (now (a .streams)) (a .rows) (l .k) (c .loop-test .left) (l .inv .1) ∙ asked (c .before .before)
+    let k = c .before in
+    let t = k .before .before .before .before .before .args in
+    let l = stated (now (t .streams)) (t .rows) in
+    of-row streamCells 0 l (k .before .row .given .0 .0) (row-there l (k .before .row .given .0 .0) (found-row k) .0) (lit< tt) (omega arith) (c .cell-at .ensures)
+    ∙ ap (ofRow streamPid (rowsOf streamCells l)) (found-row k) ∙ pid-of l
 
 pub primary-video-pid-spec : {M : Type 1} → statement M
 primary-video-pid-spec =
     tie.close
     (tie.spec
-    Inv-loop
-    μ-loop
-    is-stated-requires
-    returns
-    loop-holds
-    cast-at
-    mul-at
-    add-cell-at
+    next-video-stream-requires
+    enum-known-refusal
+    enum-told
+    enum-known-row
+    mul-cell-at
     cell-at-requires
-    is-video-requires
-    cell-at-requires-2
-    cast-t12
+    cast-t10
+    returns
     returns-2
-    add-k
-    loop-less
-    loop-again
     returns-3)

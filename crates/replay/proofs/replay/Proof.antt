@@ -1,18 +1,20 @@
--- Each case stands behind the one before, and there are no more cases than bytes.
-use Prim.Native.Nat.{_-_, _≤_}
+-- Each case stands behind the one before; what is counted, with what is left, is the whole.
+use Prim.Native.Nat.{_-_}
 use lib.ListN.{length}
+use denote.Ref.{now}
 use borrow.Author.Needs.{needs}
+use Rattle.replay.proofs.SampleLaws.{Counted, none-counted, one-counted, cut-short, none-left}
 use Rattle.replay.proofs.replay.Statement.{statement}
 use Rattle.replay.proofs.replay.Tie as tie
 
 abbrev Inv-loop : tie.InvT-loop
-Inv-loop sample cases₀ same₀ at₀ cases same at = (at ≤ length sample) × (same ≤ cases) × (cases ≤ at)
+Inv-loop sample cases₀ same₀ at₀ cases same at = Counted sample cases same at
 
 abbrev μ-loop : tie.MeasureT-loop
 μ-loop sample cases₀ same₀ at₀ cases same at = length sample - at
 
 loop-holds : tie.Need-loop-holds Inv-loop μ-loop
-loop-holds c = search needs
+loop-holds c = none-counted (now (c .before .args .sample))
 
 sub-loop : tie.Need-sub-loop Inv-loop μ-loop
 sub-loop c = search needs
@@ -42,7 +44,8 @@ sub-if1 : tie.Need-sub-if1 Inv-loop μ-loop
 sub-if1 c = search needs
 
 returns : tie.Need-returns Inv-loop μ-loop
-returns c = search needs
+returns c =
+    cut-short (now (c .before .before .before .before .before .before .args .sample)) (search needs) (c .before .before .cell-at .ensures .same) (c .before .cell-at2 .ensures .same) (c .before .before .before .before .loop .inv) (c .if1 .taken)
 
 is-case-same-requires : tie.Need-is-case-same-requires Inv-loop μ-loop
 is-case-same-requires c κs = search needs
@@ -63,10 +66,11 @@ loop-less : tie.Need-loop-less Inv-loop μ-loop
 loop-less c = search needs
 
 loop-again : tie.Need-loop-again Inv-loop μ-loop
-loop-again c = search needs
+loop-again c =
+    one-counted (now (c .before .before .before .before .before .before .before .before .args .sample)) (search needs) (c .before .before .before .before .cell-at .ensures .same) (c .before .before .before .cell-at2 .ensures .same) (c .before .before .before .before .before .before .loop .inv) (search needs) (c .before .is-case-same .ensures) (c .one-more .ensures)
 
 returns-2 : tie.Need-returns-2 Inv-loop μ-loop
-returns-2 c = search needs
+returns-2 c = none-left (now (c .before .before .before .args .sample)) (c .loop-test .left) (c .before .loop .inv)
 
 pub replay-spec : {M : Type 1} → statement M
 replay-spec =

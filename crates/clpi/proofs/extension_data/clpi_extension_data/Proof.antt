@@ -1,7 +1,7 @@
 -- The place that was answered has its numbers.
 use mathlib.Core.Path.{sym, _∙_}
 use denote.Ref.{now}
-use Rattle.extension.specs.Part.{tableOf}
+use Rattle.extension_entry.specs.Part.{tableOf}
 use Rattle.clpi.proofs.Laws.{placed, not-placed}
 use borrow.Author.Needs.{needs}
 use Rattle.clpi.proofs.extension_data.clpi_extension_data.Statement.{statement}

@@ -5,7 +5,7 @@ use mathlib.Core.List.{List}
 use native.Mathlib.Omega.{arith}
 use denote.Ref.{now}
 use Rattle.format.specs.EntryPoints.{mapTypeAt, coarseCountAt, fineCountAt, bodyAt}
-use Rattle.bits.specs.declared.MapHeader.{MapHeader}
+use Rattle.ep_rows.specs.declared.MapHeader.{MapHeader}
 use Rattle.cpi.proofs.Sections.{header-read, counts-small, fine-is}
 use Rattle.cpi.proofs.Filling.{BodyIn, body-in, own-stored}
 use borrow.Author.Needs.{needs}

@@ -1,21 +1,24 @@
--- Each number has its cell.
-use Prim.Native.Nat.{_-_, _≤_}
+-- Each number has its cell, and what is left after those that are the same decides.
+use Prim.Native.Nat.{_-_}
+use mathlib.Core.Path.{sym, _∙_}
 use lib.ListN.{length}
+use denote.Ref.{now}
 use borrow.Author.Needs.{needs}
+use Rattle.replay.proofs.PartLaws.{Told, none-told, one-told, one-untold, all-told, too-few-cells}
 use Rattle.replay.proofs.bytes.pass_numbers.Statement.{statement}
 use Rattle.replay.proofs.bytes.pass_numbers.Tie as tie
 
 abbrev Inv-loop : tie.InvT-loop
-Inv-loop answer numbers i₀ i = i ≤ length numbers
+Inv-loop answer numbers k₀ k = Told answer numbers k
 
 abbrev μ-loop : tie.MeasureT-loop
-μ-loop answer numbers i₀ i = length numbers - i
+μ-loop answer numbers k₀ k = length numbers - k
 
 returns : tie.Need-returns Inv-loop μ-loop
-returns c = search needs
+returns c = too-few-cells (now (c .before .before .before .args .answer)) (now (c .before .before .before .args .numbers)) (c .if1 .taken)
 
 loop-holds : tie.Need-loop-holds Inv-loop μ-loop
-loop-holds c = search needs
+loop-holds c = none-told (now (c .before .before .before .args .answer)) (now (c .before .before .before .args .numbers))
 
 mul-cell-at : tie.Need-mul-cell-at Inv-loop μ-loop
 mul-cell-at c = search needs
@@ -30,22 +33,30 @@ shared-slice-read-if2 : tie.Need-shared-slice-read-if2 Inv-loop μ-loop
 shared-slice-read-if2 c = search needs
 
 returns-2 : tie.Need-returns-2 Inv-loop μ-loop
-returns-2 c = search needs
+returns-2 c =
+    let a = c .before .before .before .before .before .before .before .before .args in
+    let l = c .before .before .before .before .loop in
+    let cell = c .before .before .cell-at .ensures .same in
+    one-untold (now (a .answer)) (now (a .numbers)) (λ i. c .before .before .before .before .before .before .before .shared-slice-known .given i .fits) (c .before .before .before .before .before .if1 .left) (c .before .before .before .loop-test .taken) (c .before .shared-slice-known3 .given (l .k) .fits) (l .inv) (λ e. c .if2 .taken (cell ∙ e))
 
-add-i : tie.Need-add-i Inv-loop μ-loop
-add-i c = search needs
+add-k : tie.Need-add-k Inv-loop μ-loop
+add-k c = search needs
 
 loop-less : tie.Need-loop-less Inv-loop μ-loop
 loop-less c = search needs
 
 loop-again : tie.Need-loop-again Inv-loop μ-loop
-loop-again c = search needs
+loop-again c =
+    let a = c .before .before .before .before .before .before .before .before .args in
+    let l = c .before .before .before .before .loop in
+    let cell = c .before .before .cell-at .ensures .same in
+    one-told (now (a .answer)) (now (a .numbers)) (λ i. c .before .before .before .before .before .before .before .shared-slice-known .given i .fits) (c .before .before .before .before .before .if1 .left) (c .before .before .before .loop-test .taken) (c .before .shared-slice-known3 .given (l .k) .fits) (l .inv) (sym cell ∙ c .if2 .left)
 
 mul-result : tie.Need-mul-result Inv-loop μ-loop
 mul-result c = search needs
 
 returns-3 : tie.Need-returns-3 Inv-loop μ-loop
-returns-3 c = search needs
+returns-3 c = all-told (now (c .before .before .before .before .before .args .answer)) (now (c .before .before .before .before .before .args .numbers)) (c .loop-test .left) (c .before .loop .inv)
 
 pub pass-numbers-spec : {M : Type 1} → statement M
 pass-numbers-spec =
@@ -60,7 +71,7 @@ pass-numbers-spec =
     mul-if2
     shared-slice-read-if2
     returns-2
-    add-i
+    add-k
     loop-less
     loop-again
     mul-result

@@ -1,0 +1,221 @@
+-- The chain of refusals, test by test.
+use Prim.Native.Nat.{ℕ, zero, suc, _+_, _-_, _<_, _≤_}
+use mathlib.Core.Path.{_≡_, refl, sym, _∙_}
+use mathlib.Core.List.{List}
+use mathlib.Core.Bool.{Bool, true, false}
+use native.Mathlib.Omega.{arith}
+use lib.ListN.{length}
+use lib.Dec.{leb, eqb, eqb·suc-zero}
+use borrow.Author.Tests.{eq-eqb, ne-eqb, le-leb, lt-leb, lt-ltb, le-ltb, leb-true}
+use Rattle.format.specs.Bytes.{pick, unless, beAt}
+use Rattle.format.specs.ClipRecord.{lettersRight, clipInfoIn, sequencesStart, programsStart, cpiStart, marksStart, atcsFrom, stcsFrom, sequencesEnd, marksIn}
+use Rattle.format.specs.Programs.{programsFrom, streamsFrom, programsEnd}
+use Rattle.format.specs.EntryPoints.{cpiIn, mapsIn, mapsFrom, entriesFrom}
+use Rattle.format.specs.Reading.{clipOf}
+use Rattle.format.specs.Refusals.{refusalOf}
+use Rattle.format.proofs.Tests.{split-both, passed}
+use Rattle.common.specs.Header.{headerOf}
+use Rattle.common.specs.declared.header.BdmvHeader.{BdmvHeader}
+use Rattle.common.proofs.Laws.{rest}
+use Rattle.cpi.specs.Maps.{measured as cpiMeasured, mapsMeasured}
+use Rattle.cpi.specs.declared.maps.Measured.{Measured as CpiMeasured}
+use Rattle.clip_sections.specs.Clips.{frontOf, sectionsOf}
+use Rattle.clip_sections.specs.declared.sections.Sections.{Sections}
+
+-- ---- marks
+
+module _ (f : List ℕ) (start : ℕ) where
+  pub marks-zero : start ≡ 0 → true ≡ marksIn f start
+  unfolding marksIn
+  marks-zero h = rw (eq-eqb start 0 h)
+
+  pub marks-far : (start ≡ 0 → ⊥) → length f ≤ start → true ≡ marksIn f start
+  unfolding marksIn
+  marks-far n h = rw (ne-eqb start 0 n, le-ltb start (length f) h)
+
+  pub marks-near : (start ≡ 0 → ⊥) → start < length f → leb 6 (length f - start) ≡ marksIn f start
+  unfolding marksIn
+  marks-near n h = rw (ne-eqb start 0 n, lt-ltb start (length f) h) (rest start 6 (length f) (omega arith))
+
+-- ---- the header and ClipInfo
+
+module _ (f : List ℕ) where
+  pub too-long : 536870912 < length f → 20 ≡ frontOf f
+  unfolding frontOf
+  too-long h = rw (lt-leb (length f) 536870912 h)
+
+  module _ (most : length f ≤ 536870912) where
+    pub truncated : headerOf f ≡ BdmvHeader.Truncated → 1 ≡ frontOf f
+    unfolding frontOf
+    truncated h = rw (le-leb (length f) 536870912 most) (go (leb 8 (length f)) (lettersRight f) h)
+      where
+        go : (a b : Bool) → pick a (pick b (BdmvHeader.Clip (beAt f 4 4)) BdmvHeader.OtherLetters) BdmvHeader.Truncated ≡ BdmvHeader.Truncated
+            → 1 ≡ unless a 1 (unless b 2 (unless (leb 40 (length f)) 1 (unless (clipInfoIn f) 3 0)))
+        go false b h = refl
+        go true true h = let z : _≡_ {A = ℕ} 0 1 = cc in absurd (omega arith)
+        go true false h = let z : _≡_ {A = ℕ} 0 1 = cc in absurd (omega arith)
+
+    pub other-letters : headerOf f ≡ BdmvHeader.OtherLetters → 2 ≡ frontOf f
+    unfolding frontOf
+    other-letters h = rw (le-leb (length f) 536870912 most) (go (leb 8 (length f)) (lettersRight f) h)
+      where
+        go : (a b : Bool) → pick a (pick b (BdmvHeader.Clip (beAt f 4 4)) BdmvHeader.OtherLetters) BdmvHeader.Truncated ≡ BdmvHeader.OtherLetters
+            → 2 ≡ unless a 1 (unless b 2 (unless (leb 40 (length f)) 1 (unless (clipInfoIn f) 3 0)))
+        go false b h = let z : _≡_ {A = ℕ} 0 1 = cc in absurd (omega arith)
+        go true true h = let z : _≡_ {A = ℕ} 0 1 = cc in absurd (omega arith)
+        go true false h = refl
+
+    module _ (v : ℕ) (clip : headerOf f ≡ BdmvHeader.Clip v) where
+      -- the letters are right
+      front-is : frontOf f ≡ unless (leb 40 (length f)) 1 (unless (clipInfoIn f) 3 0)
+      unfolding frontOf
+      front-is = rw (le-leb (length f) 536870912 most) (go (leb 8 (length f)) (lettersRight f) clip)
+        where
+          go : (a b : Bool) → pick a (pick b (BdmvHeader.Clip (beAt f 4 4)) BdmvHeader.OtherLetters) BdmvHeader.Truncated ≡ BdmvHeader.Clip v
+              → unless a 1 (unless b 2 (unless (leb 40 (length f)) 1 (unless (clipInfoIn f) 3 0))) ≡ unless (leb 40 (length f)) 1 (unless (clipInfoIn f) 3 0)
+          go false b h = let z : _≡_ {A = ℕ} 0 1 = cc in absurd (omega arith)
+          go true true h = refl
+          go true false h = let z : _≡_ {A = ℕ} 0 1 = cc in absurd (omega arith)
+
+      pub under-40 : length f < 40 → 1 ≡ frontOf f
+      under-40 h = rw (front-is, lt-leb 40 (length f) h)
+
+      pub under-194 : 40 ≤ length f → length f < 194 → 3 ≡ frontOf f
+      unfolding clipInfoIn
+      under-194 k h = rw (front-is, le-leb 40 (length f) k, lt-leb 194 (length f) h)
+
+      pub info-past : 194 ≤ length f → length f < 44 + beAt f 40 4 → 3 ≡ frontOf f
+      unfolding clipInfoIn
+      info-past k h = rw (front-is, le-leb 40 (length f) (omega arith), le-leb 194 (length f) k, lt-leb (44 + beAt f 40 4) (length f) h)
+
+      pub front-passes : 194 ≤ length f → 44 + beAt f 40 4 ≤ length f → 0 ≡ frontOf f
+      unfolding clipInfoIn
+      front-passes k h = rw (front-is, le-leb 40 (length f) (omega arith), le-leb 194 (length f) k, le-leb (44 + beAt f 40 4) (length f) h)
+
+-- what a front that passes says
+pub front-facts : (f : List ℕ) → frontOf f ≡ 0 → (length f ≤ 536870912) × (194 ≤ length f)
+unfolding frontOf clipInfoIn
+front-facts f h =
+    let a = passed (leb (length f) 536870912) 19 _ h in
+    let b = passed (leb 8 (length f)) 0 _ (a .1) in
+    let c = passed (lettersRight f) 1 _ (b .1) in
+    let d = passed (leb 40 (length f)) 0 _ (c .1) in
+    let e = passed (clipInfoIn f) 2 0 (d .1) in
+    (leb-true (length f) 536870912 (a .0), leb-true 194 (length f) (split-both (e .0) .0))
+
+-- ---- the sections behind it
+
+abbrev pub laterOf : List ℕ → ℕ
+laterOf f =
+    unless (leb (sequencesEnd f (sequencesStart f)) (length f)) 4
+    (unless (leb (programsEnd f (programsStart f)) (length f)) 5
+    (unless (cpiIn f (cpiStart f)) 6
+    (unless (mapsIn f (cpiStart f)) 7
+    (unless (marksIn f (marksStart f)) 8 0))))
+
+pub front-then : (f : List ℕ) → refusalOf f ≡ pick (eqb (frontOf f) 0) (laterOf f) (frontOf f)
+unfolding refusalOf frontOf
+front-then f = go (leb (length f) 536870912) (leb 8 (length f)) (lettersRight f) (leb 40 (length f)) (clipInfoIn f) (laterOf f)
+  where
+    go : (a b c d e : Bool) (x : ℕ)
+        → unless a 20 (unless b 1 (unless c 2 (unless d 1 (unless e 3 x))))
+        ≡ pick (eqb (unless a 20 (unless b 1 (unless c 2 (unless d 1 (unless e 3 0))))) 0) x (unless a 20 (unless b 1 (unless c 2 (unless d 1 (unless e 3 0)))))
+    go true true true true true x = refl
+    go true true true true false x = refl
+    go true true true false e x = refl
+    go true true false d e x = refl
+    go true false c d e x = refl
+    go false b c d e x = refl
+
+-- of an accepted file the front passes, and so does all behind it
+pub both-pass : (f : List ℕ) → refusalOf f ≡ 0 → (frontOf f ≡ 0) × (laterOf f ≡ 0)
+both-pass f h = go (frontOf f) (laterOf f) (sym (front-then f) ∙ h)
+  where
+    go : (r x : ℕ) → pick (eqb r 0) x r ≡ 0 → (r ≡ 0) × (x ≡ 0)
+    go zero x h = (refl, h)
+    go (suc r) x h = let g = rw (eqb·suc-zero r) at h in absurd (omega arith)
+
+module _ (f : List ℕ) where
+  -- a refusal is not 0
+  refused : (n : ℕ) → refusalOf f ≡ suc n → Sections.Refused (suc n) ≡ sectionsOf f
+  unfolding sectionsOf
+  refused n h = rw (h, eqb·suc-zero n)
+
+  pub front-refused : (r : ℕ) → r ≡ frontOf f → (r ≡ 0 → ⊥) → Sections.Refused r ≡ sectionsOf f
+  unfolding sectionsOf
+  front-refused r e h =
+      let n : frontOf f ≡ 0 → ⊥ = λ z. h (e ∙ z) in
+      let is : refusalOf f ≡ r = front-then f ∙ rw (ne-eqb (frontOf f) 0 n) (sym e) in
+      rw (is, ne-eqb r 0 h)
+
+  module _ (front : frontOf f ≡ 0) where
+    later : refusalOf f ≡ laterOf f
+    later = front-then f ∙ rw front
+
+    pub sequences-refused : leb (sequencesEnd f (sequencesStart f)) (length f) ≡ false → Sections.Refused 4 ≡ sectionsOf f
+    sequences-refused h = refused 3 (later ∙ rw h)
+
+    module _ (seq : leb (sequencesEnd f (sequencesStart f)) (length f) ≡ true) where
+      pub programs-refused : leb (programsEnd f (programsStart f)) (length f) ≡ false → Sections.Refused 5 ≡ sectionsOf f
+      programs-refused h = refused 4 (later ∙ rw (seq, h))
+
+      module _ (prog : leb (programsEnd f (programsStart f)) (length f) ≡ true) where
+        pub cpi-refused : cpiIn f (cpiStart f) ≡ false → Sections.Refused 6 ≡ sectionsOf f
+        cpi-refused h = refused 5 (later ∙ rw (seq, prog, h))
+
+        module _ (cpi : cpiIn f (cpiStart f) ≡ true) where
+          pub maps-refused : mapsIn f (cpiStart f) ≡ false → Sections.Refused 7 ≡ sectionsOf f
+          maps-refused h = refused 6 (later ∙ rw (seq, prog, cpi, h))
+
+          module _ (maps : mapsIn f (cpiStart f) ≡ true) where
+            pub marks-refused : marksIn f (marksStart f) ≡ false → Sections.Refused 8 ≡ sectionsOf f
+            marks-refused h = refused 7 (later ∙ rw (seq, prog, cpi, maps, h))
+
+            pub all-measured : (a s p t m e : ℕ) → marksIn f (marksStart f) ≡ true → a ≡ length (clipOf f .atcs) → s ≡ length (clipOf f .stcs)
+                → p ≡ length (clipOf f .programs) → t ≡ length (clipOf f .streams) → m ≡ length (clipOf f .maps) → e ≡ length (clipOf f .entries)
+                → Sections.Counts a s p t m e ≡ sectionsOf f
+            unfolding sectionsOf
+            all-measured a s p t m e h ea es ep et em ee =
+                let z : refusalOf f ≡ 0 = later ∙ rw (seq, prog, cpi, maps, h) in
+                rw (z, ea, es, ep, et, em, ee)
+
+-- the same with the rows of each section
+pub all-counted : (f : List ℕ) → frontOf f ≡ 0 → leb (sequencesEnd f (sequencesStart f)) (length f) ≡ true → leb (programsEnd f (programsStart f)) (length f) ≡ true
+    → cpiIn f (cpiStart f) ≡ true → mapsIn f (cpiStart f) ≡ true → marksIn f (marksStart f) ≡ true → {a s p t m e : ℕ}
+    → a ≡ length (atcsFrom f (sequencesStart f)) → s ≡ length (stcsFrom f (sequencesStart f)) → p ≡ length (programsFrom f (programsStart f))
+    → t ≡ length (streamsFrom f (programsStart f)) → m ≡ length (mapsFrom f (cpiStart f)) → e ≡ length (entriesFrom f (cpiStart f))
+    → Sections.Counts a s p t m e ≡ sectionsOf f
+unfolding clipOf
+all-counted f front seq prog cpi maps marks {a} {s} {p} {t} {m} {e} ea es ep et em ee = all-measured f front seq prog cpi maps a s p t m e marks ea es ep et em ee
+
+-- ---- what the measure of the entry index says
+
+module _ (f : List ℕ) (c : ℕ) where
+  pub cpi-past : cpiMeasured f c ≡ CpiMeasured.PastEnd → cpiIn f c ≡ false
+  unfolding cpiMeasured mapsMeasured
+  cpi-past h = go (cpiIn f c) (mapsIn f c) h
+    where
+      go : (a b : Bool) → pick a (pick b (CpiMeasured.Counts (length (mapsFrom f c)) (length (entriesFrom f c))) CpiMeasured.MapPastEnd) CpiMeasured.PastEnd ≡ CpiMeasured.PastEnd → a ≡ false
+      go false b h = refl
+      go true true h = let z : _≡_ {A = ℕ} 0 1 = cc in absurd (omega arith)
+      go true false h = let z : _≡_ {A = ℕ} 0 1 = cc in absurd (omega arith)
+
+  pub map-past : cpiMeasured f c ≡ CpiMeasured.MapPastEnd → (cpiIn f c ≡ true) × (mapsIn f c ≡ false)
+  unfolding cpiMeasured mapsMeasured
+  map-past h = go (cpiIn f c) (mapsIn f c) h
+    where
+      go : (a b : Bool) → pick a (pick b (CpiMeasured.Counts (length (mapsFrom f c)) (length (entriesFrom f c))) CpiMeasured.MapPastEnd) CpiMeasured.PastEnd ≡ CpiMeasured.MapPastEnd
+          → (a ≡ true) × (b ≡ false)
+      go false b h = let z : _≡_ {A = ℕ} 0 1 = cc in absurd (omega arith)
+      go true true h = let z : _≡_ {A = ℕ} 0 1 = cc in absurd (omega arith)
+      go true false h = (refl, refl)
+
+  pub cpi-counts : (m e : ℕ) → cpiMeasured f c ≡ CpiMeasured.Counts m e → (cpiIn f c ≡ true) × (mapsIn f c ≡ true) × (m ≡ length (mapsFrom f c)) × (e ≡ length (entriesFrom f c))
+  unfolding cpiMeasured mapsMeasured
+  cpi-counts m e h = go (cpiIn f c) (mapsIn f c) h
+    where
+      go : (a b : Bool) → pick a (pick b (CpiMeasured.Counts (length (mapsFrom f c)) (length (entriesFrom f c))) CpiMeasured.MapPastEnd) CpiMeasured.PastEnd ≡ CpiMeasured.Counts m e
+          → (a ≡ true) × (b ≡ true) × (m ≡ length (mapsFrom f c)) × (e ≡ length (entriesFrom f c))
+      go false b h = let z : _≡_ {A = ℕ} 0 1 = cc in absurd (omega arith)
+      go true true h = (refl, refl, cc, cc)
+      go true false h = let z : _≡_ {A = ℕ} 0 1 = cc in absurd (omega arith)

@@ -1,0 +1,21 @@
+-- Each return, by the tests that led to it.
+use denote.Ref.{now}
+use Rattle.clip_sections.proofs.Laws.{marks-zero, marks-far, marks-near}
+use borrow.Author.Needs.{needs}
+use Rattle.clip_sections.proofs.sections.marks_in.Statement.{statement}
+use Rattle.clip_sections.proofs.sections.marks_in.Tie as tie
+
+returns : tie.Need-returns
+returns c = let a = c .before .args in marks-zero (now (a .file)) (a .start) (c .if1 .taken)
+
+returns-2 : tie.Need-returns-2
+returns-2 c = let a = c .before .before .args in marks-far (now (a .file)) (a .start) (c .before .if1 .left) (c .if2 .taken)
+
+sub-result : tie.Need-sub-result
+sub-result c = search needs
+
+returns-3 : tie.Need-returns-3
+returns-3 c = let a = c .before .before .args in marks-near (now (a .file)) (a .start) (c .before .if1 .left) (c .if2 .left)
+
+pub marks-in-spec : {M : Type 1} → statement M
+marks-in-spec = tie.close (tie.spec returns returns-2 sub-result returns-3)

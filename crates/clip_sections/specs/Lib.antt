@@ -1,0 +1,5 @@
+-- What the functions of this crate promise.
+pub mod Clips
+pub mod Room
+pub mod Lists
+pub mod Prepare

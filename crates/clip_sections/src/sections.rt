@@ -1,0 +1,110 @@
+// The sections measured in the order of their refusals.
+ghost use mathlib.Core.Path.{_≡_};
+ghost use Rattle.clip_sections.specs.Clips.{frontOf, sectionsOf};
+ghost use Rattle.format.specs.ClipRecord.{marksIn};
+use common::header::BdmvHeader;
+use numbers::u32_at;
+
+// The rows of tables 1 to 6, or the refusal's number.
+pub enum Sections {
+    Counts {
+        atcs: usize,
+        stcs: usize,
+        programs: usize,
+        streams: usize,
+        maps: usize,
+        entries: usize,
+    },
+    Refused(u32),
+}
+
+// The greatest file that is read.
+const MOST: usize = 536870912;
+
+// Whether the marks, where there are any, are in the file.
+fn marks_in(file: &[u8], start: usize) -> bool
+    ensures { λ r. ⌜ r ≡ marksIn (now (file .entry)) start ⌝ }
+{
+    if start == 0 {
+        return true;
+    }
+    let len = file.len();
+    if len <= start {
+        return true;
+    }
+    6 <= len - start
+}
+
+// The header and ClipInfo: 0, or the refusal's number.
+fn front(file: &[u8]) -> u32
+    ensures { λ r. ⌜ r ≡ frontOf (now (file .entry)) ⌝ }
+{
+    let len = file.len();
+    if MOST < len {
+        return 20;
+    }
+    match BdmvHeader::parse(file) {
+        BdmvHeader::Truncated => {
+            return 1;
+        }
+        BdmvHeader::OtherLetters => {
+            return 2;
+        }
+        BdmvHeader::Clip { version: _ } => {}
+    }
+    if len < 40 {
+        return 1;
+    }
+    if len < 194 {
+        return 3;
+    }
+    if len - 44 < u32_at(file, 40) as usize {
+        return 3;
+    }
+    0
+}
+
+// Every section in its turn.
+pub fn measure(file: &[u8]) -> Sections
+    ensures { λ r. ⌜ r ≡ sectionsOf (now (file .entry)) ⌝ }
+{
+    let refusal = front(file);
+    if refusal != 0 {
+        return Sections::Refused(refusal);
+    }
+    let sequences = u32_at(file, 8) as usize;
+    let sequence_info::Measured::Counts { atcs, stcs, end: _ } = sequence_info::measure(
+        file,
+        sequences,
+    ) else {
+        return Sections::Refused(4);
+    };
+    let progs = u32_at(file, 12) as usize;
+    let program_info::Measured::Counts {
+        programs,
+        streams,
+        end: _,
+    } = program_info::measure(file, progs)
+    else {
+        return Sections::Refused(5);
+    };
+    let index = u32_at(file, 16) as usize;
+    match cpi::maps::measure(file, index) {
+        cpi::maps::Measured::PastEnd => Sections::Refused(6),
+        cpi::maps::Measured::MapPastEnd => Sections::Refused(7),
+        cpi::maps::Measured::Counts { maps, entries } => {
+            if marks_in(file, u32_at(file, 20) as usize) {
+                Sections::Counts {
+                    atcs,
+                    stcs,
+                    programs,
+                    streams,
+                    maps,
+                    entries,
+                }
+            } else {
+                Sections::Refused(8)
+            }
+        }
+    }
+}

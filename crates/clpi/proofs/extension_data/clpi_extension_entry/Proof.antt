@@ -1,0 +1,18 @@
+-- The answer's numbers.
+use mathlib.Core.Path.{ap, _∙_}
+use Rattle.format.specs.Questions.{answerNumbers}
+use borrow.Author.Needs.{needs}
+use Rattle.clpi.proofs.extension_data.clpi_extension_entry.Statement.{statement}
+use Rattle.clpi.proofs.extension_data.clpi_extension_entry.Tie as tie
+
+entry-requires : tie.Need-entry-requires
+entry-requires c κs = search needs
+
+answer-of-requires : tie.Need-answer-of-requires
+answer-of-requires c κs = search needs
+
+returns : tie.Need-returns
+returns c = c .answer-of .ensures ∙ ap answerNumbers (c .before .entry .ensures)
+
+pub clpi-extension-entry-spec : {M : Type 1} → statement M
+clpi-extension-entry-spec = tie.close (tie.spec entry-requires answer-of-requires returns)

@@ -1,0 +1,2 @@
+-- The numbers of the structs with which C is answered.
+pub mod Numbers

@@ -1,0 +1,84 @@
+// The entries of one map: each fine row joined with the coarse row that it uses, put into a table.
+ghost use mathlib.Core.Path.{_≡_};
+ghost use Prim.Native.Nat.{_+_, _*_, _≤_, min};
+ghost use lib.ListN.{length};
+ghost use lib.Seq.{sets};
+ghost use Rattle.format.specs.Bytes.{unpacked, rowsAt};
+ghost use Rattle.format.specs.EntryPoints.{fineWidths, coarseAt, fineAt, nextCoarse, nextFine, entriesFor};
+ghost use Rattle.format.specs.Tables.{rowBytes, tableBytes};
+ghost use Rattle.ep_entries.specs.Entries.{entryBy, runBytes, Run, Fill};
+use crate::walk::Walk;
+use crate::walk::reach;
+use crate::walk::start;
+use cells::put_row5;
+use ep_rows::entry_packet;
+use ep_rows::entry_time;
+use ep_rows::fine_row;
+use numbers::u32_at;
+
+// The entry of a fine row under the walk's coarse row, as the row of a table from `at`.
+fn put_entry(word: u32, w: Walk, kind: u32, table: &mut [u8], at: usize)
+    requires { ⌜ at + 20 ≤ length (now table) ⌝ }
+    ensures { λ _. ⌜ now (table .exit) ≡ sets (now (table .entry)) at (rowBytes (entryBy kind (w .time) (w .packet) (unpacked fineWidths word))) ⌝ }
+{
+    let fine = fine_row(word);
+    let time = entry_time(w.time, fine.time);
+    let packet = entry_packet(w.packet, fine.packet);
+    put_row5(table, at, fine.angle, fine.i_end, time, packet, kind);
+}
+
+// The entries of the fine rows from number `from` up to `end`, all under the walk's coarse row; the table's row for fine row 0 is at `at`.
+fn put_run(
+    file: &[u8],
+    fine: usize,
+    from: usize,
+    end: usize,
+    w: Walk,
+    kind: u32,
+    table: &mut [u8],
+    at: usize,
+)
+    requires { ⌜ Run (length (now file)) fine from end (length (now table)) at ⌝ }
+    ensures { λ _. ⌜ now (table .exit) ≡ sets (now (table .entry)) (at + 20 * from) (runBytes (now (file .entry)) kind (w .time) (w .packet) fine from end) ⌝ }
+{
+    let mut k = from;
+    while k < end {
+        put_entry(u32_at(file, fine + 4 * k), w, kind, table, at + 20 * k);
+        k += 1;
+    }
+}
+
+// Where the rows under a coarse row end: at the next one's first fine row, or with the rows.
+fn run_end(next: u32, num_fine: usize) -> usize
+    ensures { λ r. ⌜ r ≡ min next «num_fine» ⌝ }
+{
+    if (next as usize) < num_fine {
+        next as usize
+    } else {
+        num_fine
+    }
+}
+
+// The entries of num_fine fine rows at `fine`, under num_coarse coarse rows at `coarse`, into the table from `at`.
+pub fn put_entries(
+    file: &[u8],
+    coarse: usize,
+    num_coarse: usize,
+    fine: usize,
+    num_fine: usize,
+    kind: u32,
+    table: &mut [u8],
+    at: usize,
+)
+    requires { ⌜ Fill (now file) coarse «num_coarse» fine «num_fine» (length (now table)) at ⌝ }
+    ensures { λ _. ⌜ now (table .exit) ≡ sets (now (table .entry)) at (tableBytes (entriesFor kind (rowsAt (coarseAt (now (file .entry))) nextCoarse coarse «num_coarse») 0 (rowsAt (fineAt (now (file .entry))) nextFine fine «num_fine»))) ⌝ }
+{
+    let mut w = start(file, coarse, num_coarse);
+    let mut k: usize = 0;
+    while k < num_fine {
+        w = reach(file, k as u32, w);
+        let end = run_end(w.next, num_fine);
+        put_run(file, fine, k, end, w, kind, table, at);
+        k = end;
+    }
+}

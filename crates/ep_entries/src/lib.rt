@@ -1,0 +1,3 @@
+// The entries of one map: a walk over its coarse rows, each fine row joined with the one that it uses, put into a table.
+pub mod entries;
+pub mod walk;

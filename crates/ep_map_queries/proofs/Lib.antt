@@ -1,0 +1,4 @@
+-- Laws of the entries of one map.
+pub mod Nearest
+pub mod Answers
+pub mod Lasts

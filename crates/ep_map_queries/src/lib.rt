@@ -1,0 +1,4 @@
+// Questions about the entries of one map.
+pub mod entries;
+pub mod own;
+pub mod spans;

@@ -1,0 +1,2 @@
+-- The packed rows as the code's structs.
+pub mod Rows

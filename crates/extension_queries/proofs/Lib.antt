@@ -1,0 +1,2 @@
+-- Laws of the search for two ids.
+pub mod Search

@@ -1,0 +1,2 @@
+-- The extension with two ids.
+pub mod ById

@@ -1,0 +1,2 @@
+-- Demand 3's fourth part for the calls that answer questions.
+pub mod Alike

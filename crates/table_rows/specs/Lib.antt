@@ -1,0 +1,3 @@
+-- The rows of a header row, and the first row that passes a test.
+pub mod OwnRows
+pub mod FirstRow
