@@ -1,0 +1,97 @@
+-- Fields stored one behind the other, zeros, and the head in its two parts.
+use Prim.Native.Nat.{ℕ, zero, suc, _+_, _-_, _*_, _/_, _%_, _^_, _<_, _≤_}
+use mathlib.Core.Path.{_≡_, refl, sym, ap, _∙_}
+use mathlib.Core.List.{List, [], _∷_, _++_, append-nil, append-assoc}
+use native.Mathlib.Nat.{add-assoc, zero-div}
+use native.Mathlib.Omega.{arith}
+use lib.ListN.{length, length-append}
+use lib.Seq.{sets}
+use Rattle.format.specs.Bytes.{bytesOf, widthOf, fieldBytes}
+use Rattle.format.specs.ClipRecord.{Scalars, Clip}
+use Rattle.format.specs.Rewriting.{headWidths, headBytes}
+use Rattle.format.proofs.Numbers.{bytes-length}
+use Rattle.format.proofs.Loops.{put-more}
+use Rattle.format.proofs.Stores.{sets-append, bytes-parts}
+use Rattle.encode_head.specs.Heads.{headerWidths, headerNumbers, infoWidths, infoNumbers, headOf}
+
+-- a field stored, and the later fields behind it
+pub field-then : (l : List ℕ) (at w v : ℕ) (ws vs : List ℕ) {l′ l″ : List ℕ} → l′ ≡ sets l at (bytesOf w v) → l″ ≡ sets l′ (at + w) (fieldBytes ws vs)
+    → l″ ≡ sets l at (fieldBytes (w ∷ ws) (v ∷ vs))
+field-then l at w v ws vs e f = f ∙ rw (e, sets-append l at (bytesOf w v) (fieldBytes ws vs), bytes-length w v)
+
+-- the last field
+pub field-last : (l : List ℕ) (at w v : ℕ) {l′ : List ℕ} → l′ ≡ sets l at (bytesOf w v) → l′ ≡ sets l at (fieldBytes (w ∷ []) (v ∷ []))
+field-last l at w v e = e ∙ rw (append-nil (bytesOf w v))
+
+-- zeros: one, and the rest
+zeros-more : (n : ℕ) → bytesOf (1 + n) 0 ≡ bytesOf 1 0 ++ bytesOf n 0
+zeros-more n = bytes-parts 1 n 0 ∙ ap (λ (v : ℕ). bytesOf 1 v ++ bytesOf n 0) (zero-div (256 ^ n))
+
+-- what is left, one counted apart
+one-left′ : (n k : ℕ) → k < n → n - k ≡ 1 + (n - (k + 1))
+one-left′ n k h = omega arith
+
+-- at first all are left
+pub zeros-first : (at n : ℕ) (l : List ℕ) → sets l (at + 0) (bytesOf (n - 0) 0) ≡ sets l at (bytesOf n 0)
+zeros-first at n l =
+    let place : at + 0 ≡ at = omega arith in
+    let all : n - 0 ≡ n = omega arith in
+    rw (place, all)
+
+-- one zero stored, and what is left goes behind it
+pub zeros-turn : (at n k : ℕ) (l : List ℕ) {l′ whole : List ℕ} → k < n → l′ ≡ sets l (at + k) (bytesOf 1 0)
+    → sets l (at + k) (bytesOf (n - k) 0) ≡ whole → sets l′ (at + (k + 1)) (bytesOf (n - (k + 1)) 0) ≡ whole
+zeros-turn at n k l h e f =
+    let all : bytesOf (n - k) 0 ≡ bytesOf 1 0 ++ bytesOf (n - (k + 1)) 0 = ap (λ (m : ℕ). bytesOf m 0) (one-left′ n k h) ∙ zeros-more (n - (k + 1)) in
+    rw (← add-assoc at k 1) (put-more l (at + k) 1 (bytesOf 1 0) (bytesOf (n - (k + 1)) 0) (bytes-length 1 0) e (rw all at f))
+
+pub zeros-done : (at n k : ℕ) (l : List ℕ) {whole : List ℕ} → n ≤ k → sets l (at + k) (bytesOf (n - k) 0) ≡ whole → l ≡ whole
+unfolding bytesOf
+zeros-done at n k l h f =
+    let none : n - k ≡ 0 = omega arith in
+    rw none at f
+
+-- fields, and more fields behind them
+fields-append : (ws vs more values : List ℕ) → length ws ≡ length vs → fieldBytes (ws ++ more) (vs ++ values) ≡ fieldBytes ws vs ++ fieldBytes more values
+fields-append [] [] more values e = refl
+fields-append [] (v ∷ vs) more values e = absurd (omega (arith, e))
+fields-append (w ∷ ws) [] more values e = absurd (omega (arith, e))
+fields-append (w ∷ ws) (v ∷ vs) more values e =
+    rw (fields-append ws vs more values (omega (arith, e)), append-assoc (bytesOf w v) (fieldBytes ws vs) (fieldBytes more values))
+
+-- the length of fields is that of their widths
+fields-length : (ws vs : List ℕ) → length ws ≡ length vs → length (fieldBytes ws vs) ≡ widthOf ws
+fields-length [] [] e = refl
+fields-length [] (v ∷ vs) e = absurd (omega (arith, e))
+fields-length (w ∷ ws) [] e = absurd (omega (arith, e))
+fields-length (w ∷ ws) (v ∷ vs) e = rw (length-append (bytesOf w v) (fieldBytes ws vs), bytes-length w v, fields-length ws vs (omega (arith, e)))
+
+-- the header, and ClipInfo behind it
+pub head-parts : (s : Scalars) (programs cpi marks : ℕ)
+    → headOf s programs cpi marks ≡ fieldBytes headerWidths (headerNumbers (s .version) programs cpi marks) ++ fieldBytes infoWidths (infoNumbers s)
+unfolding headOf
+head-parts s programs cpi marks = fields-append headerWidths (headerNumbers (s .version) programs cpi marks) infoWidths (infoNumbers s) refl
+
+-- 220 bytes
+pub head-length : (s : Scalars) (programs cpi marks : ℕ) → length (headOf s programs cpi marks) ≡ 220
+head-length s programs cpi marks =
+    let front = fieldBytes headerWidths (headerNumbers (s .version) programs cpi marks) in
+    let info = fieldBytes infoWidths (infoNumbers s) in
+    let forty : length front ≡ 40 = fields-length headerWidths (headerNumbers (s .version) programs cpi marks) refl in
+    let rest : length info ≡ 180 = fields-length infoWidths (infoNumbers s) refl in
+    rw (head-parts s programs cpi marks, length-append front info, forty, rest)
+
+-- the header stored, and ClipInfo behind it
+pub head-stored : (s : Scalars) (programs cpi marks : ℕ) (l : List ℕ) {l′ l″ : List ℕ}
+    → l′ ≡ sets l 0 (fieldBytes headerWidths (headerNumbers (s .version) programs cpi marks)) → l″ ≡ sets l′ 40 (fieldBytes infoWidths (infoNumbers s))
+    → l″ ≡ sets l 0 (headOf s programs cpi marks)
+head-stored s programs cpi marks l e f =
+    let front = fieldBytes headerWidths (headerNumbers (s .version) programs cpi marks) in
+    let forty : length front ≡ 40 = fields-length headerWidths (headerNumbers (s .version) programs cpi marks) refl in
+    let long : 0 + length front ≡ 40 = omega (arith, forty) in
+    f ∙ rw (e, head-parts s programs cpi marks, sets-append l 0 front (fieldBytes infoWidths (infoNumbers s)), long)
+
+-- the head of a record
+pub head-is : (c : Clip) (programs cpi marks : ℕ) → headBytes c programs cpi marks ≡ headOf (c .scalars) programs cpi marks
+unfolding headBytes headOf
+head-is c programs cpi marks = refl

@@ -1,0 +1,2 @@
+-- The fixed parts of a written file.
+pub mod Heads
