@@ -8,7 +8,7 @@ use lib.ListN.{length, length-append}
 use lib.Seq.{sets}
 use Rattle.format.specs.Bytes.{bytesOf, widthOf, fieldBytes}
 use Rattle.format.specs.ClipRecord.{Scalars, Clip}
-use Rattle.format.specs.Rewriting.{headWidths, headBytes}
+use Rattle.format.specs.Rewriting.{headBytes, marksBytes}
 use Rattle.format.proofs.Numbers.{bytes-length}
 use Rattle.format.proofs.Loops.{put-more}
 use Rattle.format.proofs.Stores.{sets-append, bytes-parts}
@@ -95,3 +95,7 @@ head-stored s programs cpi marks l e f =
 pub head-is : (c : Clip) (programs cpi marks : ℕ) → headBytes c programs cpi marks ≡ headOf (c .scalars) programs cpi marks
 unfolding headBytes headOf
 head-is c programs cpi marks = refl
+
+-- empty marks have 6 bytes
+pub marks-length : length marksBytes ≡ 6
+marks-length = fields-length (4 ∷ 2 ∷ []) (2 ∷ 0 ∷ []) refl

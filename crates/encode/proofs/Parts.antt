@@ -1,0 +1,65 @@
+-- The bytes of a written file, section by section.
+use Prim.Native.Nat.{ℕ, _+_, _≤_}
+use mathlib.Core.Path.{_≡_, refl, sym, ap, _∙_}
+use mathlib.Core.List.{List, _++_}
+use native.Mathlib.Omega.{arith}
+use lib.ListN.{length, length-append}
+use lib.Seq.{sets}
+use Rattle.format.specs.ClipRecord.{Clip}
+use Rattle.format.specs.Rewriting.{headBytes, sequencesBytes, programsBytes, cpiBytes, marksBytes, encode}
+use Rattle.format.proofs.Stores.{sets-append}
+use Rattle.encode_head.specs.Heads.{headOf}
+use Rattle.encode_head.proofs.Laws.{head-is, head-length, marks-length}
+use Rattle.encode.specs.Writing.{programsPlace, cpiPlace, marksPlace}
+
+-- the new file, with the places of its sections
+pub encode-is : (c : Clip)
+    → encode c ≡ headOf (c .scalars) (programsPlace c) (cpiPlace c) (marksPlace c) ++ (sequencesBytes c ++ (programsBytes c ++ (cpiBytes c ++ marksBytes)))
+unfolding encode programsPlace cpiPlace marksPlace
+encode-is c = ap (λ (h : List ℕ). h ++ (sequencesBytes c ++ (programsBytes c ++ (cpiBytes c ++ marksBytes)))) (head-is c _ _ _)
+
+-- the places, as sums
+pub place-programs : (c : Clip) → programsPlace c ≡ 220 + length (sequencesBytes c)
+unfolding programsPlace
+place-programs c = refl
+
+pub place-cpi : (c : Clip) → cpiPlace c ≡ programsPlace c + length (programsBytes c)
+unfolding cpiPlace
+place-cpi c = refl
+
+pub place-marks : (c : Clip) → marksPlace c ≡ cpiPlace c + length (cpiBytes c)
+unfolding marksPlace
+place-marks c = refl
+
+-- and its length: the marks are its last 6 bytes
+pub encode-length : (c : Clip) → length (encode c) ≡ marksPlace c + 6
+encode-length c =
+    let head = headOf (c .scalars) (programsPlace c) (cpiPlace c) (marksPlace c) in
+    rw (
+      encode-is c,
+      length-append head (sequencesBytes c ++ (programsBytes c ++ (cpiBytes c ++ marksBytes))),
+      length-append (sequencesBytes c) (programsBytes c ++ (cpiBytes c ++ marksBytes)),
+      length-append (programsBytes c) (cpiBytes c ++ marksBytes),
+      length-append (cpiBytes c) marksBytes,
+      marks-length,
+      head-length (c .scalars) (programsPlace c) (cpiPlace c) (marksPlace c),
+    )
+    (omega (arith, place-programs c, place-cpi c, place-marks c))
+
+-- a part stored, and the rest behind it
+then-stored : (l : List ℕ) (at : ℕ) (part rest : List ℕ) {behind : ℕ} {l′ l″ : List ℕ} → behind ≡ at + length part → l′ ≡ sets l at part → l″ ≡ sets l′ behind rest
+    → l″ ≡ sets l at (part ++ rest)
+then-stored l at part rest b e f = f ∙ rw (e, b) (sym (sets-append l at part rest))
+
+-- stored one behind the other, the parts are the file
+pub parts-stored : (c : Clip) (l : List ℕ) {l₁ l₂ l₃ l₄ l₅ : List ℕ}
+    → l₁ ≡ sets l 0 (headOf (c .scalars) (programsPlace c) (cpiPlace c) (marksPlace c)) → l₂ ≡ sets l₁ 220 (sequencesBytes c)
+    → l₃ ≡ sets l₂ (programsPlace c) (programsBytes c) → l₄ ≡ sets l₃ (cpiPlace c) (cpiBytes c) → l₅ ≡ sets l₄ (marksPlace c) marksBytes
+    → l₅ ≡ sets l 0 (encode c)
+parts-stored c l e₁ e₂ e₃ e₄ e₅ =
+    let head = headOf (c .scalars) (programsPlace c) (cpiPlace c) (marksPlace c) in
+    let first : 0 + length head ≡ 220 = omega (arith, head-length (c .scalars) (programsPlace c) (cpiPlace c) (marksPlace c)) in
+    let four = then-stored _ (cpiPlace c) (cpiBytes c) marksBytes (place-marks c) e₄ e₅ in
+    let three = then-stored _ (programsPlace c) (programsBytes c) (cpiBytes c ++ marksBytes) (place-cpi c) e₃ four in
+    let two = then-stored _ 220 (sequencesBytes c) (programsBytes c ++ (cpiBytes c ++ marksBytes)) (place-programs c) e₂ three in
+    then-stored l 0 head (sequencesBytes c ++ (programsBytes c ++ (cpiBytes c ++ marksBytes))) (sym first) e₁ two ∙ ap (sets l 0) (sym (encode-is c))
