@@ -1,0 +1,2 @@
+-- Laws of rows that fit.
+pub mod Fits

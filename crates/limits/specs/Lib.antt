@@ -1,0 +1,2 @@
+-- Rows by their kind, and the tables of a record.
+pub mod Kinds
