@@ -123,3 +123,84 @@ pub fn entry_fits(
     }
     entry_type == map_type
 }
+
+// An ATC read from its table.
+fn atc_row_fits(t: &[u8], p: usize) -> bool
+    requires { ⌜ p + 12 ≤ length (now t) ⌝ }
+    ensures { λ r. ⌜ r ≡ atcFits (cellsAt (now (t .entry)) atcCells p) ⌝ }
+{
+    atc_fits(cell_at(t, p), cell_at(t, p + 4), cell_at(t, p + 8))
+}
+
+// An STC.
+fn stc_row_fits(t: &[u8], p: usize) -> bool
+    requires { ⌜ p + 16 ≤ length (now t) ⌝ }
+    ensures { λ r. ⌜ r ≡ stcFits (cellsAt (now (t .entry)) stcCells p) ⌝ }
+{
+    stc_fits(
+        cell_at(t, p),
+        cell_at(t, p + 4),
+        cell_at(t, p + 8),
+        cell_at(t, p + 12),
+    )
+}
+
+// A program.
+fn program_row_fits(t: &[u8], p: usize) -> bool
+    requires { ⌜ p + 12 ≤ length (now t) ⌝ }
+    ensures { λ r. ⌜ r ≡ programFits (cellsAt (now (t .entry)) programCells p) ⌝ }
+{
+    program_fits(cell_at(t, p), cell_at(t, p + 4), cell_at(t, p + 8))
+}
+
+// A stream.
+fn stream_row_fits(t: &[u8], p: usize) -> bool
+    requires { ⌜ p + 20 ≤ length (now t) ⌝ }
+    ensures { λ r. ⌜ r ≡ streamFits (cellsAt (now (t .entry)) streamCells p) ⌝ }
+{
+    stream_fits(
+        cell_at(t, p),
+        cell_at(t, p + 4),
+        cell_at(t, p + 8),
+        cell_at(t, p + 12),
+        cell_at(t, p + 16),
+    )
+}
+
+// A map.
+fn map_row_fits(t: &[u8], p: usize) -> bool
+    requires { ⌜ p + 12 ≤ length (now t) ⌝ }
+    ensures { λ r. ⌜ r ≡ mapFits (cellsAt (now (t .entry)) mapCells p) ⌝ }
+{
+    map_fits(cell_at(t, p), cell_at(t, p + 4), cell_at(t, p + 8))
+}
+
+// An entry of a map of this type.
+fn entry_row_fits(t: &[u8], p: usize, map_type: u32) -> bool
+    requires { ⌜ p + 20 ≤ length (now t) ⌝ }
+    ensures { λ r. ⌜ r ≡ entryFits «map_type» (cellsAt (now (t .entry)) entryCells p) ⌝ }
+{
+    entry_fits(
+        map_type,
+        cell_at(t, p),
+        cell_at(t, p + 4),
+        cell_at(t, p + 8),
+        cell_at(t, p + 12),
+        cell_at(t, p + 16),
+    )
+}
+
+// Whether the row at a place fits.
+pub fn row_fits(t: &[u8], p: usize, kind: Kind) -> bool
+    requires { ⌜ p + 4 * cellsOf kind ≤ length (now t) ⌝ }
+    ensures { λ r. ⌜ r ≡ fitsBy kind (cellsAt (now (t .entry)) (cellsOf kind) p) ⌝ }
+{
+    match kind {
+        Kind::Atc => atc_row_fits(t, p),
+        Kind::Stc => stc_row_fits(t, p),
+        Kind::Program => program_row_fits(t, p),
+        Kind::Stream => stream_row_fits(t, p),
+        Kind::Map => map_row_fits(t, p),
+        Kind::Entry(map_type) => entry_row_fits(t, p, map_type),
+    }
+}
