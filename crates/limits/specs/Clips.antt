@@ -9,9 +9,13 @@ use Rattle.format.specs.Refusals.{entryFits, everyMap}
 use Rattle.limits.specs.Kinds.{fitsBy}
 use Rattle.limits.specs.declared.row.Kind.{Kind}
 
--- the entries of each map fit, each of its map's type
+-- the entries of a map fit, each of the map's type
+abbrev pub ownFit : Row → List Row → Bool
+ownFit m entries = every (entryFits (mapType m)) entries
+
+-- those of each map
 abbrev pub entriesFit : List Row → List Row → Bool
-entriesFit maps entries = everyMap (λ m es. every (entryFits (mapType m)) es) maps entries
+entriesFit maps entries = everyMap ownFit maps entries
 
 -- at most 255 rows with a count, and each fits
 abbrev pub headsFit : Kind → List Row → Bool
