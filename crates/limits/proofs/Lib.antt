@@ -1,0 +1,3 @@
+-- Laws of rows that fit.
+pub mod Fits
+pub mod Walks
