@@ -1,0 +1,3 @@
+-- The laws that the functions' proofs, and those of callers, cite.
+pub mod Puts
+pub mod Bodies
