@@ -23,7 +23,7 @@ use Rattle.cells.specs.Reads.{CellIs}
 use Rattle.runs.specs.Runs.{entriesAt, entriesFrom, keyed, endFrom, coarseFrom}
 use Rattle.runs.proofs.Runs.{coarse-all, runs-few, entry-cell, left-all, left-turn, left-done, NextRun, next-run}
 use Rattle.encode_map.specs.Bodies.{EntriesFit}
-use Rattle.encode_map.proofs.Puts.{sets-before, put-behind}
+use Rattle.map_rows.proofs.Puts.{sets-before, put-behind}
 
 -- ---- an entry that fits
 
