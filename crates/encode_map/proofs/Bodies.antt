@@ -1,18 +1,19 @@
 -- The loops that store the coarse rows and the fine rows of a map, and its body.
 use Prim.Native.Nat.{ℕ, zero, suc, _+_, _*_, _-_, _%_, _^_, _<_, _≤_}
-use mathlib.Core.Path.{_≡_, refl, sym, ap, _∙_}
+use mathlib.Core.Path.{_≡_, refl, sym, ap, ap₂, _∙_}
 use mathlib.Core.List.{List, [], _∷_, _++_}
 use mathlib.Core.Bool.{Bool, true}
 use native.Mathlib.Omega.{arith}
-use lib.ListN.{length}
+use lib.ListN.{length, getD}
 use lib.Seq.{sets, length-sets}
 use lib.Dec.{eqb}
-use Rattle.format.specs.Bytes.{both, every, bytesOf, fits, packed, rowsAt, flat}
-use Rattle.format.specs.ClipRecord.{Row, angle, iEnd, time, packet, entryType}
-use Rattle.format.specs.EntryPoints.{coarseWidths}
+use Rattle.format.specs.Bytes.{both, every, bytesOf, fieldBytes, fits, packed, rowsAt, flat}
+use Rattle.format.specs.ClipRecord.{Row, mapPid, mapType, angle, iEnd, time, packet, entryType}
+use Rattle.format.specs.EntryPoints.{headerWidths, coarseWidths}
 use Rattle.format.specs.Refusals.{entryFits}
-use Rattle.format.specs.Rewriting.{coarseRow, coarseRows, runs, coarseBytes, fineBytes, bodyBytes}
-use Rattle.format.specs.Tables.{cellsAt}
+use Rattle.format.specs.Rewriting.{coarseRow, coarseRows, runs, coarseBytes, fineBytes, bodyBytes, headerBytes}
+use Rattle.format.specs.Tables.{cellAt, cellsAt}
+use Rattle.format.proofs.Cell.{item-at}
 use Rattle.format.proofs.Cpi.{body-length}
 use Rattle.format.proofs.Fields.{Fit, one, fits-fit}
 use Rattle.format.proofs.Loops.{put-more}
@@ -23,7 +24,7 @@ use Rattle.cells.specs.Reads.{CellIs}
 use Rattle.runs.specs.Runs.{entriesAt, entriesFrom, keyed, endFrom, coarseFrom}
 use Rattle.runs.proofs.Runs.{coarse-all, runs-few, entry-cell, left-all, left-turn, left-done, NextRun, next-run}
 use Rattle.encode_map.specs.Bodies.{EntriesFit}
-use Rattle.encode_map.proofs.Puts.{sets-before, put-behind}
+use Rattle.map_rows.proofs.Puts.{sets-before, put-behind}
 
 -- ---- an entry that fits
 
@@ -164,3 +165,29 @@ body-stored es o at fine v {o₂ = o₂} f e p q r =
     let swapped : o₂ ≡ sets (sets o at address) (at + 4) coarse = q ∙ rw (p, value) (sets-before o at address (at + 4) coarse (omega arith)) in
     put-behind o at 4 address (coarse ++ flat fineBytes es) size refl refl
     (put-behind (sets o at address) (at + 4) (8 * length (coarseRows es)) coarse (flat fineBytes es) rows swapped f r)
+
+-- ---- the header
+
+-- cells 0 and 1 of a map's row
+pub map-cell : (t : List ℕ) (q j : ℕ) {v : ℕ} → j < 3 → CellIs t (q + 4 * j) v → v ≡ getD (cellsAt t 3 q) j 0
+map-cell t q j h c = c .same ∙ sym (item-at (cellAt t) 0 4 q 3 j h)
+
+-- a header stored by its numbers is the map's
+pub header-is : (t : List ℕ) (p n : ℕ) (maps : List ℕ) (q address : ℕ) {pid kind count : ℕ} → CellIs maps q pid → CellIs maps (q + 4) kind → count ≡ runs (entriesAt t p n)
+    → fieldBytes (2 ∷ 6 ∷ 4 ∷ []) (pid ∷ packed headerWidths (0 ∷ kind ∷ count ∷ n ∷ []) ∷ address ∷ []) ≡ headerBytes (cellsAt maps 3 q) (entriesAt t p n) address
+header-is t p n maps q address {pid} {kind} {count} a b e =
+    let first : q + 4 * 0 ≡ q = omega arith in
+    let a′ : pid ≡ mapPid (cellsAt maps 3 q) = map-cell maps q 0 (omega arith) (rw first a) in
+    let b′ : kind ≡ mapType (cellsAt maps 3 q) = map-cell maps q 1 (omega arith) b in
+    let row = cellsAt maps 3 q in
+    let es = entriesAt t p n in
+    let counts : 0 ∷ kind ∷ count ∷ n ∷ [] ≡ 0 ∷ mapType row ∷ runs es ∷ length es ∷ [] = rw (b′, e, rows-length (cellsAt t 5) (λ q. q + 20) p n) in
+    ap₂ (λ (x y : ℕ). fieldBytes (2 ∷ 6 ∷ 4 ∷ []) (x ∷ y ∷ address ∷ [])) a′ (ap (packed headerWidths) counts)
+
+-- the body was stored, and then the header
+pub map-put : (t : List ℕ) (p n : ℕ) (maps : List ℕ) (k : ℕ) (o : List ℕ) (at body : ℕ) {pid kind count : ℕ} {o₁ o₂ : List ℕ}
+    → CellIs maps (12 * k) pid → CellIs maps (12 * k + 4) kind → count ≡ runs (entriesAt t p n) → o₁ ≡ sets o body (bodyBytes (entriesAt t p n))
+    → o₂ ≡ sets o₁ (at + 8 + 12 * k) (fieldBytes (2 ∷ 6 ∷ 4 ∷ []) (pid ∷ packed headerWidths (0 ∷ kind ∷ count ∷ n ∷ []) ∷ (body - (at + 6)) ∷ []))
+    → o₂ ≡ sets (sets o body (bodyBytes (entriesAt t p n))) (at + 8 + 12 * k) (headerBytes (cellsAt maps 3 (12 * k)) (entriesAt t p n) (body - (at + 6)))
+map-put t p n maps k o at body a b e x y =
+    y ∙ ap₂ (λ (l b : List ℕ). sets l (at + 8 + 12 * k) b) x (header-is t p n maps (12 * k) (body - (at + 6)) a b e)

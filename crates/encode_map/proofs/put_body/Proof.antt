@@ -5,8 +5,8 @@ use denote.Ref.{now}
 use Rattle.runs.specs.Runs.{entriesAt}
 use Rattle.encode_map.proofs.Bodies.{body-size, runs-within, body-stored}
 use borrow.Author.Needs.{needs}
-use Rattle.encode_map.proofs.body.put_body.Statement.{statement}
-use Rattle.encode_map.proofs.body.put_body.Tie as tie
+use Rattle.encode_map.proofs.put_body.Statement.{statement}
+use Rattle.encode_map.proofs.put_body.Tie as tie
 
 add-put-coarse : tie.Need-add-put-coarse
 add-put-coarse c = search needs

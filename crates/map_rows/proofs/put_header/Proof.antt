@@ -1,9 +1,9 @@
 -- Three fields, one behind the other.
 use denote.Ref.{now}
-use Rattle.encode_map.proofs.Puts.{header-stored}
+use Rattle.map_rows.proofs.Puts.{header-stored}
 use borrow.Author.Needs.{needs}
-use Rattle.encode_map.proofs.rows.put_header.Statement.{statement}
-use Rattle.encode_map.proofs.rows.put_header.Tie as tie
+use Rattle.map_rows.proofs.put_header.Statement.{statement}
+use Rattle.map_rows.proofs.put_header.Tie as tie
 
 map-header-word-requires : tie.Need-map-header-word-requires
 map-header-word-requires c κs = search needs

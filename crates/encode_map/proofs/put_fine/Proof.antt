@@ -5,8 +5,8 @@ use native.Mathlib.Omega.{arith}
 use denote.Ref.{now}
 use Rattle.encode_map.proofs.Bodies.{Fine, fine-first, fine-turn, fine-done, entry-narrow}
 use borrow.Author.Needs.{needs}
-use Rattle.encode_map.proofs.body.put_fine.Statement.{statement}
-use Rattle.encode_map.proofs.body.put_fine.Tie as tie
+use Rattle.encode_map.proofs.put_fine.Statement.{statement}
+use Rattle.encode_map.proofs.put_fine.Tie as tie
 
 abbrev Inv-loop : tie.InvT-loop
 Inv-loop entries p n out₀ at k₀ out k = Fine entries p n out₀ at out k

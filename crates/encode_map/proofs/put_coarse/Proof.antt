@@ -6,8 +6,8 @@ use lib.ListN.{length}
 use Rattle.runs.proofs.Runs.{next-run}
 use Rattle.encode_map.proofs.Bodies.{Coarse, coarse-first, coarse-room, coarse-turn, coarse-done}
 use borrow.Author.Needs.{needs}
-use Rattle.encode_map.proofs.body.put_coarse.Statement.{statement}
-use Rattle.encode_map.proofs.body.put_coarse.Tie as tie
+use Rattle.encode_map.proofs.put_coarse.Statement.{statement}
+use Rattle.encode_map.proofs.put_coarse.Tie as tie
 
 abbrev Inv-loop : tie.InvT-loop
 Inv-loop entries p n out₀ at to₀ k₀ out to k = Coarse entries p n out₀ at out to k

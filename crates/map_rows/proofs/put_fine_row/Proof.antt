@@ -1,9 +1,9 @@
 -- The fields fit, so their low bits are the fields.
 use denote.Ref.{now}
-use Rattle.encode_map.proofs.Puts.{fine-stored}
+use Rattle.map_rows.proofs.Puts.{fine-stored}
 use borrow.Author.Needs.{needs}
-use Rattle.encode_map.proofs.rows.put_fine_row.Statement.{statement}
-use Rattle.encode_map.proofs.rows.put_fine_row.Tie as tie
+use Rattle.map_rows.proofs.put_fine_row.Statement.{statement}
+use Rattle.map_rows.proofs.put_fine_row.Tie as tie
 
 fine-time-of-requires : tie.Need-fine-time-of-requires
 fine-time-of-requires c κs = search needs

@@ -1,9 +1,9 @@
 -- Two bytes and four behind them are six.
 use denote.Ref.{now}
-use Rattle.encode_map.proofs.Puts.{six-stored}
+use Rattle.map_rows.proofs.Puts.{six-stored}
 use borrow.Author.Needs.{needs}
-use Rattle.encode_map.proofs.rows.put_u48.Statement.{statement}
-use Rattle.encode_map.proofs.rows.put_u48.Tie as tie
+use Rattle.map_rows.proofs.put_u48.Statement.{statement}
+use Rattle.map_rows.proofs.put_u48.Tie as tie
 
 cast-put-u16 : tie.Need-cast-put-u16
 cast-put-u16 c = search needs

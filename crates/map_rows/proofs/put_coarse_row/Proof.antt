@@ -1,9 +1,9 @@
 -- The fields fit, so their low bits are the fields.
 use denote.Ref.{now}
-use Rattle.encode_map.proofs.Puts.{coarse-stored}
+use Rattle.map_rows.proofs.Puts.{coarse-stored}
 use borrow.Author.Needs.{needs}
-use Rattle.encode_map.proofs.rows.put_coarse_row.Statement.{statement}
-use Rattle.encode_map.proofs.rows.put_coarse_row.Tie as tie
+use Rattle.map_rows.proofs.put_coarse_row.Statement.{statement}
+use Rattle.map_rows.proofs.put_coarse_row.Tie as tie
 
 coarse-time-of-requires : tie.Need-coarse-time-of-requires
 coarse-time-of-requires c κs = search needs
