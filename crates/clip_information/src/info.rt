@@ -6,7 +6,8 @@ ghost use Rattle.clip_information.specs.Infos.{clipInfoOf};
 use numbers::u8_at;
 use numbers::u32_at;
 
-// The version and the ClipInfo fields.
+// The version and the ClipInfo fields, as C has them too.
+#[repr(C)]
 pub struct ClipInfo {
     pub version: u32,
     pub clip_stream_type: u32,
@@ -18,7 +19,7 @@ pub struct ClipInfo {
 }
 
 // The scalars of a file with ClipInfo.
-pub(crate) fn clip_info(file: &[u8]) -> ClipInfo
+pub fn clip_info(file: &[u8]) -> ClipInfo
     requires { ⌜ 194 ≤ length (now file) ⌝ }
     ensures { λ r. ⌜ r ≡ clipInfoOf (now (file .entry)) ⌝ }
 {

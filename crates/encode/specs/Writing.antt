@@ -1,7 +1,7 @@
 -- Writing as the code goes about it: the refusal and the places of the sections first, then the bytes.
 use Prim.Native.Nat.{ℕ, _+_, _≤_}
 use mathlib.Core.Path.{_≡_}
-use mathlib.Core.List.{List}
+use mathlib.Core.List.{List, [], _∷_}
 use lib.ListN.{length}
 use lib.Dec.{eqb}
 use mathlib.Core.Bool.{Bool}
@@ -22,6 +22,10 @@ refusalIn l = unless (allStated l) 22 (writeRefusal (clipIn l))
 unfoldable pub pairsCounted : ClipTables → Bool
 pairsCounted l =
     both (isCounted 1 stcCells (l .atcs) (l .stcs)) (both (isCounted 2 streamCells (l .programs) (l .streams)) (isCounted 2 entryCells (l .maps) (l .entries)))
+
+-- the widths of the scalars' fields in bits: version, stream type, application type, rate, packets, validity flags, format id
+abbrev pub scalarWidths : List ℕ
+scalarWidths = 32 ∷ 8 ∷ 8 ∷ 32 ∷ 32 ∷ 8 ∷ 32 ∷ []
 
 -- where the sections of the new file stand; the sequences are at 220
 unfoldable pub programsPlace : Clip → ℕ

@@ -1,11 +1,12 @@
 // What writing tests before it stores a byte: the refusal, or where the sections of the new file stand.
 ghost use mathlib.Core.Path.{_≡_};
 ghost use mathlib.Core.Bool.{true};
-ghost use Rattle.format.specs.Refusals.{scalarsFit};
+ghost use mathlib.Core.List.{[], _∷_};
+ghost use Rattle.format.specs.Bytes.{fits};
 ghost use Rattle.format.specs.Tables.{clipIn};
 ghost use Rattle.clip_information.specs.Read.{scalarsBy};
 ghost use Rattle.queries.specs.Asked.{stated, noScalars, tablesWith};
-ghost use Rattle.encode.specs.Writing.{pairsCounted, refusalIn, measuredBy};
+ghost use Rattle.encode.specs.Writing.{pairsCounted, scalarWidths, refusalIn, measuredBy};
 use clip_information::info::ClipInfo;
 use encode_cpi::Length;
 use encode_cpi::cpi_length;
@@ -51,16 +52,24 @@ fn counts_add(
 }
 
 // Whether the scalars fit their fields, else 30. A field of 32 bits holds any number.
-fn scalars_fit(info: ClipInfo) -> bool
-    ensures { λ r. ⌜ r ≡ scalarsFit (scalarsBy info) ⌝ }
+fn scalars_fit(
+    version: u32,
+    stream_type: u32,
+    application_type: u32,
+    rate: u32,
+    packets: u32,
+    flags: u32,
+    format_id: u32,
+) -> bool
+    ensures { λ r. ⌜ r ≡ fits scalarWidths (version ∷ «stream_type» ∷ «application_type» ∷ rate ∷ packets ∷ flags ∷ «format_id» ∷ []) ⌝ }
 {
-    if info.clip_stream_type >= 256 {
+    if stream_type >= 256 {
         return false;
     }
-    if info.application_type >= 256 {
+    if application_type >= 256 {
         return false;
     }
-    info.validity_flags < 256
+    flags < 256
 }
 
 // The refusal of a record that is handed over, or the places of its sections.
@@ -97,7 +106,15 @@ pub(crate) fn measure(
     ) {
         return Measured::Refused(22);
     }
-    if !scalars_fit(info) {
+    if !scalars_fit(
+        info.version,
+        info.clip_stream_type,
+        info.application_type,
+        info.ts_recording_rate,
+        info.number_of_source_packets,
+        info.validity_flags,
+        info.format_id,
+    ) {
         return Measured::Refused(30);
     }
     if !cells_fit(
