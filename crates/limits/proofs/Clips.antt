@@ -74,9 +74,9 @@ scalars-and-tables c =
     let entries = entriesFit (c .maps) (c .entries) in
     let third = pairs few-maps maps entries in
     let second =
-        ap (λ (x : Bool). both few-programs (both programs (both streams x))) third
-        ∙ pairs few-programs programs (both streams (mapsFit (c .maps) (c .entries)))
-        ∙ pairs (both few-programs programs) streams (mapsFit (c .maps) (c .entries)) in
+    ap (λ (x : Bool). both few-programs (both programs (both streams x))) third
+    ∙ pairs few-programs programs (both streams (mapsFit (c .maps) (c .entries)))
+    ∙ pairs (both few-programs programs) streams (mapsFit (c .maps) (c .entries)) in
     let rest = both (groupsFit Kind.Program Kind.Stream (c .programs) (c .streams)) (mapsFit (c .maps) (c .entries)) in
     ap (λ (x : Bool). both (scalarsFit (c .scalars)) x)
     (ap (λ (x : Bool). both few-atcs (both atcs (both stcs x))) second

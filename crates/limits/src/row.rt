@@ -33,33 +33,6 @@ pub fn row_bytes(kind: Kind) -> usize
     }
 }
 
-// At most 255 STCs, an offset id of 8 bits.
-fn atc_fits(packet: u32, stcs: u32, offset_id: u32) -> bool
-    ensures { λ r. ⌜ r ≡ atcFits (packet ∷ stcs ∷ «offset_id» ∷ []) ⌝ }
-{
-    if stcs >= 256 {
-        return false;
-    }
-    offset_id < 256
-}
-
-// A PID of 16 bits.
-fn stc_fits(pid: u32, packet: u32, start: u32, end: u32) -> bool
-    ensures { λ r. ⌜ r ≡ stcFits (pid ∷ packet ∷ start ∷ end ∷ []) ⌝ }
-{
-    pid < 65536
-}
-
-// A PID of 16 bits, at most 255 streams.
-fn program_fits(packet: u32, pid: u32, streams: u32) -> bool
-    ensures { λ r. ⌜ r ≡ programFits (packet ∷ pid ∷ streams ∷ []) ⌝ }
-{
-    if pid >= 65536 {
-        return false;
-    }
-    streams < 256
-}
-
 // A PID of 16 bits, coding type and format of 8, an aspect of 4, a language of 24; no language on video, no aspect on anything else.
 pub fn stream_fits(pid: u32, coding_type: u32, format: u32, aspect: u32, language: u32) -> bool
     ensures { λ r. ⌜ r ≡ streamFits (pid ∷ «coding_type» ∷ format ∷ aspect ∷ language ∷ []) ⌝ }
@@ -83,19 +56,6 @@ pub fn stream_fits(pid: u32, coding_type: u32, format: u32, aspect: u32, languag
         return language == 0;
     }
     aspect == 0
-}
-
-// A PID of 16 bits, a type of 4, at most 262,143 entries.
-fn map_fits(pid: u32, map_type: u32, entries: u32) -> bool
-    ensures { λ r. ⌜ r ≡ mapFits (pid ∷ «map_type» ∷ entries ∷ []) ⌝ }
-{
-    if pid >= 65536 {
-        return false;
-    }
-    if map_type >= 16 {
-        return false;
-    }
-    entries < 262144
 }
 
 // An angle of 1 bit, an I-end of 3, a type of 4 bits that is its map's, a time that is a multiple of 512.
@@ -124,36 +84,51 @@ pub fn entry_fits(
     entry_type == map_type
 }
 
-// An ATC read from its table.
-fn atc_row_fits(t: &[u8], p: usize) -> bool
+// An ATC: at most 255 STCs, an offset id of 8 bits.
+fn atc_fits(t: &[u8], p: usize) -> bool
     requires { ⌜ p + 12 ≤ length (now t) ⌝ }
     ensures { λ r. ⌜ r ≡ atcFits (cellsAt (now (t .entry)) atcCells p) ⌝ }
 {
-    atc_fits(cell_at(t, p), cell_at(t, p + 4), cell_at(t, p + 8))
+    if cell_at(t, p + 4) >= 256 {
+        return false;
+    }
+    cell_at(t, p + 8) < 256
 }
 
-// An STC.
-fn stc_row_fits(t: &[u8], p: usize) -> bool
+// An STC: a PID of 16 bits.
+fn stc_fits(t: &[u8], p: usize) -> bool
     requires { ⌜ p + 16 ≤ length (now t) ⌝ }
     ensures { λ r. ⌜ r ≡ stcFits (cellsAt (now (t .entry)) stcCells p) ⌝ }
 {
-    stc_fits(
-        cell_at(t, p),
-        cell_at(t, p + 4),
-        cell_at(t, p + 8),
-        cell_at(t, p + 12),
-    )
+    cell_at(t, p) < 65536
 }
 
-// A program.
-fn program_row_fits(t: &[u8], p: usize) -> bool
+// A program: a PID of 16 bits, at most 255 streams.
+fn program_fits(t: &[u8], p: usize) -> bool
     requires { ⌜ p + 12 ≤ length (now t) ⌝ }
     ensures { λ r. ⌜ r ≡ programFits (cellsAt (now (t .entry)) programCells p) ⌝ }
 {
-    program_fits(cell_at(t, p), cell_at(t, p + 4), cell_at(t, p + 8))
+    if cell_at(t, p + 4) >= 65536 {
+        return false;
+    }
+    cell_at(t, p + 8) < 256
 }
 
-// A stream.
+// A map: a PID of 16 bits, a type of 4, at most 262,143 entries.
+fn map_fits(t: &[u8], p: usize) -> bool
+    requires { ⌜ p + 12 ≤ length (now t) ⌝ }
+    ensures { λ r. ⌜ r ≡ mapFits (cellsAt (now (t .entry)) mapCells p) ⌝ }
+{
+    if cell_at(t, p) >= 65536 {
+        return false;
+    }
+    if cell_at(t, p + 4) >= 16 {
+        return false;
+    }
+    cell_at(t, p + 8) < 262144
+}
+
+// A stream read from its table.
 fn stream_row_fits(t: &[u8], p: usize) -> bool
     requires { ⌜ p + 20 ≤ length (now t) ⌝ }
     ensures { λ r. ⌜ r ≡ streamFits (cellsAt (now (t .entry)) streamCells p) ⌝ }
@@ -167,15 +142,7 @@ fn stream_row_fits(t: &[u8], p: usize) -> bool
     )
 }
 
-// A map.
-fn map_row_fits(t: &[u8], p: usize) -> bool
-    requires { ⌜ p + 12 ≤ length (now t) ⌝ }
-    ensures { λ r. ⌜ r ≡ mapFits (cellsAt (now (t .entry)) mapCells p) ⌝ }
-{
-    map_fits(cell_at(t, p), cell_at(t, p + 4), cell_at(t, p + 8))
-}
-
-// An entry of a map of this type.
+// An entry of a map of this type, read from its table.
 fn entry_row_fits(t: &[u8], p: usize, map_type: u32) -> bool
     requires { ⌜ p + 20 ≤ length (now t) ⌝ }
     ensures { λ r. ⌜ r ≡ entryFits «map_type» (cellsAt (now (t .entry)) entryCells p) ⌝ }
@@ -196,11 +163,11 @@ pub fn row_fits(t: &[u8], p: usize, kind: Kind) -> bool
     ensures { λ r. ⌜ r ≡ fitsBy kind (cellsAt (now (t .entry)) (cellsOf kind) p) ⌝ }
 {
     match kind {
-        Kind::Atc => atc_row_fits(t, p),
-        Kind::Stc => stc_row_fits(t, p),
-        Kind::Program => program_row_fits(t, p),
+        Kind::Atc => atc_fits(t, p),
+        Kind::Stc => stc_fits(t, p),
+        Kind::Program => program_fits(t, p),
         Kind::Stream => stream_row_fits(t, p),
-        Kind::Map => map_row_fits(t, p),
+        Kind::Map => map_fits(t, p),
         Kind::Entry(map_type) => entry_row_fits(t, p, map_type),
     }
 }

@@ -9,10 +9,10 @@ ghost use Rattle.queries.specs.Asked.{stated};
 ghost use Rattle.table_rows.specs.OwnRows.{isCounted};
 ghost use Rattle.limits.specs.Kinds.{cellsOf, fitsBy};
 ghost use Rattle.limits.specs.Clips.{entriesFit};
-use cells::cell_at;
 use crate::row::Kind;
 use crate::row::row_bytes;
 use crate::row::row_fits;
+use cells::cell_at;
 
 // Whether n rows of one kind fit, the first at p.
 pub fn rows_fit(t: &[u8], p: usize, n: usize, kind: Kind) -> bool

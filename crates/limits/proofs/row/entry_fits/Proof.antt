@@ -9,7 +9,6 @@ returns c = rw (le-ltb _ _ (c .if1 .taken))
 returns-2 : tie.Need-returns-2
 returns-2 c = rw (lt-ltb _ _ (c .before .if1 .left), le-ltb _ _ (c .if2 .taken))
 
-
 returns-3 : tie.Need-returns-3
 returns-3 c =
     let e = c .before in

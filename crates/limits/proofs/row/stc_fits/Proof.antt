@@ -1,14 +1,21 @@
 -- The one test; packet, start and end have 32 bits.
+use Prim.Native.Nat.{_+_}
 use lib.Dec.{ltb}
-use borrow.Author.Tests.{lt-ltb}
-use Rattle.limits.proofs.Fits.{last-test}
+use denote.Ref.{now}
+use borrow.Author.Needs.{needs}
+use Rattle.limits.proofs.Fits.{last-test, any-cell}
 use Rattle.limits.proofs.row.stc_fits.Statement.{statement}
 use Rattle.limits.proofs.row.stc_fits.Tie as tie
 
+cell-at-requires : tie.Need-cell-at-requires
+cell-at-requires c κs = search needs
+
 returns : tie.Need-returns
 returns c =
-    let f = c .fits in
-    rw (lt-ltb _ _ (f .packet .fits), lt-ltb _ _ (f .start .fits), lt-ltb _ _ (f .end .fits)) (last-test (ltb (c .args .pid) 65536))
+    let k = c .before in
+    let a = k .before .args in
+    let any = any-cell (now (a .t)) (λ i. k .shared-slice-known .given i .fits) in
+    rw (any (a .p + 4), any (a .p + 4 + 4), any (a .p + 4 + 4 + 4), ← c .cell-at .ensures .same) (last-test (ltb (c .cell-at .result) 65536))
 
 pub stc-fits-spec : {M : Type 1} → statement M
-stc-fits-spec = tie.close (tie.spec returns)
+stc-fits-spec = tie.close (tie.spec cell-at-requires returns)
