@@ -13,9 +13,9 @@ use Rattle.format.specs.ClipRecord.{Row, Clip}
 use Rattle.format.specs.Refusals.{scalarsFit, atcFits, stcFits, programFits, streamFits, mapFits, cellsFit}
 use Rattle.format.specs.Tables.{tableRows, rowRoom}
 use Rattle.queries.specs.Asked.{stated}
-use Rattle.limits.specs.Kinds.{cellsOf, fitsBy}
+use Rattle.row_limits.specs.Kinds.{cellsOf, fitsBy}
 use Rattle.limits.specs.Clips.{entriesFit, headsFit, groupsFit, mapsFit, tablesFit}
-use Rattle.limits.specs.declared.row.Kind.{Kind}
+use Rattle.row_limits.specs.declared.Kind.{Kind}
 use Rattle.limits.proofs.Walks.{rows-stated}
 
 -- ---- two tests
