@@ -13,9 +13,9 @@ use Rattle.format.specs.ClipRecord.{Row, Clip}
 use Rattle.format.specs.Refusals.{scalarsFit, atcFits, stcFits, programFits, streamFits, mapFits, cellsFit}
 use Rattle.format.specs.Tables.{tableRows, rowRoom}
 use Rattle.queries.specs.Asked.{stated}
-use Rattle.limits.specs.Kinds.{cellsOf, fitsBy}
+use Rattle.row_limits.specs.Kinds.{cellsOf, fitsBy}
 use Rattle.limits.specs.Clips.{entriesFit, headsFit, groupsFit, mapsFit, tablesFit}
-use Rattle.limits.specs.declared.row.Kind.{Kind}
+use Rattle.row_limits.specs.declared.Kind.{Kind}
 use Rattle.limits.proofs.Walks.{rows-stated}
 
 -- ---- two tests
@@ -74,9 +74,9 @@ scalars-and-tables c =
     let entries = entriesFit (c .maps) (c .entries) in
     let third = pairs few-maps maps entries in
     let second =
-        ap (λ (x : Bool). both few-programs (both programs (both streams x))) third
-        ∙ pairs few-programs programs (both streams (mapsFit (c .maps) (c .entries)))
-        ∙ pairs (both few-programs programs) streams (mapsFit (c .maps) (c .entries)) in
+    ap (λ (x : Bool). both few-programs (both programs (both streams x))) third
+    ∙ pairs few-programs programs (both streams (mapsFit (c .maps) (c .entries)))
+    ∙ pairs (both few-programs programs) streams (mapsFit (c .maps) (c .entries)) in
     let rest = both (groupsFit Kind.Program Kind.Stream (c .programs) (c .streams)) (mapsFit (c .maps) (c .entries)) in
     ap (λ (x : Bool). both (scalarsFit (c .scalars)) x)
     (ap (λ (x : Bool). both few-atcs (both atcs (both stcs x))) second

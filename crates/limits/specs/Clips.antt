@@ -6,8 +6,8 @@ use lib.Dec.{leb}
 use Rattle.format.specs.Bytes.{both, every}
 use Rattle.format.specs.ClipRecord.{Row, Clip, mapType}
 use Rattle.format.specs.Refusals.{entryFits, everyMap}
-use Rattle.limits.specs.Kinds.{fitsBy}
-use Rattle.limits.specs.declared.row.Kind.{Kind}
+use Rattle.row_limits.specs.Kinds.{fitsBy}
+use Rattle.row_limits.specs.declared.Kind.{Kind}
 
 -- the entries of a map fit, each of the map's type
 abbrev pub ownFit : Row → List Row → Bool

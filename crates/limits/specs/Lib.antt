@@ -1,3 +1,2 @@
--- Rows by their kind, and the tables of a record.
-pub mod Kinds
+-- When the tables of a record fit.
 pub mod Clips

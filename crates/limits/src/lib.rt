@@ -1,4 +1,3 @@
-// Refusal 30 on tables: whether each cell of a record that is handed over fits its field in the file.
-pub mod row;
+// Refusal 30 on tables: whether every row of a record that is handed over fits the file.
 pub mod rows;
 pub mod tables;

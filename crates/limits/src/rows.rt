@@ -7,12 +7,12 @@ ghost use Rattle.format.specs.Bytes.{every, rowsAt};
 ghost use Rattle.format.specs.Tables.{cellsAt, tableRows, mapCells, entryCells};
 ghost use Rattle.queries.specs.Asked.{stated};
 ghost use Rattle.table_rows.specs.OwnRows.{isCounted};
-ghost use Rattle.limits.specs.Kinds.{cellsOf, fitsBy};
+ghost use Rattle.row_limits.specs.Kinds.{cellsOf, fitsBy};
 ghost use Rattle.limits.specs.Clips.{entriesFit};
 use cells::cell_at;
-use crate::row::Kind;
-use crate::row::row_bytes;
-use crate::row::row_fits;
+use row_limits::Kind;
+use row_limits::row_bytes;
+use row_limits::row_fits;
 
 // Whether n rows of one kind fit, the first at p.
 pub fn rows_fit(t: &[u8], p: usize, n: usize, kind: Kind) -> bool

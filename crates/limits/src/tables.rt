@@ -6,11 +6,11 @@ ghost use Rattle.format.specs.Bytes.{every};
 ghost use Rattle.format.specs.Tables.{tableRows, rowRoom, clipIn, stcCells, streamCells, mapCells, entryCells};
 ghost use Rattle.queries.specs.Asked.{stated, noScalars, tablesWith};
 ghost use Rattle.table_rows.specs.OwnRows.{isCounted};
-ghost use Rattle.limits.specs.Kinds.{cellsOf, fitsBy};
+ghost use Rattle.row_limits.specs.Kinds.{cellsOf, fitsBy};
 ghost use Rattle.limits.specs.Clips.{headsFit, groupsFit, mapsFit, tablesFit};
-use crate::row::Kind;
 use crate::rows::entries_fit;
 use crate::rows::rows_fit;
+use row_limits::Kind;
 
 // The most ATCs, programs or maps.
 const MOST: u32 = 255;

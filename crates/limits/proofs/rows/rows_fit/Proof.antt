@@ -3,7 +3,7 @@ use Prim.Native.Nat.{_-_}
 use native.Mathlib.Omega.{arith}
 use denote.Ref.{now}
 use borrow.Author.Needs.{needs}
-use Rattle.limits.specs.Kinds.{cellsOf, fitsBy}
+use Rattle.row_limits.specs.Kinds.{cellsOf, fitsBy}
 use Rattle.limits.proofs.Walks.{Tested, tested-first, tested-room, tested-fails, tested-turn, tested-done}
 use Rattle.limits.proofs.rows.rows_fit.Statement.{statement}
 use Rattle.limits.proofs.rows.rows_fit.Tie as tie

@@ -1,0 +1,2 @@
+-- Laws of a row that is tested cell by cell.
+pub mod Fits

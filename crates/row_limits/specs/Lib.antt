@@ -1,0 +1,2 @@
+-- Rows by their kind.
+pub mod Kinds
