@@ -50,6 +50,11 @@ module _ (section : Section) (heads : List ℕ) (n : ℕ) where
 
 -- ---- a turn: the header row at p, with its own rows from q on
 
+-- a header row has 12 bytes
+pub head-step : (section : Section) (p : ℕ) → p + 12 ≡ stepOf (headKind section) p
+head-step Section.Sequences p = refl
+head-step Section.Programs p = refl
+
 -- that header row, and how many rows are its own
 abbrev pub headAt : Section → List ℕ → ℕ → Row
 headAt section heads p = cellsAt heads (cellsOf (headKind section)) p

@@ -1,6 +1,6 @@
 -- Rows of a table, of any kind, one behind the other: where they stand.
 use Prim.Native.Nat.{ℕ, _+_, _*_, _<_, _≤_}
-use mathlib.Core.Path.{_≡_, refl, ap, _∙_}
+use mathlib.Core.Path.{_≡_, ap, _∙_}
 use mathlib.Core.List.{List}
 use native.Mathlib.Nat.{mul-comm, le-div-iff-mul-le}
 use native.Mathlib.Omega.{arith}

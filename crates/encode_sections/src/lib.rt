@@ -99,11 +99,25 @@ fn put_group(section: Section, head: Row, rows: &[u8], q: usize, out: &mut [u8],
     ensures { λ _. ⌜ now (out .exit) ≡ sets (now (out .entry)) at (groupBytes section (rowOf (headKind section) head) (now (rows .entry)) q) ⌝ }
 {
     let behind = put_row(head_kind(section), head, out, at);
-    put_rows(row_kind(section), rows, q, own_count(section, head), out, behind)
+    put_rows(
+        row_kind(section),
+        rows,
+        q,
+        own_count(section, head),
+        out,
+        behind,
+    )
 }
 
 // Stores n header rows, each with its own rows behind it; answers the place behind them.
-fn put_groups(section: Section, heads: &[u8], n: u32, rows: &[u8], out: &mut [u8], at: usize) -> usize
+fn put_groups(
+    section: Section,
+    heads: &[u8],
+    n: u32,
+    rows: &[u8],
+    out: &mut [u8],
+    at: usize,
+) -> usize
     requires { ⌜ ItemsThere section (now heads) n (now rows) (now out) at ⌝ }
     ensures { λ r. ⌜ r ≡ at + length (itemsIn section (now (heads .entry)) n (now (rows .entry))) ⌝ }
     ensures { λ _. ⌜ now (out .exit) ≡ sets (now (out .entry)) at (itemsIn section (now (heads .entry)) n (now (rows .entry))) ⌝ }

@@ -1,7 +1,7 @@
 use borrow.Author.Needs.{needs}
 -- Each turn stores one row behind those before it.
 use Prim.Native.Nat.{ℕ, _+_, _*_, _-_, _≤_}
-use mathlib.Core.Path.{_≡_, ap, _∙_}
+use mathlib.Core.Path.{_≡_, ap}
 use native.Mathlib.Omega.{arith}
 use denote.Ref.{now}
 use lib.ListN.{length}
@@ -36,9 +36,10 @@ mul-step c = record { fits = omega (arith, c .cells-of .ensures, cells-few (c .b
 loop-holds : tie.Need-loop-holds Inv-loop μ-loop
 loop-holds c =
     let a = c .before .before .before .args in
-    let t = now (a .t) in
-    (pass-first (a .kind) t (a .p) (a .n) (c .before .before .before .pre .0),
-    storing-first (now (a .out)) (rowsBytes (a .kind) t (a .p) (a .n)) (a .at) (c .before .before .before .pre .1) (rows-all (cellsAt t (cellsOf (a .kind))) (stepOf (a .kind)) (bytesBy (a .kind)) (a .p) (a .n)))
+    let t = now (a .t) in (
+      pass-first (a .kind) t (a .p) (a .n) (c .before .before .before .pre .0),
+      storing-first (now (a .out)) (rowsBytes (a .kind) t (a .p) (a .n)) (a .at) (c .before .before .before .pre .1) (rows-all (cellsAt t (cellsOf (a .kind))) (stepOf (a .kind)) (bytesBy (a .kind)) (a .p) (a .n)),
+    )
 
 table-row-requires : tie.Need-table-row-requires Inv-loop μ-loop
 table-row-requires c κs = inside c
@@ -67,9 +68,10 @@ loop-again c =
     let put = c .before .before .put-row .ensures in
     let more = c .before .before .before .before .before .loop-test .taken in
     let next : l .q + 4 * c .before .before .before .before .before .before .before .cells-of .result ≡ stepOf (a .kind) (l .q) = ap (λ (n : ℕ). l .q + 4 * n) (c .before .before .before .before .before .before .before .cells-of .ensures) in
-    let same = same-bytes (a .kind) (row .result) (row .ensures) in
-    (pass-turn (a .kind) (l .inv .0) more (c .before .before .before .before .before .before .before .before .before .before .pre .0) next,
-    row-put (cellsAt (now (a .t)) (cellsOf (a .kind))) (stepOf (a .kind)) (bytesBy (a .kind)) (l .q) (a .n) (l .k) (l .inv .1) more (rw same at (put .1)) (rw same at (put .0)) next)
+    let same = same-bytes (a .kind) (row .result) (row .ensures) in (
+      pass-turn (a .kind) (l .inv .0) more (c .before .before .before .before .before .before .before .before .before .before .pre .0) next,
+      row-put (cellsAt (now (a .t)) (cellsOf (a .kind))) (stepOf (a .kind)) (bytesBy (a .kind)) (l .q) (a .n) (l .k) (l .inv .1) more (rw same at (put .1)) (rw same at (put .0)) next,
+    )
 
 same-length : tie.Need-same-length Inv-loop μ-loop
 same-length c = c .before .loop .inv .1 .long

@@ -1,12 +1,11 @@
 -- Each of the three forms has its own length and bytes: the common head, and what the form has behind it.
 use Prim.Native.Nat.{_+_, _*_, _/_, _%_, _≤_}
-use mathlib.Core.Path.{_≡_, refl, sym, ap, _∙_}
+use mathlib.Core.Path.{_≡_, refl, sym}
 use mathlib.Core.List.{_++_}
 use native.Mathlib.Nat.{add-assoc}
 use native.Mathlib.Omega.{arith}
 use denote.Ref.{now}
 use lib.ListN.{length}
-use lib.Seq.{sets}
 use Rattle.format.specs.Bytes.{bytesOf}
 use Rattle.format.specs.Rewriting.{streamBytes}
 use Rattle.row_bytes.specs.Kinds.{row5}
