@@ -12,9 +12,10 @@ use Rattle.format.specs.Tables.{cellsAt, tableRows}
 use Rattle.format.proofs.Loops.{one-left, none-left, flat-append, total-turn}
 use Rattle.format.proofs.Rows.{take-rows, drop-rows}
 use Rattle.format.proofs.Sweep.{end-steps}
-use Rattle.row_bytes.specs.declared.Kind.{Kind}
-use Rattle.row_bytes.specs.Kinds.{cellsOf}
-use Rattle.encode_sections.specs.Sections.{headKind, rowKind, countOf, itemsOf, stepOf, rowsIn, groupBytes, countIn, itemsIn}
+use Rattle.row_values.specs.declared.Kind.{Kind}
+use Rattle.row_values.specs.Kinds.{cellsOf}
+use Rattle.encode_rows.specs.Rows.{stepOf, rowsIn}
+use Rattle.encode_sections.specs.Sections.{headKind, rowKind, countOf, itemsOf, groupBytes, countIn, itemsIn}
 use Rattle.encode_sections.specs.declared.Section.{Section}
 
 -- where rows of a kind end: the first of them, and those behind these

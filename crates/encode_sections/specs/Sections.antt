@@ -1,14 +1,15 @@
 -- The two sections of header rows with rows behind them, and what writing one asks of its tables.
-use Prim.Native.Nat.{ℕ, _+_, _*_, _^_, _<_, _≤_}
+use Prim.Native.Nat.{ℕ, _+_, _^_, _<_, _≤_}
 use mathlib.Core.Path.{_≡_}
 use mathlib.Core.List.{List, _++_}
 use lib.ListN.{length}
-use Rattle.format.specs.Bytes.{rowsAt, endOf, flat, total}
+use Rattle.format.specs.Bytes.{endOf, total}
 use Rattle.format.specs.ClipRecord.{Row, atcStcCount, streamCount}
 use Rattle.format.specs.Rewriting.{groups, sectionBytes}
-use Rattle.format.specs.Tables.{cellsAt, tableRows, rowRoom}
-use Rattle.row_bytes.specs.declared.Kind.{Kind}
-use Rattle.row_bytes.specs.Kinds.{cellsOf, bytesBy}
+use Rattle.format.specs.Tables.{tableRows, rowRoom}
+use Rattle.row_values.specs.declared.Kind.{Kind}
+use Rattle.row_values.specs.Kinds.{cellsOf, bytesBy}
+use Rattle.encode_rows.specs.Rows.{stepOf, rowsBytes}
 use Rattle.encode_sections.specs.declared.Section.{Section}
 
 -- ---- a section's kinds of rows
@@ -38,17 +39,6 @@ abbrev pub sectionOf : Section → List Row → List Row → List ℕ
 sectionOf section heads rows = sectionBytes (length heads) (itemsOf section heads rows)
 
 -- ---- rows in tables
-
--- where the row behind the one at byte p stands
-abbrev pub stepOf : Kind → ℕ → ℕ
-stepOf kind p = p + 4 * cellsOf kind
-
--- n rows from byte p on, and their bytes in a file
-abbrev pub rowsIn : Kind → List ℕ → ℕ → ℕ → List Row
-rowsIn kind t p n = rowsAt (cellsAt t (cellsOf kind)) (stepOf kind) p n
-
-abbrev pub rowsBytes : Kind → List ℕ → ℕ → ℕ → List ℕ
-rowsBytes kind t p n = flat (bytesBy kind) (rowsIn kind t p n)
 
 -- a header row with its own rows, which stand from byte q of their table on
 abbrev pub groupBytes : Section → Row → List ℕ → ℕ → List ℕ

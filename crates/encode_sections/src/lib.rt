@@ -4,18 +4,18 @@ ghost use mathlib.Core.List.{[], _∷_};
 ghost use Prim.Native.Nat.{_+_, _*_, _≤_};
 ghost use lib.ListN.{length};
 ghost use lib.Seq.{sets};
-ghost use Rattle.format.specs.Bytes.{flat, fieldBytes, endOf};
-ghost use Rattle.format.specs.Tables.{tableRows, rowRoom};
-ghost use Rattle.row_bytes.specs.Kinds.{cellsOf, rowOf, bytesBy};
-ghost use Rattle.encode_sections.specs.Sections.{headKind, rowKind, countOf, stepOf, rowsBytes, groupBytes, GroupThere, itemsIn, ItemsThere, sectionIn, Counted, Storable};
+ghost use Rattle.format.specs.Bytes.{fieldBytes};
+ghost use Rattle.row_values.specs.Kinds.{rowOf};
+ghost use Rattle.encode_sections.specs.Sections.{headKind, rowKind, countOf, groupBytes, GroupThere, itemsIn, ItemsThere, sectionIn, Counted, Storable};
+use encode_rows::put_rows;
+use encode_rows::rows_length;
 use numbers::put_u8;
 use numbers::put_u32;
-use row_bytes::Kind;
-use row_bytes::Row;
-use row_bytes::cells_of;
 use row_bytes::put_row;
-use row_bytes::row_length;
-use row_bytes::table_row;
+use row_values::Kind;
+use row_values::Row;
+use row_values::cells_of;
+use row_values::table_row;
 
 // The bytes of a header row in its table.
 const HEAD: usize = 12;
@@ -54,42 +54,6 @@ fn own_count(section: Section, head: Row) -> u32
         Section::Sequences => head.cell1,
         Section::Programs => head.cell2,
     }
-}
-
-// The bytes that a table's first n rows have in a file, at most 14 for each.
-fn rows_length(kind: Kind, t: &[u8], n: u32) -> usize
-    requires { ⌜ n ≤ rowRoom (cellsOf kind) (now t) ⌝ }
-    ensures { λ r. ⌜ r ≡ length (flat (bytesBy kind) (tableRows (cellsOf kind) (now (t .entry)) n)) ⌝ }
-    ensures { λ r. ⌜ r ≤ 14 * n ⌝ }
-{
-    let step = 4 * cells_of(kind);
-    let mut sum: usize = 0;
-    let mut p: usize = 0;
-    let mut k: u32 = 0;
-    while k < n {
-        sum += row_length(kind, table_row(kind, t, p));
-        p += step;
-        k += 1;
-    }
-    sum
-}
-
-// Stores n rows of a table, from byte p of it on; answers the place behind them.
-fn put_rows(kind: Kind, t: &[u8], p: usize, n: u32, out: &mut [u8], at: usize) -> usize
-    requires { ⌜ (endOf (stepOf kind) p n ≤ length (now t)) × (at + length (rowsBytes kind (now t) p n) ≤ length (now out)) ⌝ }
-    ensures { λ r. ⌜ r ≡ at + length (rowsBytes kind (now (t .entry)) p n) ⌝ }
-    ensures { λ _. ⌜ now (out .exit) ≡ sets (now (out .entry)) at (rowsBytes kind (now (t .entry)) p n) ⌝ }
-{
-    let step = 4 * cells_of(kind);
-    let mut q = p;
-    let mut to = at;
-    let mut k: u32 = 0;
-    while k < n {
-        to = put_row(kind, table_row(kind, t, q), out, to);
-        q += step;
-        k += 1;
-    }
-    to
 }
 
 // Stores a header row and its own rows, which stand from byte q of their table on; answers the place behind them.

@@ -2,9 +2,10 @@
 use mathlib.Core.List.{List}
 use Prim.Native.Nat.{ℕ}
 use denote.Ref.{now}
-use Rattle.row_bytes.specs.Kinds.{rowOf, bytesBy}
+use Rattle.row_values.specs.Kinds.{rowOf, bytesBy}
 use Rattle.row_bytes.proofs.Storing.{first-room, second-room, both-stored}
-use Rattle.encode_sections.specs.Sections.{headKind, rowKind, countOf, rowsBytes}
+use Rattle.encode_rows.specs.Rows.{rowsBytes}
+use Rattle.encode_sections.specs.Sections.{headKind, rowKind, countOf}
 use borrow.Author.Needs.{needs}
 use Rattle.encode_sections.proofs.put_group.Statement.{statement}
 use Rattle.encode_sections.proofs.put_group.Tie as tie

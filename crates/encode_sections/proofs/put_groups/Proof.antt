@@ -8,10 +8,11 @@ use lib.ListN.{length}
 use lib.Seq.{sets}
 use Rattle.format.specs.Bytes.{endOf}
 use Rattle.format.proofs.Sweep.{Along, end-steps}
-use Rattle.row_bytes.specs.Kinds.{cellsOf, rowOf}
+use Rattle.row_values.specs.Kinds.{cellsOf, rowOf}
 use Rattle.row_bytes.proofs.Storing.{Storing, storing-first, part-room, part-put, storing-done}
-use Rattle.encode_sections.specs.Sections.{headKind, rowKind, stepOf, groupBytes, itemsIn}
-use Rattle.encode_sections.proofs.Rows.{cells-few, rows-inside, pass-first, row-inside, pass-turn}
+use Rattle.encode_rows.specs.Rows.{stepOf}
+use Rattle.encode_sections.specs.Sections.{headKind, rowKind, groupBytes, itemsIn}
+use Rattle.encode_rows.proofs.Rows.{cells-few, rows-inside, pass-first, row-inside, pass-turn}
 use Rattle.encode_sections.proofs.Groups.{countLeft, count-all, groupsLeft, groups-all, groups-none, head-step, headAt, ownAt, own-inside, later-inside, groups-turn}
 use Rattle.encode_sections.proofs.put_groups.Statement.{statement}
 use Rattle.encode_sections.proofs.put_groups.Tie as tie

@@ -11,11 +11,11 @@ use Rattle.format.specs.ClipRecord.{Row}
 use Rattle.format.specs.Tables.{rowRoom}
 use Rattle.format.proofs.Loops.{end-ge}
 use Rattle.format.proofs.Sweep.{end-steps, Along, along-first, along-turn, along-within}
-use Rattle.row_bytes.specs.declared.Kind.{Kind}
-use Rattle.row_bytes.specs.declared.Row as value
-use Rattle.row_bytes.specs.Kinds.{cellsOf, rowOf, bytesBy}
-use Rattle.row_bytes.proofs.Fields.{row-short}
-use Rattle.encode_sections.specs.Sections.{stepOf}
+use Rattle.row_values.specs.declared.Kind.{Kind}
+use Rattle.row_values.specs.declared.Row as value
+use Rattle.row_values.specs.Kinds.{cellsOf, rowOf, bytesBy}
+use Rattle.row_values.proofs.Lengths.{row-short}
+use Rattle.encode_rows.specs.Rows.{stepOf}
 
 -- every kind has cells
 cells-some : (kind : Kind) → 0 < 4 * cellsOf kind

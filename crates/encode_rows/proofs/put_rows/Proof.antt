@@ -8,12 +8,12 @@ use lib.ListN.{length}
 use lib.Seq.{sets}
 use Rattle.format.specs.Tables.{cellsAt}
 use Rattle.format.proofs.Sweep.{Along}
-use Rattle.row_bytes.specs.Kinds.{cellsOf, bytesBy}
+use Rattle.row_values.specs.Kinds.{cellsOf, bytesBy}
 use Rattle.row_bytes.proofs.Storing.{Storing, storing-first, storing-done, rowsLeft, rows-all, rows-none, row-room, row-put}
-use Rattle.encode_sections.specs.Sections.{stepOf, rowsBytes}
-use Rattle.encode_sections.proofs.Rows.{cells-few, pass-first, row-inside, pass-turn, same-bytes}
-use Rattle.encode_sections.proofs.put_rows.Statement.{statement}
-use Rattle.encode_sections.proofs.put_rows.Tie as tie
+use Rattle.encode_rows.specs.Rows.{stepOf, rowsBytes}
+use Rattle.encode_rows.proofs.Rows.{cells-few, pass-first, row-inside, pass-turn, same-bytes}
+use Rattle.encode_rows.proofs.put_rows.Statement.{statement}
+use Rattle.encode_rows.proofs.put_rows.Tie as tie
 
 abbrev Inv-loop : tie.InvT-loop
 Inv-loop kind t p n out₀ at step q₀ to₀ k₀ out q to k =

@@ -8,12 +8,12 @@ use lib.ListN.{length}
 use Rattle.format.specs.Bytes.{endOf}
 use Rattle.format.specs.Tables.{cellsAt, tableRows}
 use Rattle.format.proofs.Sweep.{Along}
-use Rattle.row_bytes.specs.Kinds.{cellsOf, bytesBy}
+use Rattle.row_values.specs.Kinds.{cellsOf, bytesBy}
 use Rattle.row_bytes.proofs.Storing.{rows-all, Adding, row-added, rows-added}
-use Rattle.encode_sections.specs.Sections.{stepOf, rowsBytes}
-use Rattle.encode_sections.proofs.Rows.{cells-few, rows-inside, pass-first, row-inside, pass-turn, same-length, few-bytes}
-use Rattle.encode_sections.proofs.rows_length.Statement.{statement}
-use Rattle.encode_sections.proofs.rows_length.Tie as tie
+use Rattle.encode_rows.specs.Rows.{stepOf, rowsBytes}
+use Rattle.encode_rows.proofs.Rows.{cells-few, rows-inside, pass-first, row-inside, pass-turn, same-length, few-bytes}
+use Rattle.encode_rows.proofs.rows_length.Statement.{statement}
+use Rattle.encode_rows.proofs.rows_length.Tie as tie
 
 abbrev Inv-loop : tie.InvT-loop
 Inv-loop kind t n step sum₀ p₀ k₀ sum p k =
