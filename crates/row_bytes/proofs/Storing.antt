@@ -9,6 +9,7 @@ use lib.Seq.{sets, length-sets}
 use Rattle.format.specs.Bytes.{rowsAt, flat}
 use Rattle.format.specs.ClipRecord.{Row}
 use Rattle.format.proofs.Loops.{one-left, none-left, put-more}
+use Rattle.row_bytes.proofs.Fields.{part-then}
 
 -- ---- an output while bytes are stored: those that are left have room from `at` on, and put there give the whole, up to its end
 
@@ -43,6 +44,21 @@ module _ {o₀ whole : List ℕ} {end : ℕ} {left o : List ℕ} {at : ℕ} (s :
   -- nothing is left
   pub storing-done : left ≡ [] → (at ≡ end) × (o ≡ whole)
   storing-done e = (sym (add-zero at) ∙ rw e at (s .behind), rw e at (s .rest))
+
+-- ---- two parts, one behind the other, for which there is room
+
+module _ (o a b : List ℕ) (at : ℕ) (room : at + length (a ++ b) ≤ length o) where
+  pub first-room : at + length a ≤ length o
+  first-room = omega (arith, length-append a b)
+
+  module _ {o′ : List ℕ} {to : ℕ} (place : to ≡ at + length a) (first : o′ ≡ sets o at a) where
+    -- the first is stored, and the second has room
+    pub second-room : to + length b ≤ length o′
+    second-room = omega (arith, length-append a b, ap length first, length-sets o at a)
+
+    -- both are stored
+    pub both-stored : {o″ : List ℕ} {end : ℕ} → (end ≡ to + length b) × (o″ ≡ sets o′ to b) → (end ≡ at + length (a ++ b)) × (o″ ≡ sets o at (a ++ b))
+    both-stored s = (omega (arith, s .0, length-append a b), part-then o at (length a) a b refl place first (s .1))
 
 -- ---- rows: `row q` is the row at q, and `next q` where the one behind it stands
 

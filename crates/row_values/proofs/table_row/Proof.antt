@@ -1,7 +1,7 @@
 -- Each kind is read with its own number of cells.
 use borrow.Author.Needs.{needs}
-use Rattle.row_bytes.proofs.table_row.Statement.{statement}
-use Rattle.row_bytes.proofs.table_row.Tie as tie
+use Rattle.row_values.proofs.table_row.Statement.{statement}
+use Rattle.row_values.proofs.table_row.Tie as tie
 
 enum-told : tie.Need-enum-told
 enum-told c = search needs

@@ -4,8 +4,8 @@ use mathlib.Core.List.{List, [], _∷_}
 use Rattle.format.specs.ClipRecord.{Row}
 use Rattle.format.specs.Rewriting.{atcBytes, stcBytes, programBytes, streamBytes}
 use Rattle.format.specs.Tables.{atcCells, stcCells, programCells, streamCells}
-use Rattle.row_bytes.specs.declared.Kind.{Kind}
-use Rattle.row_bytes.specs.declared.Row as value
+use Rattle.row_values.specs.declared.Kind.{Kind}
+use Rattle.row_values.specs.declared.Row as value
 
 -- how many cells a row of the kind has
 abbrev pub cellsOf : Kind → ℕ

@@ -3,10 +3,10 @@ use Prim.Native.Nat.{_+_}
 use mathlib.Core.Path.{refl}
 use native.Mathlib.Omega.{arith}
 use denote.Ref.{now}
-use Rattle.row_bytes.proofs.Fields.{cell-and}
+use Rattle.row_values.proofs.Cells.{cell-and}
 use borrow.Author.Needs.{needs}
-use Rattle.row_bytes.proofs.row_of_4.Statement.{statement}
-use Rattle.row_bytes.proofs.row_of_4.Tie as tie
+use Rattle.row_values.proofs.row_of_4.Statement.{statement}
+use Rattle.row_values.proofs.row_of_4.Tie as tie
 
 cell-at-requires : tie.Need-cell-at-requires
 cell-at-requires c κs = search needs

@@ -1,11 +1,11 @@
 -- Each kind has its own length.
 use mathlib.Core.Path.{sym, ap, _∙_}
 use lib.ListN.{length}
-use Rattle.row_bytes.specs.Kinds.{rowOf, bytesBy}
-use Rattle.row_bytes.proofs.Fields.{atc-length, stc-length, program-length}
+use Rattle.row_values.specs.Kinds.{rowOf, bytesBy}
+use Rattle.row_values.proofs.Lengths.{atc-length, stc-length, program-length}
 use borrow.Author.Needs.{needs}
-use Rattle.row_bytes.proofs.row_length.Statement.{statement}
-use Rattle.row_bytes.proofs.row_length.Tie as tie
+use Rattle.row_values.proofs.row_length.Statement.{statement}
+use Rattle.row_values.proofs.row_length.Tie as tie
 
 enum-told : tie.Need-enum-told
 enum-told c = search needs

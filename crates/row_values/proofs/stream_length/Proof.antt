@@ -1,9 +1,9 @@
 -- Each of the three forms has its own length.
 use mathlib.Core.Path.{sym}
-use Rattle.row_bytes.proofs.Fields.{video-length, short-length, tagged-length}
+use Rattle.row_values.proofs.Lengths.{video-length, short-length, tagged-length}
 use borrow.Author.Needs.{needs}
-use Rattle.row_bytes.proofs.stream_length.Statement.{statement}
-use Rattle.row_bytes.proofs.stream_length.Tie as tie
+use Rattle.row_values.proofs.stream_length.Statement.{statement}
+use Rattle.row_values.proofs.stream_length.Tie as tie
 
 is-video-requires : tie.Need-is-video-requires
 is-video-requires c κs = search needs
