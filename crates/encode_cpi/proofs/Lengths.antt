@@ -1,12 +1,12 @@
 -- How long the section is, and the pass that measures it.
-use Prim.Native.Nat.{ℕ, suc, _+_, _*_, _-_, _<_, _≤_}
+use Prim.Native.Nat.{ℕ, _+_, _*_, _<_, _≤_}
 use mathlib.Core.Path.{_≡_, refl, sym, ap, _∙_}
 use mathlib.Core.List.{List, [], _∷_, _++_}
-use mathlib.Core.Bool.{Bool, true, false}
+use mathlib.Core.Bool.{true}
 use native.Mathlib.Omega.{arith}
 use borrow.Author.Tests.{le-leb, lt-leb}
 use lib.ListN.{length, length-append}
-use Rattle.format.specs.Bytes.{both, fieldBytes}
+use Rattle.format.specs.Bytes.{fieldBytes}
 use Rattle.format.specs.ClipRecord.{Row}
 use Rattle.format.specs.Refusals.{everyMap}
 use Rattle.format.specs.Rewriting.{runs, bodyBytes, bodies, headers, cpiBytesBy}

@@ -1,24 +1,24 @@
 -- The walk over maps, each with its own entries: what is left of both tables after k maps and j entries.
-use Prim.Native.Nat.{ℕ, zero, suc, _+_, _*_, _-_, _^_, _<_, _≤_}
-use mathlib.Core.Path.{_≡_, refl, sym, ap, ap₂, _∙_}
+use Prim.Native.Nat.{ℕ, _+_, _*_, _-_, _^_, _<_, _≤_}
+use mathlib.Core.Path.{_≡_}
 use mathlib.Core.List.{List, [], _∷_, _++_}
 use mathlib.Core.Bool.{Bool, true}
-use native.Mathlib.Nat.{mul-comm, le-div-iff-mul-le}
+use native.Mathlib.Nat.{le-div-iff-mul-le}
 use native.Mathlib.Omega.{arith}
 use borrow.Author.Tests.{eqb-true, leb-true}
-use lib.ListN.{length, getD, take, drop, length-append, length-take}
-use lib.Dec.{leb, lit<}
-use Rattle.format.specs.Bytes.{both, every, rowsAt, total}
+use lib.ListN.{length, take, drop, length-append, length-take}
+use lib.Dec.{lit<}
+use Rattle.format.specs.Bytes.{both, every, total}
 use Rattle.format.specs.ClipRecord.{Row, mapType, entryCount}
 use Rattle.format.specs.Refusals.{mapFits, everyMap}
 use Rattle.format.specs.Rewriting.{runs, bodyBytes, bodies, headerBytes, headers}
-use Rattle.format.specs.Tables.{cellsAt, tableRows, rowRoom, mapCells, entryCells}
+use Rattle.format.specs.Tables.{cellsAt, tableRows, mapCells, entryCells}
 use Rattle.format.proofs.Cpi.{body-length}
 use Rattle.format.proofs.Fields.{Fit, one, fits-fit}
 use Rattle.format.proofs.Rows.{rows-length, take-rows, drop-rows}
 use Rattle.format.proofs.Tests.{both-true}
 use Rattle.cells.specs.Reads.{CellIs}
-use Rattle.table_rows.proofs.Scans.{rowsLeft, left-all, left-turn, left-done}
+use Rattle.table_rows.proofs.Scans.{rowsLeft, left-all, left-turn}
 use Rattle.runs.specs.Runs.{entriesAt}
 use Rattle.encode_map.proofs.Bodies.{map-cell}
 use Rattle.encode_cpi.specs.Cpi.{Lent, Counted, fewRuns, mapRows, entryRows}

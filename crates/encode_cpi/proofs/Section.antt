@@ -1,5 +1,5 @@
 -- The pass that stores headers and bodies, and the section around them.
-use Prim.Native.Nat.{ℕ, suc, _+_, _*_, _-_, _^_, _<_, _≤_}
+use Prim.Native.Nat.{ℕ, _+_, _*_, _-_, _^_, _<_, _≤_}
 use mathlib.Core.Path.{_≡_, refl, sym, ap, ap₂, _∙_}
 use mathlib.Core.List.{List, [], _∷_, _++_}
 use mathlib.Core.Bool.{Bool, true}
@@ -7,13 +7,12 @@ use native.Mathlib.Omega.{arith}
 use borrow.Author.Tests.{leb-true}
 use lib.ListN.{length, length-append}
 use lib.Seq.{sets, length-sets}
-use Rattle.format.specs.Bytes.{both, bytesOf, fieldBytes}
+use Rattle.format.specs.Bytes.{bytesOf, fieldBytes}
 use Rattle.format.specs.ClipRecord.{Row, mapType}
 use Rattle.format.specs.Refusals.{everyMap}
 use Rattle.format.specs.Rewriting.{runs, bodyBytes, bodies, headerBytes, headers, cpiBytesBy}
 use Rattle.format.specs.Tables.{tableRows, mapCells, entryCells}
 use Rattle.format.proofs.Cpi.{header-length, headers-length}
-use Rattle.format.proofs.Loops.{put-more}
 use Rattle.format.proofs.Numbers.{bytes-length}
 use Rattle.format.proofs.Rows.{rows-length}
 use Rattle.format.proofs.Stores.{sets-append}
@@ -22,8 +21,8 @@ use Rattle.cells.specs.Reads.{CellIs}
 use Rattle.table_rows.proofs.Scans.{left-all, left-done}
 use Rattle.runs.specs.Runs.{entriesAt}
 use Rattle.map_rows.proofs.Puts.{sets-before, put-behind, put-field}
-use Rattle.encode_map.specs.Bodies.{EntriesFit, BodyRoom, MapRoom}
-use Rattle.encode_cpi.specs.Cpi.{Lent, Counted, Writable, MapsRoom, CpiRoom, fewRuns, entriesFit, mapRows, entryRows}
+use Rattle.encode_map.specs.Bodies.{MapRoom}
+use Rattle.encode_cpi.specs.Cpi.{Writable, MapsRoom, CpiRoom, fewRuns, entriesFit, mapRows, entryRows}
 use Rattle.encode_cpi.proofs.Lengths.{topBytes, top-length, cpi-parts, cpi-size}
 use Rattle.encode_cpi.proofs.Maps.{bodies-most, mapsLeft, entriesLeft, mapRow, maps-count, maps-few, map-room, entries-room, row-fits, count-few, own-within, Walk, walk-first, walk-turn, every-turn, bodies-turn, headers-turn}
 

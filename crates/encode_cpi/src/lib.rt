@@ -53,15 +53,15 @@ pub fn cpi_length(maps: &[u8], n: u32, entries: &[u8], m: u32) -> Length
 }
 
 // The headers of n maps, and behind them the bodies, in the section that starts at `at`. Answers the place behind them.
-fn put_maps(maps: &[u8], n: u32, entries: &[u8], m: u32, out: &mut [u8], at: usize) -> usize
+fn put_maps(maps: &[u8], n: usize, entries: &[u8], m: u32, out: &mut [u8], at: usize) -> usize
     requires { ⌜ MapsRoom (now maps) n (now entries) m (length (now out)) at ⌝ }
     ensures { λ r. ⌜ r ≡ at + 8 + 12 * n + length (bodies (mapRows (now (maps .entry)) n) (entryRows (now (entries .entry)) m)) ⌝ }
     ensures { λ _. ⌜ now (out .exit) ≡ sets (now (out .entry)) (at + 8) (headers (mapRows (now (maps .entry)) n) (entryRows (now (entries .entry)) m) (2 + 12 * n) ++ bodies (mapRows (now (maps .entry)) n) (entryRows (now (entries .entry)) m)) ⌝ }
 {
-    let mut body = at + 8 + MAP * (n as usize);
+    let mut body = at + 8 + MAP * n;
     let mut row: usize = 0;
     let mut k: usize = 0;
-    while k < (n as usize) {
+    while k < n {
         let count = cell_at(maps, MAP * k + 8) as usize;
         body = put_map(maps, k, entries, ENTRY * row, count, out, at, body);
         row += count;
@@ -100,5 +100,5 @@ pub fn put_cpi(
         return at + 4;
     }
     put_top((len - 4) as u32, n, out, at);
-    put_maps(maps, n, entries, m, out, at)
+    put_maps(maps, n as usize, entries, m, out, at)
 }
