@@ -137,7 +137,14 @@ pub(crate) fn measure(
         return Measured::Refused(31);
     };
     let programs_at = 220 + section_length(Section::Sequences, atcs, atc_rows, stcs, stc_rows);
-    let cpi_at = programs_at + section_length(Section::Programs, programs, program_rows, streams, stream_rows);
+    let cpi_at = programs_at
+        + section_length(
+            Section::Programs,
+            programs,
+            program_rows,
+            streams,
+            stream_rows,
+        );
     Measured::Places {
         programs: programs_at,
         cpi: cpi_at,

@@ -47,10 +47,42 @@ fn put_sections(
     requires { ⌜ Ready (tablesWith (scalarsBy info) (stated (now atcs) «atc_rows») (stated (now stcs) «stc_rows») (stated (now programs) «program_rows») (stated (now streams) «stream_rows») (stated (now maps) «map_rows») (stated (now entries) «entry_rows»)) «programs_at» «cpi_at» «marks_at» (length (now out)) ⌝ }
     ensures { λ _. ⌜ now (out .exit) ≡ sets (now (out .entry)) 0 (encode (clipIn (tablesWith (scalarsBy info) (stated (now (atcs .entry)) «atc_rows») (stated (now (stcs .entry)) «stc_rows») (stated (now (programs .entry)) «program_rows») (stated (now (streams .entry)) «stream_rows») (stated (now (maps .entry)) «map_rows») (stated (now (entries .entry)) «entry_rows»)))) ⌝ }
 {
-    put_head(info, programs_at as u32, cpi_at as u32, marks_at as u32, out);
-    put_section(Section::Sequences, atcs, atc_rows, stcs, stc_rows, programs_at - 220, out, 220);
-    put_section(Section::Programs, programs, program_rows, streams, stream_rows, cpi_at - programs_at, out, programs_at);
-    put_cpi(maps, map_rows, entries, entry_rows, marks_at - cpi_at, out, cpi_at);
+    put_head(
+        info,
+        programs_at as u32,
+        cpi_at as u32,
+        marks_at as u32,
+        out,
+    );
+    put_section(
+        Section::Sequences,
+        atcs,
+        atc_rows,
+        stcs,
+        stc_rows,
+        programs_at - 220,
+        out,
+        220,
+    );
+    put_section(
+        Section::Programs,
+        programs,
+        program_rows,
+        streams,
+        stream_rows,
+        cpi_at - programs_at,
+        out,
+        programs_at,
+    );
+    put_cpi(
+        maps,
+        map_rows,
+        entries,
+        entry_rows,
+        marks_at - cpi_at,
+        out,
+        cpi_at,
+    );
     put_marks(out, marks_at);
 }
 

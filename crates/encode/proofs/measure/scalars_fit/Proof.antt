@@ -14,8 +14,14 @@ returns-2 c = rw (lt-ltb _ _ (c .before .before .fits .version .fits), lt-ltb _ 
 returns-3 : tie.Need-returns-3
 returns-3 c =
     let s = c .before .before in
-    rw (lt-ltb _ _ (s .fits .version .fits), lt-ltb _ _ (c .before .if1 .left), lt-ltb _ _ (c .if2 .left), lt-ltb _ _ (s .fits .rate .fits), lt-ltb _ _ (s .fits .packets .fits),
-      lt-ltb _ _ (s .fits .format-id .fits))
+    rw (
+      lt-ltb _ _ (s .fits .version .fits),
+      lt-ltb _ _ (c .before .if1 .left),
+      lt-ltb _ _ (c .if2 .left),
+      lt-ltb _ _ (s .fits .rate .fits),
+      lt-ltb _ _ (s .fits .packets .fits),
+      lt-ltb _ _ (s .fits .format-id .fits),
+    )
     (last-test (ltb (s .args .flags) 256))
 
 pub scalars-fit-spec : {M : Type 1} → statement M
