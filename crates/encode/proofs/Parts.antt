@@ -10,7 +10,7 @@ use Rattle.format.specs.Rewriting.{headBytes, sequencesBytes, programsBytes, cp
 use Rattle.format.proofs.Stores.{sets-append}
 use Rattle.encode_head.specs.Heads.{headOf}
 use Rattle.encode_head.proofs.Laws.{head-is, head-length, marks-length}
-use Rattle.encode.specs.Writing.{programsPlace, cpiPlace, marksPlace}
+use Rattle.encode.specs.Writing.{programsPlace, cpiPlace, marksPlace, Placed}
 
 -- the new file, with the places of its sections
 pub encode-is : (c : Clip)
@@ -63,3 +63,10 @@ parts-stored c l e₁ e₂ e₃ e₄ e₅ =
     let three = then-stored _ (programsPlace c) (programsBytes c) (cpiBytes c ++ marksBytes) (place-cpi c) e₃ four in
     let two = then-stored _ 220 (sequencesBytes c) (programsBytes c ++ (cpiBytes c ++ marksBytes)) (place-programs c) e₂ three in
     then-stored l 0 head (sequencesBytes c ++ (programsBytes c ++ (cpiBytes c ++ marksBytes))) (sym first) e₁ two ∙ ap (sets l 0) (sym (encode-is c))
+
+-- the same, from places that are told
+pub placed-stored : (c : Clip) {programs cpi marks bytes : ℕ} → Placed c programs cpi marks bytes → (l : List ℕ) {l₁ l₂ l₃ l₄ l₅ : List ℕ}
+    → l₁ ≡ sets l 0 (headOf (c .scalars) programs cpi marks) → l₂ ≡ sets l₁ 220 (sequencesBytes c) → l₃ ≡ sets l₂ programs (programsBytes c)
+    → l₄ ≡ sets l₃ cpi (cpiBytes c) → l₅ ≡ sets l₄ marks marksBytes → l₅ ≡ sets l 0 (encode c)
+placed-stored c at l e₁ e₂ e₃ e₄ e₅ =
+    parts-stored c l (rw (at .programs-at, at .cpi-at, at .marks-at) at e₁) e₂ (rw (at .programs-at) at e₃) (rw (at .cpi-at) at e₄) (rw (at .marks-at) at e₅)

@@ -59,3 +59,10 @@ pub places-by : (refusal : ℕ) (c : Clip) {programs cpi marks : ℕ} → refusa
     → Measured.Places programs cpi marks ≡ measuredBy refusal c
 unfolding measuredBy
 places-by refusal c e p q m = rw (e, p, q, m)
+
+-- ---- what the answer says of the refusal
+
+-- a refusal that is told is the record's
+pub refused-told : (refusal : ℕ) (c : Clip) {m : Measured} {n : ℕ} → m ≡ measuredBy refusal c → m ≡ Measured.Refused n → (eqb refusal 0 ≡ false) × (refusal ≡ n)
+unfolding measuredBy
+refused-told refusal c is told = by-refusal (eqb refusal 0) refl (sym is ∙ told)

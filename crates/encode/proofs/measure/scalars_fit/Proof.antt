@@ -1,7 +1,7 @@
 -- Each test is one of the definition's; the other fields have 32 bits.
 use lib.Dec.{ltb}
 use borrow.Author.Tests.{lt-ltb, le-ltb}
-use Rattle.limits.proofs.Fits.{last-test}
+use Rattle.row_limits.proofs.Fits.{last-test}
 use Rattle.encode.proofs.measure.scalars_fit.Statement.{statement}
 use Rattle.encode.proofs.measure.scalars_fit.Tie as tie
 
