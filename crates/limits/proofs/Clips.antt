@@ -15,8 +15,8 @@ use Rattle.format.specs.Tables.{Table, ClipTables, isStated, addUp, rowsOf, cli
 use Rattle.queries.specs.Asked.{stated, noScalars, tablesWith}
 use Rattle.table_rows.specs.OwnRows.{isCounted}
 use Rattle.row_limits.specs.Kinds.{cellsOf, fitsBy}
-use Rattle.limits.specs.Clips.{entriesFit, headsFit, groupsFit, mapsFit, tablesFit}
 use Rattle.row_limits.specs.declared.Kind.{Kind}
+use Rattle.limits.specs.Clips.{entriesFit, headsFit, groupsFit, mapsFit, tablesFit}
 use Rattle.limits.proofs.Walks.{rows-stated}
 
 -- ---- two tests
@@ -112,15 +112,19 @@ module _ (l : ClipTables) where
   abbrev pub mapsOf : Bool
   mapsOf = mapsFit (rowsOf mapCells (l .maps)) (rowsOf entryCells (l .entries))
 
+  -- the sequences fail
   pub sequences-fail : {a : Bool} → a ≡ sequencesOf → not a ≡ true → false ≡ tablesFit (clipIn l)
   unfolding tablesFit clipIn
   sequences-fail is h = first-fails sequencesOf (both programsOf mapsOf) is h
 
+  -- they pass
   module _ {a : Bool} (is : a ≡ sequencesOf) (h : not a ≡ false) where
+    -- the programs fail
     pub programs-fail : {b : Bool} → b ≡ programsOf → not b ≡ true → false ≡ tablesFit (clipIn l)
     unfolding tablesFit clipIn
     programs-fail is₂ h₂ = then-second sequencesOf (both programsOf mapsOf) is h (first-fails programsOf mapsOf is₂ h₂)
 
+    -- they pass, and the maps decide
     pub maps-decide : {b c : Bool} → b ≡ programsOf → not b ≡ false → c ≡ mapsOf → c ≡ tablesFit (clipIn l)
     unfolding tablesFit clipIn
     maps-decide is₂ h₂ is₃ = then-second sequencesOf (both programsOf mapsOf) is h (then-second programsOf mapsOf is₂ h₂ is₃)
