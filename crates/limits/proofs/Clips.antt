@@ -1,5 +1,5 @@
 -- The tables of a record, one test behind the other, and `cellsFit` as the scalars' part and the tables'.
-use Prim.Native.Nat.{ℕ, _+_, _*_, _<_, _≤_}
+use Prim.Native.Nat.{ℕ, _+_, _*_, _^_, _<_, _≤_}
 use mathlib.Core.Path.{_≡_, refl, sym, ap, _∙_}
 use mathlib.Core.List.{List}
 use mathlib.Core.Bool.{Bool, true, false, not}
@@ -7,26 +7,27 @@ use native.Mathlib.Nat.{le-div-iff-mul-le}
 use native.Mathlib.Omega.{arith}
 use lib.ListN.{length}
 use lib.Dec.{leb}
-use borrow.Author.Tests.{le-leb, lt-leb, not-true, not-false}
+use borrow.Author.Tests.{lt-ltb, le-leb, lt-leb, not-true, not-false}
 use Rattle.format.specs.Bytes.{both, every}
-use Rattle.format.specs.ClipRecord.{Row, Clip}
-use Rattle.format.specs.Refusals.{scalarsFit, atcFits, stcFits, programFits, streamFits, mapFits, cellsFit}
-use Rattle.format.specs.Tables.{tableRows, rowRoom}
-use Rattle.queries.specs.Asked.{stated}
+use Rattle.format.specs.ClipRecord.{Scalars, Clip, atcStcCount, streamCount, entryCount}
+use Rattle.format.specs.Refusals.{scalarsFit, atcFits, stcFits, programFits, streamFits, mapFits, cellsFit, allStated, countsAdd}
+use Rattle.format.specs.Tables.{Table, ClipTables, isStated, addUp, rowsOf, clipIn, tableRows, rowRoom, atcCells, stcCells, programCells, streamCells, mapCells, entryCells}
+use Rattle.queries.specs.Asked.{stated, noScalars, tablesWith}
+use Rattle.table_rows.specs.OwnRows.{isCounted}
 use Rattle.row_limits.specs.Kinds.{cellsOf, fitsBy}
-use Rattle.limits.specs.Clips.{entriesFit, headsFit, groupsFit, mapsFit, tablesFit}
 use Rattle.row_limits.specs.declared.Kind.{Kind}
+use Rattle.limits.specs.Clips.{entriesFit, headsFit, groupsFit, mapsFit, tablesFit}
 use Rattle.limits.proofs.Walks.{rows-stated}
 
 -- ---- two tests
 
 -- the first fails
-pub first-fails : {a x : Bool} (y : Bool) → a ≡ x → not a ≡ true → false ≡ both x y
-first-fails {a} y is h = rw (← is, not-true a h)
+pub first-fails : (x y : Bool) {a : Bool} → a ≡ x → not a ≡ true → false ≡ both x y
+first-fails x y {a} is h = rw (← is, not-true a h)
 
 -- it passes, and the second decides
-pub then-second : {a x y b : Bool} → a ≡ x → not a ≡ false → b ≡ y → b ≡ both x y
-then-second {a} is h then = rw (← is, not-false a h) then
+pub then-second : (x y : Bool) {a b : Bool} → a ≡ x → not a ≡ false → b ≡ y → b ≡ both x y
+then-second x y {a} is h then = rw (← is, not-false a h) then
 
 -- ---- the rows of a table
 
@@ -82,3 +83,93 @@ scalars-and-tables c =
     (ap (λ (x : Bool). both few-atcs (both atcs (both stcs x))) second
     ∙ pairs few-atcs atcs (both stcs rest)
     ∙ pairs (both few-atcs atcs) stcs rest)
+
+-- scalars in the types of their fields fit
+pub scalars-narrow : (s : Scalars) → s .version < 2 ^ 32 → s .streamType < 2 ^ 8 → s .applicationType < 2 ^ 8 → s .rate < 2 ^ 32 → s .packets < 2 ^ 32 → s .validityFlags < 2 ^ 8 → s .formatId < 2 ^ 32
+    → scalarsFit s ≡ true
+scalars-narrow s a b c d e f g =
+    rw (lt-ltb _ _ a, lt-ltb _ _ b, lt-ltb _ _ c, lt-ltb _ _ d, lt-ltb _ _ e, lt-ltb _ _ f, lt-ltb _ _ g)
+
+-- where they do, the tables decide
+pub tables-decide : (s : Scalars) (atcs stcs programs streams maps entries : Table) {b : Bool} → scalarsFit s ≡ true
+    → b ≡ tablesFit (clipIn (tablesWith noScalars atcs stcs programs streams maps entries))
+    → b ≡ cellsFit (clipIn (tablesWith s atcs stcs programs streams maps entries))
+unfolding clipIn tablesFit
+tables-decide s atcs stcs programs streams maps entries narrow is =
+    let c = clipIn (tablesWith s atcs stcs programs streams maps entries) in
+    is ∙ sym (scalars-and-tables c ∙ ap (λ (x : Bool). both x (tablesFit c)) narrow)
+
+-- ---- the tables, section by section
+
+module _ (l : ClipTables) where
+  -- the sequences, the programs and the maps
+  abbrev pub sequencesOf : Bool
+  sequencesOf = groupsFit Kind.Atc Kind.Stc (rowsOf atcCells (l .atcs)) (rowsOf stcCells (l .stcs))
+
+  abbrev pub programsOf : Bool
+  programsOf = groupsFit Kind.Program Kind.Stream (rowsOf programCells (l .programs)) (rowsOf streamCells (l .streams))
+
+  abbrev pub mapsOf : Bool
+  mapsOf = mapsFit (rowsOf mapCells (l .maps)) (rowsOf entryCells (l .entries))
+
+  -- the sequences fail
+  pub sequences-fail : {a : Bool} → a ≡ sequencesOf → not a ≡ true → false ≡ tablesFit (clipIn l)
+  unfolding tablesFit clipIn
+  sequences-fail is h = first-fails sequencesOf (both programsOf mapsOf) is h
+
+  -- they pass
+  module _ {a : Bool} (is : a ≡ sequencesOf) (h : not a ≡ false) where
+    -- the programs fail
+    pub programs-fail : {b : Bool} → b ≡ programsOf → not b ≡ true → false ≡ tablesFit (clipIn l)
+    unfolding tablesFit clipIn
+    programs-fail is₂ h₂ = then-second sequencesOf (both programsOf mapsOf) is h (first-fails programsOf mapsOf is₂ h₂)
+
+    -- they pass, and the maps decide
+    pub maps-decide : {b c : Bool} → b ≡ programsOf → not b ≡ false → c ≡ mapsOf → c ≡ tablesFit (clipIn l)
+    unfolding tablesFit clipIn
+    maps-decide is₂ h₂ is₃ = then-second sequencesOf (both programsOf mapsOf) is h (then-second programsOf mapsOf is₂ h₂ is₃)
+
+-- ---- what is tested before
+
+-- tests of two pairs, in another order
+cross : (x a y b : Bool) → both (both x a) (both y b) ≡ both (both x y) (both a b)
+cross true true y b = refl
+cross true false true b = refl
+cross true false false b = refl
+cross false a y b = refl
+
+-- two tests before others
+two-before : (x y b : Bool) → both (both x (both y true)) b ≡ both x (both y b)
+two-before true true b = refl
+two-before true false b = refl
+two-before false y b = refl
+
+-- the last two
+two-last : (x y : Bool) → both x (both y true) ≡ both x y
+two-last true true = refl
+two-last true false = refl
+two-last false y = refl
+
+-- three times two tests and a third: first all pairs, then all thirds
+regroup : (s1 s2 a s3 s4 b s5 s6 c : Bool)
+    → both (both (both s1 (both s2 true)) a) (both (both (both s3 (both s4 true)) b) (both (both s5 (both s6 true)) c))
+    ≡ both (both s1 (both s2 (both s3 (both s4 (both s5 s6))))) (both a (both b c))
+regroup s1 s2 a s3 s4 b s5 s6 c =
+    let one = both s1 (both s2 true) in
+    let two = both s3 (both s4 true) in
+    let three = both s5 (both s6 true) in
+    ap (λ (x : Bool). both (both one a) x) (cross two b three c)
+    ∙ cross one a (both two three) (both b c)
+    ∙ ap (λ (x : Bool). both x (both a (both b c)))
+    (two-before s1 s2 (both two three)
+    ∙ ap (λ (x : Bool). both s1 (both s2 x)) (two-before s3 s4 three ∙ ap (λ (x : Bool). both s3 (both s4 x)) (two-last s5 s6)))
+
+-- 22 refuses nothing exactly where the rows of each pair of tables are there and counted
+pub all-counted : (l : ClipTables)
+    → both (isCounted 1 stcCells (l .atcs) (l .stcs)) (both (isCounted 2 streamCells (l .programs) (l .streams)) (isCounted 2 entryCells (l .maps) (l .entries)))
+    ≡ both (allStated l) (countsAdd (clipIn l))
+unfolding isCounted allStated countsAdd clipIn
+all-counted l =
+    regroup (isStated atcCells (l .atcs)) (isStated stcCells (l .stcs)) (addUp atcStcCount (rowsOf atcCells (l .atcs)) (rowsOf stcCells (l .stcs)))
+    (isStated programCells (l .programs)) (isStated streamCells (l .streams)) (addUp streamCount (rowsOf programCells (l .programs)) (rowsOf streamCells (l .streams)))
+    (isStated mapCells (l .maps)) (isStated entryCells (l .entries)) (addUp entryCount (rowsOf mapCells (l .maps)) (rowsOf entryCells (l .entries)))

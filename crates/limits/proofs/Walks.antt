@@ -1,7 +1,7 @@
 -- One turn of the loop over rows, and of the loop over maps with their entries.
-use Prim.Native.Nat.{ℕ, suc, _+_, _*_, _-_, _<_, _≤_}
+use Prim.Native.Nat.{ℕ, _+_, _*_, _-_, _<_, _≤_}
 use mathlib.Core.Path.{_≡_, refl, sym, ap, _∙_}
-use mathlib.Core.List.{List, [], _∷_}
+use mathlib.Core.List.{List}
 use mathlib.Core.Bool.{Bool, true, false, not}
 use native.Mathlib.Nat.{suc-mul}
 use native.Mathlib.Omega.{arith}
@@ -10,14 +10,14 @@ use borrow.Author.Tests.{leb-true, eqb-true, not-true, not-false}
 use Rattle.format.specs.Bytes.{both, every, total, rowsAt}
 use Rattle.format.specs.ClipRecord.{Row, entryCount}
 use Rattle.format.specs.Refusals.{entryFits, everyMap}
-use Rattle.format.specs.Tables.{Table, isStated, addUp, rowsOf, cellsAt, tableRows, rowRoom, mapCells, entryCells}
+use Rattle.format.specs.Tables.{Table, rowsOf, cellsAt, tableRows, rowRoom, mapCells, entryCells}
 use Rattle.format.proofs.Loops.{one-left, none-left}
 use Rattle.format.proofs.Rows.{rows-length, take-rows, drop-rows}
 use Rattle.format.proofs.Tests.{split-both}
 use Rattle.cells.specs.Reads.{CellIs}
 use Rattle.table_rows.specs.OwnRows.{headCells, cellIn, isCounted}
-use Rattle.limits.specs.Clips.{ownFit}
 use Rattle.table_rows.proofs.Scans.{rowsLeft, left-all, left-turn, left-done, cell-in}
+use Rattle.limits.specs.Clips.{ownFit}
 
 -- ---- rows one behind the other, of so many cells each
 
@@ -31,6 +31,7 @@ module _ (test : Row → Bool) (cells : ℕ) (t : List ℕ) (p n : ℕ) where
     pub same : every test (rowsHere at (n - k)) ≡ every test (rowsHere p n)
     pub room : at + (n - k) * (4 * cells) ≤ length t
 
+  -- before the first turn
   pub tested-first : p + n * (4 * cells) ≤ length t → Tested 0 p
   tested-first h =
       let all : n - 0 ≡ n = omega arith in
@@ -43,6 +44,7 @@ module _ (test : Row → Bool) (cells : ℕ) (t : List ℕ) (p n : ℕ) where
         let r = rw (one-left n k more, suc-mul (n - (k + 1)) (4 * cells)) at (i .room) in
         omega arith
 
+    -- and so is the next row alone
     pub tested-room : at + 4 * cells ≤ length t
     tested-room = let r = rooms in omega arith
 
@@ -76,6 +78,7 @@ pub record Counts (cell cells : ℕ) (heads rows : Table) : Type 0 where
   pub rows-there : rows .rows ≤ rowRoom cells (rows .bytes)
   pub adds : total (cellIn cell) (rowsOf headCells heads) ≡ rows .rows
 
+-- what the test of 22 tells of two tables
 pub counts : (cell cells : ℕ) (heads rows : Table) → isCounted cell cells heads rows ≡ true → Counts cell cells heads rows
 unfolding isCounted
 counts cell cells heads rows h =
@@ -103,6 +106,7 @@ module _ (test : Row → List Row → Bool) (maps entries : List ℕ) (n e : ℕ
     pub same : everyMap test (rowsLeft mapCells maps n k) (rowsLeft entryCells entries e first) ≡ allMaps
     pub adds : first + total entryCount (rowsLeft mapCells maps n k) ≡ e
 
+  -- before the first turn
   pub maps-first : total entryCount (tableRows mapCells maps n) ≡ e → MapsTested 0 0
   maps-first h = record { same = rw (left-all mapCells maps n, left-all entryCells entries e); adds = rw (left-all mapCells maps n) (omega arith) }
 

@@ -1,5 +1,6 @@
 -- Each test is one of the definition's; the packet has 32 bits.
 use lib.Dec.{ltb}
+use native.Mathlib.Omega.{arith}
 use borrow.Author.Tests.{lt-ltb, le-ltb}
 use denote.Ref.{now}
 use borrow.Author.Needs.{needs}
@@ -17,7 +18,7 @@ returns : tie.Need-returns
 returns c =
     let k = c .before .before in
     let a = k .before .args in
-    rw (any-cell (now (a .t)) (λ i. k .shared-slice-known .given i .fits) (a .p), ← c .before .cell-at .ensures .same, le-ltb _ _ (c .if1 .taken))
+    rw (any-cell (now (a .t)) (λ i. k .shared-slice-known .given i .fits) (a .p), ← c .before .cell-at .ensures .same, le-ltb (c .before .cell-at .result) 65536 (omega arith))
 
 add-cell-at-2 : tie.Need-add-cell-at-2
 add-cell-at-2 c = search needs
@@ -29,7 +30,7 @@ returns-2 : tie.Need-returns-2
 returns-2 c =
     let k = c .before .before .before in
     let a = k .before .args in
-    rw (any-cell (now (a .t)) (λ i. k .shared-slice-known .given i .fits) (a .p), ← c .before .before .cell-at .ensures .same, lt-ltb _ _ (c .before .if1 .left), third (a .p), ← c .cell-at2 .ensures .same)
+    rw (any-cell (now (a .t)) (λ i. k .shared-slice-known .given i .fits) (a .p), ← c .before .before .cell-at .ensures .same, lt-ltb (c .before .before .cell-at .result) 65536 (c .before .if1 .left), third (a .p), ← c .cell-at2 .ensures .same)
     (last-test (ltb (c .cell-at2 .result) 256))
 
 pub program-fits-spec : {M : Type 1} → statement M

@@ -1,14 +1,12 @@
 -- Each turn passes a map whose entries fit.
 use Prim.Native.Nat.{_+_, _*_, _-_, _≤_}
-use mathlib.Core.List.{List}
 use native.Mathlib.Omega.{arith}
-use lib.ListN.{length}
 use denote.Ref.{now}
 use borrow.Author.Needs.{needs}
 use Rattle.format.specs.Tables.{entryCells}
 use Rattle.queries.specs.Asked.{stated}
 use Rattle.limits.specs.Clips.{ownFit}
-use Rattle.limits.proofs.Walks.{Counts, counts, MapsTested, maps-first, own-there, ownEntries, own-type, map-fails, map-turn, maps-done}
+use Rattle.limits.proofs.Walks.{Counts, counts, MapsTested, maps-first, own-there, own-type, map-fails, map-turn, maps-done}
 use Rattle.limits.proofs.rows.entries_fit.Statement.{statement}
 use Rattle.limits.proofs.rows.entries_fit.Tie as tie
 

@@ -1,13 +1,18 @@
 -- The sequences, then the programs, then the maps.
 use denote.Ref.{now}
 use borrow.Author.Needs.{needs}
-use Rattle.format.specs.Tables.{clipIn, stcCells, streamCells}
-use Rattle.queries.specs.Asked.{stated}
-use Rattle.limits.specs.Clips.{tablesFit}
+use Rattle.format.specs.Tables.{ClipTables, stcCells, streamCells}
+use Rattle.queries.specs.Asked.{stated, noScalars, tablesWith}
 use Rattle.limits.proofs.Walks.{counts}
-use Rattle.limits.proofs.Clips.{first-fails, then-second}
+use Rattle.limits.proofs.Clips.{sequences-fail, programs-fail, maps-decide}
 use Rattle.limits.proofs.tables.cells_fit.Statement.{statement}
 use Rattle.limits.proofs.tables.cells_fit.Tie as tie
+
+-- the tables that are lent
+abbrev tables : tie.Start → ClipTables
+tables s =
+    let a = s .args in
+    tablesWith noScalars (stated (now (a .atcs)) (a .atc-rows)) (stated (now (a .stcs)) (a .stc-rows)) (stated (now (a .programs)) (a .program-rows)) (stated (now (a .streams)) (a .stream-rows)) (stated (now (a .maps)) (a .map-rows)) (stated (now (a .entries)) (a .entry-rows))
 
 groups-fit-requires : tie.Need-groups-fit-requires
 groups-fit-requires c κs =
@@ -17,8 +22,7 @@ groups-fit-requires c κs =
     (there .heads-there, there .rows-there)
 
 returns : tie.Need-returns
-unfolding tablesFit clipIn
-returns c = first-fails _ (c .before .groups-fit .ensures) (c .if1 .taken)
+returns c = sequences-fail (tables (c .before .before .before .before .before .before .before .before)) (c .before .groups-fit .ensures) (c .if1 .taken)
 
 groups-fit-requires-2 : tie.Need-groups-fit-requires-2
 groups-fit-requires-2 c κs =
@@ -28,21 +32,18 @@ groups-fit-requires-2 c κs =
     (there .heads-there, there .rows-there)
 
 returns-2 : tie.Need-returns-2
-unfolding tablesFit clipIn
 returns-2 c =
     let sequences = c .before .before in
-    then-second (sequences .before .groups-fit .ensures) (sequences .if1 .left) (first-fails _ (c .before .groups-fit2 .ensures) (c .if2 .taken))
+    programs-fail (tables (sequences .before .before .before .before .before .before .before .before)) (sequences .before .groups-fit .ensures) (sequences .if1 .left) (c .before .groups-fit2 .ensures) (c .if2 .taken)
 
 maps-fit-requires : tie.Need-maps-fit-requires
 maps-fit-requires c κs = search needs
 
 returns-3 : tie.Need-returns-3
-unfolding tablesFit clipIn
 returns-3 c =
     let programs = c .before in
     let sequences = programs .before .before in
-    then-second (sequences .before .groups-fit .ensures) (sequences .if1 .left)
-    (then-second (programs .before .groups-fit2 .ensures) (programs .if2 .left) (c .maps-fit .ensures))
+    maps-decide (tables (sequences .before .before .before .before .before .before .before .before)) (sequences .before .groups-fit .ensures) (sequences .if1 .left) (programs .before .groups-fit2 .ensures) (programs .if2 .left) (c .maps-fit .ensures)
 
 pub cells-fit-spec : {M : Type 1} → statement M
 cells-fit-spec =

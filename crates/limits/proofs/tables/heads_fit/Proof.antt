@@ -1,4 +1,5 @@
 -- Too many rows fail, else each is tested.
+use native.Mathlib.Omega.{arith}
 use denote.Ref.{now}
 use borrow.Author.Needs.{needs}
 use Rattle.limits.proofs.Clips.{too-many, few}
@@ -6,7 +7,7 @@ use Rattle.limits.proofs.tables.heads_fit.Statement.{statement}
 use Rattle.limits.proofs.tables.heads_fit.Tie as tie
 
 returns : tie.Need-returns
-returns c = let a = c .before .before .args in too-many (a .kind) (now (a .t)) (a .rows) (c .if1 .taken)
+returns c = let a = c .before .before .args in too-many (a .kind) (now (a .t)) (a .rows) (omega arith)
 
 table-fits-requires : tie.Need-table-fits-requires
 table-fits-requires c κs = search needs
