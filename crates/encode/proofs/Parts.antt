@@ -70,3 +70,7 @@ pub placed-stored : (c : Clip) {programs cpi marks bytes : ℕ} → Placed c pro
     → l₄ ≡ sets l₃ cpi (cpiBytes c) → l₅ ≡ sets l₄ marks marksBytes → l₅ ≡ sets l 0 (encode c)
 placed-stored c at l e₁ e₂ e₃ e₄ e₅ =
     parts-stored c l (rw (at .programs-at, at .cpi-at, at .marks-at) at e₁) e₂ (rw (at .programs-at) at e₃) (rw (at .cpi-at) at e₄) (rw (at .marks-at) at e₅)
+
+-- bytes stored, under another name
+pub stored-as : (l : List ℕ) (at : ℕ) {l′ part same : List ℕ} → l′ ≡ sets l at part → part ≡ same → l′ ≡ sets l at same
+stored-as l at e is = e ∙ ap (sets l at) is

@@ -237,10 +237,10 @@ module _ (s : Scalars) (atcs stcs programs streams maps entries : Table) where
         room = omega (arith, at .programs-at, at .cpi-at, at .room, at .marks-at, place-programs c, place-cpi c, place-marks c);
       }
 
-  pub cpi-storable : (programs-at cpi-at marks-at : ℕ) (out : List ℕ) → Ready handed programs-at cpi-at marks-at (length out)
-      → cpi.CpiRoom (maps .bytes) (maps .rows) (entries .bytes) (entries .rows) (marks-at - cpi-at) (length out) cpi-at
+  pub cpi-storable : (programs-at cpi-at marks-at bytes : ℕ) → Ready handed programs-at cpi-at marks-at bytes
+      → cpi.CpiRoom (maps .bytes) (maps .rows) (entries .bytes) (entries .rows) (marks-at - cpi-at) bytes cpi-at
   unfolding clipIn cpiBytes
-  cpi-storable programs-at cpi-at marks-at out r =
+  cpi-storable programs-at cpi-at marks-at bytes r =
       let c = clipIn handed in
       let at = r .placed in
       let passed = all-passed handed (r .writable) in

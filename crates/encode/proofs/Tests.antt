@@ -5,49 +5,26 @@ use mathlib.Core.List.{List}
 use mathlib.Core.Bool.{Bool, true, false}
 use native.Mathlib.Omega.{arith}
 use lib.Dec.{eqb}
+use borrow.Author.Tests.{eqb-true}
 use Rattle.format.specs.Bytes.{both, pick, unless}
-use Rattle.format.specs.ClipRecord.{Clip, atcStcCount, streamCount, entryCount}
-use Rattle.format.specs.Tables.{ClipTables, clipIn, isStated, addUp, rowsOf, atcCells, stcCells, programCells, streamCells, mapCells, entryCells}
+use Rattle.format.specs.ClipRecord.{Clip}
+use Rattle.format.specs.Tables.{ClipTables, clipIn}
 use Rattle.format.specs.Refusals.{allStated, countsAdd, cellsFit, runsFit, writeRefusal}
-use Rattle.table_rows.specs.OwnRows.{isCounted}
+use Rattle.limits.proofs.Clips.{all-counted}
 use Rattle.encode.specs.declared.measure.Measured.{Measured}
-use Rattle.encode.specs.Writing.{refusalIn, pairsCounted, programsPlace, cpiPlace, marksPlace, measuredBy}
+use Rattle.encode.specs.Writing.{refusalIn, pairsCounted, programsPlace, cpiPlace, marksPlace, measuredBy, Placed}
 
--- a number that stands on both sides of a test is the answer
-unless-same : (b : Bool) (n : ℕ) → unless b n n ≡ n
-unless-same true n = refl
-unless-same false n = refl
-
--- rows stated and counts added up, tested apart or pair of tables by pair of tables: the same number either way
-pair-by-pair : (a b c d e f x y z : Bool) (n later : ℕ)
-    → unless (both a (both b (both c (both d (both e f))))) n (unless (both x (both y z)) n later)
-    ≡ unless (both (both (both a (both b true)) x) (both (both (both c (both d true)) y) (both (both e (both f true)) z))) n later
-pair-by-pair false b c d e f x y z n later = refl
-pair-by-pair true false c d e f x y z n later = refl
-pair-by-pair true true c d e f false y z n later = unless-same (both c (both d (both e f))) n
-pair-by-pair true true false d e f true y z n later = refl
-pair-by-pair true true true false e f true y z n later = refl
-pair-by-pair true true true true e f true false z n later = unless-same (both e f) n
-pair-by-pair true true true true false f true true z n later = refl
-pair-by-pair true true true true true false true true z n later = refl
-pair-by-pair true true true true true true true true z n later = refl
+-- two tests of one number are one test
+unless-both : (a b : Bool) (n later : ℕ) → unless a n (unless b n later) ≡ unless (both a b) n later
+unless-both true b n later = refl
+unless-both false b n later = refl
 
 -- 22 by pairs of tables, then 30, then 31
 pub refusal-is : (l : ClipTables) → refusalIn l ≡ unless (pairsCounted l) 22 (unless (cellsFit (clipIn l)) 30 (unless (runsFit (clipIn l)) 31 0))
-unfolding allStated writeRefusal countsAdd pairsCounted isCounted clipIn
+unfolding writeRefusal pairsCounted
 refusal-is l =
-    pair-by-pair
-    (isStated atcCells (l .atcs))
-    (isStated stcCells (l .stcs))
-    (isStated programCells (l .programs))
-    (isStated streamCells (l .streams))
-    (isStated mapCells (l .maps))
-    (isStated entryCells (l .entries))
-    (addUp atcStcCount (rowsOf atcCells (l .atcs)) (rowsOf stcCells (l .stcs)))
-    (addUp streamCount (rowsOf programCells (l .programs)) (rowsOf streamCells (l .streams)))
-    (addUp entryCount (rowsOf mapCells (l .maps)) (rowsOf entryCells (l .entries)))
-    22
-    (unless (cellsFit (clipIn l)) 30 (unless (runsFit (clipIn l)) 31 0))
+    let later = unless (cellsFit (clipIn l)) 30 (unless (runsFit (clipIn l)) 31 0) in
+    unless-both (allStated l) (countsAdd (clipIn l)) 22 later ∙ ap (λ (b : Bool). unless b 22 later) (sym (all-counted l))
 
 -- a refusal is told
 pub refused-by : (refusal : ℕ) (c : Clip) (n : ℕ) → eqb n 0 ≡ false → refusal ≡ n → Measured.Refused n ≡ measuredBy refusal c
@@ -62,7 +39,27 @@ places-by refusal c e p q m = rw (e, p, q, m)
 
 -- ---- what the answer says of the refusal
 
--- a refusal that is told is the record's
-pub refused-told : (refusal : ℕ) (c : Clip) {m : Measured} {n : ℕ} → m ≡ measuredBy refusal c → m ≡ Measured.Refused n → (eqb refusal 0 ≡ false) × (refusal ≡ n)
-unfolding measuredBy
-refused-told refusal c is told = by-refusal (eqb refusal 0) refl (sym is ∙ told)
+-- of places and a refusal, chosen by a test: the refusal is told where the test fails, the places where it passes
+told-refused : (b : Bool) (p q m r : ℕ) {n : ℕ} → pick b (Measured.Places p q m) (Measured.Refused r) ≡ Measured.Refused n → (b ≡ false) × (r ≡ n)
+told-refused false p q m r e = (refl, cc)
+told-refused true p q m r e = let z : _≡_ {A = ℕ} 0 1 = cc in absurd (omega arith)
+
+told-placed : (b : Bool) (p q m r : ℕ) {p′ q′ m′ : ℕ} → pick b (Measured.Places p q m) (Measured.Refused r) ≡ Measured.Places p′ q′ m′
+    → (b ≡ true) × ((p′ ≡ p) × ((q′ ≡ q) × (m′ ≡ m)))
+told-placed true p q m r e = (refl, (cc, (cc, cc)))
+told-placed false p q m r e = let z : _≡_ {A = ℕ} 0 1 = cc in absurd (omega arith)
+
+module _ (refusal : ℕ) (c : Clip) {m : Measured} (is : m ≡ measuredBy refusal c) where
+  pub refused-told : {n : ℕ} → m ≡ Measured.Refused n → (eqb refusal 0 ≡ false) × (refusal ≡ n)
+  unfolding measuredBy
+  refused-told told = told-refused (eqb refusal 0) (programsPlace c) (cpiPlace c) (marksPlace c) refusal (sym is ∙ told)
+
+  pub none-told : {p q k : ℕ} → m ≡ Measured.Places p q k → refusal ≡ 0
+  unfolding measuredBy
+  none-told told = eqb-true refusal 0 (told-placed (eqb refusal 0) (programsPlace c) (cpiPlace c) (marksPlace c) refusal (sym is ∙ told) .0)
+
+  pub placed-told : {p q k : ℕ} (bytes : ℕ) → m ≡ Measured.Places p q k → k + 6 ≤ bytes → Placed c p q k bytes
+  unfolding measuredBy
+  placed-told bytes told h =
+      let all = told-placed (eqb refusal 0) (programsPlace c) (cpiPlace c) (marksPlace c) refusal (sym is ∙ told) in
+      record { programs-at = all .1 .0; cpi-at = all .1 .1 .0; marks-at = all .1 .1 .1; room = h }

@@ -10,7 +10,7 @@ adds-up-requires c κs = search needs
 
 returns : tie.Need-returns
 unfolding pairsCounted
-returns c = first-fails _ (c .before .adds-up .ensures) (c .if1 .taken)
+returns c = first-fails _ _ (c .before .adds-up .ensures) (c .if1 .taken)
 
 adds-up-requires-2 : tie.Need-adds-up-requires-2
 adds-up-requires-2 c κs = search needs
@@ -19,7 +19,7 @@ returns-2 : tie.Need-returns-2
 unfolding pairsCounted
 returns-2 c =
     let sequences = c .before .before in
-    then-second (sequences .before .adds-up .ensures) (sequences .if1 .left) (first-fails _ (c .before .adds-up2 .ensures) (c .if2 .taken))
+    then-second _ _ (sequences .before .adds-up .ensures) (sequences .if1 .left) (first-fails _ _ (c .before .adds-up2 .ensures) (c .if2 .taken))
 
 adds-up-requires-3 : tie.Need-adds-up-requires-3
 adds-up-requires-3 c κs = search needs
@@ -29,8 +29,8 @@ unfolding pairsCounted
 returns-3 c =
     let programs = c .before in
     let sequences = programs .before .before in
-    then-second (sequences .before .adds-up .ensures) (sequences .if1 .left)
-    (then-second (programs .before .adds-up2 .ensures) (programs .if2 .left) (c .adds-up3 .ensures))
+    then-second _ _ (sequences .before .adds-up .ensures) (sequences .if1 .left)
+    (then-second _ _ (programs .before .adds-up2 .ensures) (programs .if2 .left) (c .adds-up3 .ensures))
 
 pub counts-add-spec : {M : Type 1} → statement M
 counts-add-spec =

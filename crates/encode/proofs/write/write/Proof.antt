@@ -1,45 +1,86 @@
+-- A refusal, an output that is too short, or the whole file stored.
+use Prim.Native.Nat.{_+_}
+use mathlib.Core.Path.{_≡_, refl, sym, ap, _∙_}
+use native.Mathlib.Omega.{arith}
+use denote.Ref.{now}
+use lib.ListN.{length}
+use Rattle.format.specs.Tables.{clipIn}
+use Rattle.format.specs.Refusals.{writeAnswer}
+use Rattle.clip_information.specs.Read.{scalarsBy}
+use Rattle.queries.specs.Asked.{stated, tablesWith}
+use Rattle.encode.specs.Writing.{refusalIn}
+use Rattle.encode.proofs.Tests.{refused-told, none-told, placed-told}
+use Rattle.encode.proofs.Tables.{marks-bound}
+use Rattle.encode.proofs.Answers.{answer-refused, answer-short, answer-written, output-written}
+use borrow.Author.Needs.{needs}
 use Rattle.encode.proofs.write.write.Statement.{statement}
 use Rattle.encode.proofs.write.write.Tie as tie
-use Rattle.encode.proofs.write.write.Reads as reads
-use Rattle.encode.proofs.write.write.Lts as lts
-use Rattle.encode.proofs.measure.measure.Reads as measure-reads
-use Rattle.encode.proofs.write.put_sections.Reads as put-sections-reads
 
--- src/write.rt:109:11
 measure-requires : tie.Need-measure-requires
-measure-requires c κs = ?
+measure-requires c κs = search needs
 
--- src/write.rt:124:27
 enum-known-n : tie.Need-enum-known-n
-enum-known-n c = ?
+enum-known-n c = search needs
 
--- src/write.rt:126:23
 enum-known-programs-at : tie.Need-enum-known-programs-at
-enum-known-programs-at c = ?
+enum-known-programs-at c = search needs
 
--- src/write.rt:130:23
 add-len : tie.Need-add-len
-add-len c = ?
+add-len c =
+    let a = c .before .before .before .before .before .before .before .before .before .before .before .args in
+    let l = tablesWith (scalarsBy (a .info)) (stated (now (a .atcs)) (a .atc-rows)) (stated (now (a .stcs)) (a .stc-rows)) (stated (now (a .programs)) (a .program-rows)) (stated (now (a .streams)) (a .stream-rows)) (stated (now (a .maps)) (a .map-rows)) (stated (now (a .entries)) (a .entry-rows)) in
+    let c₀ = clipIn l in
+    let g = c .before .programs-at .given in
+    let is = c .before .before .before .measure .ensures in
+    let none = none-told (refusalIn l) c₀ is (g .1) in
+    let at = placed-told (refusalIn l) c₀ is (g .0 .1 .1 .0 + 6) (g .1) (omega arith) in
+    record { fits = omega (arith, at .marks-at, marks-bound l none) }
 
--- src/write.rt:132:17
 returns : tie.Need-returns
-returns c = ?
+unfolding writeAnswer
+returns c =
+    let a = c .before .before .before .before .before .before .before .before .before .before .before .before .args in
+    let l = tablesWith (scalarsBy (a .info)) (stated (now (a .atcs)) (a .atc-rows)) (stated (now (a .stcs)) (a .stc-rows)) (stated (now (a .programs)) (a .program-rows)) (stated (now (a .streams)) (a .stream-rows)) (stated (now (a .maps)) (a .map-rows)) (stated (now (a .entries)) (a .entry-rows)) in
+    let c₀ = clipIn l in
+    let g = c .before .before .programs-at .given in
+    let is = c .before .before .before .before .measure .ensures in
+    let none = none-told (refusalIn l) c₀ is (g .1) in
+    let at = placed-told (refusalIn l) c₀ is (g .0 .1 .1 .0 + 6) (g .1) (omega arith) in
+    (answer-short (refusalIn l) c₀ (now (a .out)) none (at .marks-at) (c .if1 .taken), refl)
 
--- src/write.rt:134:13
 put-sections-requires : tie.Need-put-sections-requires
-put-sections-requires c κs = ?
+put-sections-requires c κs =
+    let a = c .before .before .before .before .before .before .before .before .before .before .before .before .before .args in
+    let l = tablesWith (scalarsBy (a .info)) (stated (now (a .atcs)) (a .atc-rows)) (stated (now (a .stcs)) (a .stc-rows)) (stated (now (a .programs)) (a .program-rows)) (stated (now (a .streams)) (a .stream-rows)) (stated (now (a .maps)) (a .map-rows)) (stated (now (a .entries)) (a .entry-rows)) in
+    let c₀ = clipIn l in
+    let g = c .before .before .before .programs-at .given in
+    let is = c .before .before .before .before .before .measure .ensures in
+    let none = none-told (refusalIn l) c₀ is (g .1) in
+    record { writable = none; placed = placed-told (refusalIn l) c₀ is (length (now (a .out))) (g .1) (c .before .if1 .left) }
 
--- src/write.rt:90:1
 returns-2 : tie.Need-returns-2
-returns-2 c = ?
+unfolding writeAnswer
+returns-2 c =
+    let a = c .before .before .before .before .before .before .before .before .before .before .before .args in
+    let l = tablesWith (scalarsBy (a .info)) (stated (now (a .atcs)) (a .atc-rows)) (stated (now (a .stcs)) (a .stc-rows)) (stated (now (a .programs)) (a .program-rows)) (stated (now (a .streams)) (a .stream-rows)) (stated (now (a .maps)) (a .map-rows)) (stated (now (a .entries)) (a .entry-rows)) in
+    let c₀ = clipIn l in
+    (answer-refused (refusalIn l) c₀ (now (a .out)) (refused-told (refusalIn l) c₀ (c .before .before .before .measure .ensures) (c .before .n .given .1)), refl)
 
--- src/write.rt:90:1
 same-length : tie.Need-same-length
-same-length c = ?
+same-length c = search needs
 
--- src/write.rt:90:1
 returns-3 : tie.Need-returns-3
-returns-3 c = ?
+unfolding writeAnswer
+returns-3 c =
+    let a = c .before .before .before .before .before .before .before .before .before .before .before .before .before .before .before .before .args in
+    let l = tablesWith (scalarsBy (a .info)) (stated (now (a .atcs)) (a .atc-rows)) (stated (now (a .stcs)) (a .stc-rows)) (stated (now (a .programs)) (a .program-rows)) (stated (now (a .streams)) (a .stream-rows)) (stated (now (a .maps)) (a .map-rows)) (stated (now (a .entries)) (a .entry-rows)) in
+    let c₀ = clipIn l in
+    let g = c .before .before .before .before .before .before .programs-at .given in
+    let is = c .before .before .before .before .before .before .before .before .measure .ensures in
+    let none = none-told (refusalIn l) c₀ is (g .1) in
+    let room = c .before .before .before .before .if1 .left in
+    let at = placed-told (refusalIn l) c₀ is (length (now (a .out))) (g .1) room in
+    (answer-written (refusalIn l) c₀ (now (a .out)) none (at .marks-at) room, output-written (refusalIn l) c₀ (now (a .out)) (at .marks-at) room (c .before .before .put-sections .ensures))
 
 pub write-spec : {M : Type 1} → statement M
 write-spec =
