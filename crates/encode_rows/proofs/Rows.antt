@@ -31,6 +31,7 @@ cells-few Kind.Stc = omega arith
 cells-few Kind.Program = omega arith
 cells-few Kind.Stream = omega arith
 
+-- the next row is not before this one
 pub step-up : (kind : Kind) (p : ℕ) → p ≤ stepOf kind p
 step-up kind p = omega arith
 
@@ -55,11 +56,13 @@ module _ (kind : Kind) {len p₀ n p k : ℕ} (a : Along (stepOf kind) len p₀ 
   pub pass-turn : {q : ℕ} → q ≡ stepOf kind p → Along (stepOf kind) len p₀ n q (k + 1)
   pass-turn e = along-turn a h e (omega (arith, e, row-inside))
 
--- what was read by value is the row of the table: its bytes, and how many there are
+-- what was read by value is the row of the table
 module _ (kind : Kind) (r : value.Row) {row : Row} (is : rowOf kind r ≡ row) where
+  -- its bytes
   pub same-bytes : bytesBy kind (rowOf kind r) ≡ bytesBy kind row
   same-bytes = ap (bytesBy kind) is
 
+  -- their number
   pub same-length : {v : ℕ} → v ≡ length (bytesBy kind (rowOf kind r)) → v ≡ length (bytesBy kind row)
   same-length e = e ∙ ap length same-bytes
 

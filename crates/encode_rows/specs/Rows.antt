@@ -11,9 +11,10 @@ use Rattle.row_values.specs.Kinds.{cellsOf, bytesBy}
 abbrev pub stepOf : Kind → ℕ → ℕ
 stepOf kind p = p + 4 * cellsOf kind
 
--- n rows from byte p on, and their bytes in a file
+-- n rows from byte p on
 abbrev pub rowsIn : Kind → List ℕ → ℕ → ℕ → List Row
 rowsIn kind t p n = rowsAt (cellsAt t (cellsOf kind)) (stepOf kind) p n
 
+-- their bytes in a file
 abbrev pub rowsBytes : Kind → List ℕ → ℕ → ℕ → List ℕ
 rowsBytes kind t p n = flat (bytesBy kind) (rowsIn kind t p n)

@@ -25,13 +25,15 @@ rows-end kind q c m = end-steps (4 * cellsOf kind) q (c + m) ∙ rw (mul-add (4 
 -- ---- what is left after k of n header rows, from byte p of their table and byte q of the other on
 
 module _ (section : Section) (heads : List ℕ) (n : ℕ) where
-  -- the header rows, and how many rows they count
+  -- the header rows
   abbrev pub headsLeft : (p k : ℕ) → List Row
   headsLeft p k = rowsIn (headKind section) heads p (n - k)
 
+  -- how many rows they count
   abbrev pub countLeft : (p k : ℕ) → ℕ
   countLeft p k = total (countOf section) (headsLeft p k)
 
+  -- before the first turn all
   pub count-all : countLeft 0 0 ≡ countIn section heads n
   unfolding tableRows
   count-all = rw (sub-zero n)
@@ -41,11 +43,12 @@ module _ (section : Section) (heads : List ℕ) (n : ℕ) where
     abbrev pub groupsLeft : (p q k : ℕ) → List ℕ
     groupsLeft p q k = itemsOf section (headsLeft p k) (rowsIn (rowKind section) rows q (countLeft p k))
 
-    -- before the first turn all are left, at the end none
+    -- before the first turn all are left
     pub groups-all : groupsLeft 0 0 0 ≡ itemsIn section heads n rows
     unfolding tableRows
     groups-all = rw (sub-zero n)
 
+    -- at the end none
     pub groups-none : (p q k : ℕ) → n ≤ k → groupsLeft p q k ≡ []
     groups-none p q k h = rw (none-left n k h)
 
@@ -56,10 +59,11 @@ pub head-step : (section : Section) (p : ℕ) → p + 12 ≡ stepOf (headKind se
 head-step Section.Sequences p = refl
 head-step Section.Programs p = refl
 
--- that header row, and how many rows are its own
+-- that header row
 abbrev pub headAt : Section → List ℕ → ℕ → Row
 headAt section heads p = cellsAt heads (cellsOf (headKind section)) p
 
+-- how many rows are its own
 abbrev pub ownAt : Section → List ℕ → ℕ → ℕ
 ownAt section heads p = countOf section (headAt section heads p)
 

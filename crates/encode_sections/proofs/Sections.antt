@@ -23,10 +23,12 @@ use Rattle.encode_sections.proofs.Groups.{groups-length}
 
 -- ---- the sections of a record
 
+-- the sequences
 pub sequences-are : (c : Clip) → sequencesBytes c ≡ sectionOf Section.Sequences (c .atcs) (c .stcs)
 unfolding sequencesBytes
 sequences-are c = refl
 
+-- the programs
 pub programs-are : (c : Clip) → programsBytes c ≡ sectionOf Section.Programs (c .programs) (c .streams)
 unfolding programsBytes
 programs-are c = refl
@@ -55,6 +57,7 @@ module _ {section : Section} {heads : List ℕ} {n : ℕ} {rows : List ℕ} {m :
 -- ---- tables that were counted: the rows are there, and the counts add up
 
 module _ (cell cells : ℕ) (heads : List ℕ) (n : ℕ) (rows : List ℕ) (m : ℕ) (h : isCounted cell cells (stated heads n) (stated rows m) ≡ true) where
+  -- what the tests say
   counted-parts : (n ≤ rowRoom headCells heads) × (m ≤ rowRoom cells rows) × (total (cellIn cell) (tableRows headCells heads n) ≡ m)
   unfolding isCounted
   counted-parts =
@@ -67,11 +70,13 @@ module _ (cell cells : ℕ) (heads : List ℕ) (n : ℕ) (rows : List ℕ) (m : 
       )
 
 module _ (heads : List ℕ) (n : ℕ) (rows : List ℕ) (m : ℕ) where
+  -- ATCs and STCs: the count is in cell 1
   pub sequences-counted : isCounted 1 stcCells (stated heads n) (stated rows m) ≡ true → Counted Section.Sequences heads n rows m
   sequences-counted h =
       let c = counted-parts 1 stcCells heads n rows m h in
       record { heads-there = c .0; rows-there = c .1; adds = c .2 }
 
+  -- programs and streams: the count is in cell 2
   pub programs-counted : isCounted 2 streamCells (stated heads n) (stated rows m) ≡ true → Counted Section.Programs heads n rows m
   programs-counted h =
       let c = counted-parts 2 streamCells heads n rows m h in
@@ -83,6 +88,7 @@ module _ (heads : List ℕ) (n : ℕ) (rows : List ℕ) (m : ℕ) where
 abbrev pub sectionHead : (size n : ℕ) → List ℕ
 sectionHead size n = fieldBytes (4 ∷ 1 ∷ 1 ∷ []) (size ∷ 0 ∷ n ∷ [])
 
+-- its six bytes
 pub head-length : (size n : ℕ) → length (sectionHead size n) ≡ 6
 head-length size n = simp (length-append, bytes-length)
 

@@ -35,6 +35,7 @@ countOf Section.Programs head = streamCount head
 abbrev pub itemsOf : Section → List Row → List Row → List ℕ
 itemsOf section heads rows = groups (bytesBy (headKind section)) (countOf section) (bytesBy (rowKind section)) heads rows
 
+-- behind the six bytes of a section
 abbrev pub sectionOf : Section → List Row → List Row → List ℕ
 sectionOf section heads rows = sectionBytes (length heads) (itemsOf section heads rows)
 
@@ -44,10 +45,11 @@ sectionOf section heads rows = sectionBytes (length heads) (itemsOf section head
 abbrev pub groupBytes : Section → Row → List ℕ → ℕ → List ℕ
 groupBytes section head rows q = bytesBy (headKind section) head ++ rowsBytes (rowKind section) rows q (countOf section head)
 
--- the first n header rows of a table, and the first m rows of the other
+-- the first n header rows of a table
 abbrev pub headsIn : Section → List ℕ → ℕ → List Row
 headsIn section t n = tableRows (cellsOf (headKind section)) t n
 
+-- the first m rows of the other
 abbrev pub ownIn : Section → List ℕ → ℕ → List Row
 ownIn section t m = tableRows (cellsOf (rowKind section)) t m
 

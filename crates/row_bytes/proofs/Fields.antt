@@ -39,6 +39,7 @@ program-fields a b c = simp (length-append, bytes-length)
 abbrev pub streamHead : (a size b c : ℕ) → List ℕ
 streamHead a size b c = fieldBytes (2 ∷ 1 ∷ 1 ∷ 1 ∷ []) (a ∷ size ∷ b ∷ c ∷ [])
 
+-- its five bytes
 pub head-length : (a size b c : ℕ) → length (streamHead a size b c) ≡ 5
 head-length a size b c = simp (length-append, bytes-length)
 

@@ -11,8 +11,9 @@ use Rattle.format.specs.ClipRecord.{Row}
 use Rattle.format.proofs.Loops.{one-left, none-left, put-more}
 use Rattle.row_bytes.proofs.Fields.{part-then}
 
--- ---- an output while bytes are stored: those that are left have room from `at` on, and put there give the whole, up to its end
+-- ---- an output while bytes are stored
 
+-- those that are left have room from `at` on, and put there give the whole, up to its end
 pub record Storing (o₀ whole : List ℕ) (end : ℕ) (left o : List ℕ) (at : ℕ) : Type 0 where
   pub long : length o ≡ length o₀
   pub room : end ≤ length o
@@ -48,6 +49,7 @@ module _ {o₀ whole : List ℕ} {end : ℕ} {left o : List ℕ} {at : ℕ} (s :
 -- ---- two parts, one behind the other, for which there is room
 
 module _ (o a b : List ℕ) (at : ℕ) (room : at + length (a ++ b) ≤ length o) where
+  -- the first has room
   pub first-room : at + length a ≤ length o
   first-room = omega (arith, length-append a b)
 
@@ -67,10 +69,11 @@ module _ (row : ℕ → Row) (next : ℕ → ℕ) (bytes : Row → List ℕ) (q 
   abbrev pub rowsLeft : ℕ → List ℕ
   rowsLeft k = flat bytes (rowsAt row next q (n - k))
 
-  -- before the first turn all are left, at the end none
+  -- before the first turn all are left
   pub rows-all : rowsLeft 0 ≡ flat bytes (rowsAt row next q n)
   rows-all = rw (sub-zero n)
 
+  -- at the end none
   pub rows-none : (k : ℕ) → n ≤ k → rowsLeft k ≡ []
   rows-none k h = rw (none-left n k h)
 
@@ -92,6 +95,7 @@ module _ (row : ℕ → Row) (next : ℕ → ℕ) (bytes : Row → List ℕ) {o�
 -- ---- lengths added up: what was added and what is left is all
 
 module _ (row : ℕ → Row) (next : ℕ → ℕ) (bytes : Row → List ℕ) (whole : ℕ) where
+  -- after k of n rows the sum, with what is left from q on, is the whole
   abbrev pub Adding : (sum q n k : ℕ) → Type 0
   Adding sum q n k = sum + length (rowsLeft row next bytes q n k) ≡ whole
 

@@ -14,13 +14,15 @@ cellsOf Kind.Stc = stcCells
 cellsOf Kind.Program = programCells
 cellsOf Kind.Stream = streamCells
 
--- the first three, four or five cells of a row by value
+-- the first three cells of a row by value
 abbrev pub row3 : value.Row → Row
 row3 r = r .cell0 ∷ r .cell1 ∷ r .cell2 ∷ []
 
+-- four
 abbrev pub row4 : value.Row → Row
 row4 r = r .cell0 ∷ r .cell1 ∷ r .cell2 ∷ r .cell3 ∷ []
 
+-- five
 abbrev pub row5 : value.Row → Row
 row5 r = r .cell0 ∷ r .cell1 ∷ r .cell2 ∷ r .cell3 ∷ r .cell4 ∷ []
 

@@ -1,5 +1,5 @@
-use borrow.Author.Needs.{needs}
 -- Each turn adds the length of one row.
+use borrow.Author.Needs.{needs}
 use Prim.Native.Nat.{ℕ, _+_, _*_, _-_, _≤_}
 use mathlib.Core.Path.{_≡_, ap}
 use native.Mathlib.Omega.{arith}

@@ -1,5 +1,5 @@
-use borrow.Author.Needs.{needs}
 -- Each turn stores one header row with its own rows.
+use borrow.Author.Needs.{needs}
 use Prim.Native.Nat.{ℕ, _+_, _*_, _-_, _≤_}
 use mathlib.Core.Path.{_≡_, refl, ap}
 use native.Mathlib.Omega.{arith}
