@@ -5,3 +5,4 @@ pub mod maps;
 pub mod programs;
 pub mod read;
 pub mod sequences;
+pub mod writing;

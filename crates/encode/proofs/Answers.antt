@@ -1,21 +1,22 @@
 -- The answer of writing, and the output, in each of its three cases.
-use Prim.Native.Nat.{ℕ, _+_, _<_, _≤_}
+use Prim.Native.Nat.{ℕ, _+_, _^_, _<_, _≤_}
 use mathlib.Core.Path.{_≡_, refl, sym, ap, _∙_}
 use mathlib.Core.List.{List}
-use mathlib.Core.Bool.{true, false}
+use mathlib.Core.Bool.{Bool, true, false}
 use native.Mathlib.Omega.{arith}
 use lib.ListN.{length}
 use lib.Seq.{sets}
 use lib.Dec.{eqb, leb}
-use borrow.Author.Tests.{le-leb, lt-leb}
+use borrow.Author.Tests.{le-leb, lt-leb, eqb-true}
 use Rattle.format.specs.Bytes.{pick}
 use Rattle.format.specs.ClipRecord.{Clip}
-use Rattle.format.specs.Tables.{overwritten}
+use Rattle.format.specs.Tables.{ClipTables, clipIn, overwritten}
 use Rattle.format.specs.Rewriting.{encode}
-use Rattle.format.specs.Refusals.{WriteAnswer, refused, tooShort, written, unlessRefused, writtenIn}
+use Rattle.format.specs.Refusals.{WriteAnswer, refused, tooShort, written, unlessRefused, writtenIn, writeAnswer}
 use Rattle.format.proofs.Loops.{sets-front}
-use Rattle.encode.specs.Writing.{marksPlace}
+use Rattle.encode.specs.Writing.{refusalIn, marksPlace, bytesIn}
 use Rattle.encode.proofs.Parts.{encode-length}
+use Rattle.encode.proofs.Tables.{marks-bound}
 
 module _ (refusal : ℕ) (c : Clip) (out : List ℕ) where
   -- the answer, by the refusal and the lengths
@@ -41,3 +42,20 @@ module _ (refusal : ℕ) (c : Clip) (out : List ℕ) where
   -- the new file stands at the output's front
   pub output-written : {marks : ℕ} {out′ : List ℕ} → marks ≡ marksPlace c → marks + 6 ≤ length out → out′ ≡ sets out 0 (encode c) → out′ ≡ overwritten (encode c) out
   output-written m h is = sets-front out (encode c) (omega (arith, encode-length c, m)) is
+
+-- ---- the length that is told
+
+narrow-by : (b d : Bool) (refusal needed : ℕ) → (b ≡ true → needed < 2 ^ 32) → bytesIn (pick b (pick d (written needed) (tooShort needed)) (refused refusal)) < 2 ^ 32
+narrow-by false d refusal needed h = omega arith
+narrow-by true true refusal needed h = h refl
+narrow-by true false refusal needed h = h refl
+
+-- a number of 32 bits, where the new file of a record that is not refused has so many bytes
+pub bytes-narrow : (refusal : ℕ) (c : Clip) (out : List ℕ) → (refusal ≡ 0 → length (encode c) < 2 ^ 32) → bytesIn (answerBy refusal c out) < 2 ^ 32
+bytes-narrow refusal c out h =
+    narrow-by (eqb refusal 0) (leb (length (encode c)) (length out)) refusal (length (encode c)) (λ e. h (eqb-true refusal 0 e))
+
+-- as that of a record in tables has
+pub write-narrow : (l : ClipTables) (out : List ℕ) → bytesIn (writeAnswer l out) < 2 ^ 32
+unfolding writeAnswer
+write-narrow l out = bytes-narrow (refusalIn l) (clipIn l) out (λ e. omega (arith, encode-length (clipIn l), marks-bound l e))

@@ -58,3 +58,9 @@ abbrev pub answerOf : Answer → WriteAnswer
 answerOf (Answer.Written n) = written n
 answerOf (Answer.Refused n) = refused n
 answerOf (Answer.TooShort n) = tooShort n
+
+-- the length that an answer tells, written or needed; none beside a refusal
+abbrev pub bytesIn : WriteAnswer → ℕ
+bytesIn (refused n) = 0
+bytesIn (tooShort n) = n
+bytesIn (written n) = n

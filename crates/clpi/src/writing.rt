@@ -1,0 +1,49 @@
+// Writing a record that tables hold.
+ghost use mathlib.Core.Path.{_≡_};
+ghost use Rattle.format.specs.Refusals.{writeAnswer, writeNumbers, outputAfter};
+ghost use Rattle.clip_information.specs.Read.{scalarsBy};
+ghost use Rattle.queries.specs.Asked.{stated, tablesWith};
+ghost use Rattle.clpi_writing.specs.Numbers.{writingNumbers};
+use clip_information::info::ClipInfo;
+use clpi_writing::ClpiWriting;
+use clpi_writing::writing_of;
+use encode::write::write;
+
+// Writes the record of six tables with their stated rows into the output; a refusal leaves it as it was.
+#[no_mangle]
+pub extern "C" fn clpi_write(
+    info: ClipInfo,
+    atcs: &[u8],
+    atc_rows: u32,
+    stcs: &[u8],
+    stc_rows: u32,
+    programs: &[u8],
+    program_rows: u32,
+    streams: &[u8],
+    stream_rows: u32,
+    maps: &[u8],
+    map_rows: u32,
+    entries: &[u8],
+    entry_rows: u32,
+    output: &mut [u8],
+) -> ClpiWriting
+    ensures { λ r. ⌜ writingNumbers r ≡ writeNumbers (writeAnswer (tablesWith (scalarsBy info) (stated (now (atcs .entry)) «atc_rows») (stated (now (stcs .entry)) «stc_rows») (stated (now (programs .entry)) «program_rows») (stated (now (streams .entry)) «stream_rows») (stated (now (maps .entry)) «map_rows») (stated (now (entries .entry)) «entry_rows»)) (now (output .entry))) ⌝ }
+    ensures { λ _. ⌜ now (output .exit) ≡ outputAfter (tablesWith (scalarsBy info) (stated (now (atcs .entry)) «atc_rows») (stated (now (stcs .entry)) «stc_rows») (stated (now (programs .entry)) «program_rows») (stated (now (streams .entry)) «stream_rows») (stated (now (maps .entry)) «map_rows») (stated (now (entries .entry)) «entry_rows»)) (now (output .entry)) ⌝ }
+{
+    writing_of(write(
+        info,
+        atcs,
+        atc_rows,
+        stcs,
+        stc_rows,
+        programs,
+        program_rows,
+        streams,
+        stream_rows,
+        maps,
+        map_rows,
+        entries,
+        entry_rows,
+        output,
+    ))
+}

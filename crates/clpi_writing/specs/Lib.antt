@@ -1,0 +1,2 @@
+-- The numbers of the structs that C is handed.
+pub mod Numbers

@@ -1,0 +1,39 @@
+// The answers of writing as numbers for C.
+ghost use mathlib.Core.Path.{_≡_};
+ghost use Prim.Native.Nat.{_^_, _<_};
+ghost use Rattle.format.specs.Refusals.{writeNumbers};
+ghost use Rattle.encode.specs.Writing.{answerOf, bytesIn};
+ghost use Rattle.clpi_writing.specs.Numbers.{writingNumbers};
+use encode::write::Answer;
+
+// A refusal; with 23 how many bytes the output needs; without one how many were written. The other numbers are 0.
+#[repr(C)]
+pub struct ClpiWriting {
+    pub refusal: u32,
+    pub bytes_needed: u32,
+    pub bytes_written: u32,
+}
+
+// The numbers of an answer.
+pub fn writing_of(answer: Answer) -> ClpiWriting
+    requires { ⌜ bytesIn (answerOf answer) < 2 ^ 32 ⌝ }
+    ensures { λ r. ⌜ writingNumbers r ≡ writeNumbers (answerOf answer) ⌝ }
+{
+    match answer {
+        Answer::Written(bytes) => ClpiWriting {
+            refusal: 0,
+            bytes_needed: 0,
+            bytes_written: bytes as u32,
+        },
+        Answer::Refused(refusal) => ClpiWriting {
+            refusal,
+            bytes_needed: 0,
+            bytes_written: 0,
+        },
+        Answer::TooShort(bytes) => ClpiWriting {
+            refusal: 23,
+            bytes_needed: bytes as u32,
+            bytes_written: 0,
+        },
+    }
+}
