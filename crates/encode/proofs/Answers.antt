@@ -59,3 +59,7 @@ bytes-narrow refusal c out h =
 pub write-narrow : (l : ClipTables) (out : List ℕ) → bytesIn (writeAnswer l out) < 2 ^ 32
 unfolding writeAnswer
 write-narrow l out = bytes-narrow (refusalIn l) (clipIn l) out (λ e. omega (arith, encode-length (clipIn l), marks-bound l e))
+
+-- and so has an answer that is equal to it
+pub narrow-by-answer : (l : ClipTables) (out : List ℕ) {x : WriteAnswer} → x ≡ writeAnswer l out → bytesIn x < 2 ^ 32
+narrow-by-answer l out is = rw is (write-narrow l out)
