@@ -122,6 +122,7 @@ fn put_head(size: u32, n: u32, out: &mut [u8], at: usize)
 }
 
 // Stores the section of `len` bytes whose n header rows and m rows stand in these tables; answers the place behind it.
+// The length is `section_length`'s answer, so that no row is measured twice; m is what the counts add up to, and only the contract speaks of it.
 pub fn put_section(
     section: Section,
     heads: &[u8],
