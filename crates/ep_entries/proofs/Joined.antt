@@ -1,7 +1,7 @@
 -- The loop that joins coarse and fine rows: a turn, and the end.
 use Prim.Native.Nat.{ℕ, zero, suc, _+_, _*_, _-_, _^_, _<_, _≤_, min}
 use mathlib.Core.Path.{_≡_, refl, sym, ap, ap₂, _∙_}
-use mathlib.Core.List.{List, [], _∷_, _++_, append-assoc}
+use mathlib.Core.List.{List, _++_, append-assoc}
 use native.Mathlib.Omega.{arith}
 use lib.Seq.{sets}
 use Rattle.format.specs.Bytes.{beAt, unpacked, rowsAt}
