@@ -8,7 +8,7 @@ use lib.ListN.{length, getD}
 use lib.Seq.{sets, length-sets}
 use lib.Dec.{eqb}
 use Rattle.format.specs.Bytes.{both, every, bytesOf, fieldBytes, fits, packed, rowsAt, flat}
-use Rattle.format.specs.ClipRecord.{Row, mapPid, mapType, angle, iEnd, time, packet, entryType}
+use Rattle.format.specs.ClipRecord.{Row, mapPid, mapType, angle, iEnd, time, entryType}
 use Rattle.format.specs.EntryPoints.{headerWidths, coarseWidths}
 use Rattle.format.specs.Refusals.{entryFits}
 use Rattle.format.specs.Rewriting.{coarseRow, coarseRows, runs, coarseBytes, fineBytes, bodyBytes, headerBytes}
@@ -22,7 +22,7 @@ use Rattle.format.proofs.Rows.{all-rows, rows-length, flat-length}
 use Rattle.format.proofs.Tests.{both-true}
 use Rattle.cells.specs.Reads.{CellIs}
 use Rattle.runs.specs.Runs.{entriesAt, entriesFrom, keyed, endFrom, coarseFrom}
-use Rattle.runs.proofs.Runs.{coarse-all, runs-few, entry-cell, left-all, left-turn, left-done, NextRun, next-run}
+use Rattle.runs.proofs.Runs.{coarse-all, runs-few, entry-cell, left-all, left-turn, left-done, next-run}
 use Rattle.encode_map.specs.Bodies.{EntriesFit}
 use Rattle.map_rows.proofs.Puts.{sets-before, put-behind}
 

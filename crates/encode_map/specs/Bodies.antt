@@ -42,4 +42,4 @@ pub record MapRoom (maps : List ℕ) (k : ℕ) (t : List ℕ) (p n size at body 
   pub runs-fit : runs (entriesAt t p n) < 2 ^ 16
   pub body-room : BodyRoom t p n size body
   pub header-room : at + 8 + 12 * k + 12 ≤ body
-  pub address-fits : body - (at + 6) < 2 ^ 32
+  pub address-fits : body - at < 2 ^ 32

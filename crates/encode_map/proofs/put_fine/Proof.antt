@@ -1,5 +1,5 @@
 -- Each turn stores the fine row of one entry; what is left goes behind it.
-use Prim.Native.Nat.{_+_, _-_}
+use Prim.Native.Nat.{_-_}
 use mathlib.Core.Path.{refl}
 use native.Mathlib.Omega.{arith}
 use denote.Ref.{now}

@@ -1,6 +1,6 @@
 -- Each turn goes from a run to the next.
 use borrow.Author.Needs.{needs}
-use Prim.Native.Nat.{_+_, _-_}
+use Prim.Native.Nat.{_-_}
 use native.Mathlib.Omega.{arith}
 use denote.Ref.{now}
 use Rattle.runs.proofs.Runs.{Counted, counted-first, counted-turn, counted-done, next-run}

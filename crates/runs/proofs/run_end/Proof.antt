@@ -1,5 +1,5 @@
 -- Each turn passes an entry that is in the run of the first.
-use Prim.Native.Nat.{_+_, _-_}
+use Prim.Native.Nat.{_-_}
 use denote.Ref.{now}
 use Rattle.runs.proofs.Runs.{Along, along-first, along-turn, along-stop, along-done}
 use borrow.Author.Needs.{needs}

@@ -1,0 +1,2 @@
+-- What the functions of this crate want and answer.
+pub mod Cpi
