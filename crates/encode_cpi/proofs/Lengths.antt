@@ -27,6 +27,7 @@ use Rattle.encode_cpi.proofs.Maps.{mapsLeft, entriesLeft, maps-count, W
 abbrev pub topBytes : ℕ → ℕ → List ℕ
 topBytes n size = fieldBytes (4 ∷ 2 ∷ 1 ∷ 1 ∷ []) ((4 + 12 * n + size) ∷ 1 ∷ 0 ∷ n ∷ [])
 
+-- there are eight
 pub top-length : (n size : ℕ) → length (topBytes n size) ≡ 8
 top-length n size = simp (length-append, bytes-length)
 
@@ -36,6 +37,7 @@ pub cpi-parts : (ms es : List Row) → 0 < length ms
 cpi-parts [] es h = absurd (omega arith)
 cpi-parts (m ∷ ms) es h = refl
 
+-- so its length is theirs
 pub cpi-size : (ms es : List Row) → 0 < length ms → length (cpiBytesBy ms es) ≡ 8 + 12 * length ms + length (bodies ms es)
 cpi-size ms es h =
     let n = length ms in
@@ -54,6 +56,7 @@ module _ (maps : List ℕ) (n : ℕ) (entries : List ℕ) (m : ℕ) where
     pub fits : everyMap fewRuns (mapsLeft maps n entries m k) (entriesLeft maps n entries m j) ≡ everyMap fewRuns (mapRows maps n) (entryRows entries m)
     pub rest : len + length (bodies (mapsLeft maps n entries m k) (entriesLeft maps n entries m j)) ≡ 8 + 12 * n + length (bodies (mapRows maps n) (entryRows entries m))
 
+  -- before the first map the top and the headers are
   pub measured-first : Counted (mapRows maps n) (entryRows entries m) → Measured (8 + 12 * n) 0 0
   measured-first c = record {
     walk = walk-first maps n entries m c;

@@ -30,14 +30,17 @@ pub record MapFits (m : Row) : Type 0 where
   pub kind-fits : mapType m < 2 ^ 4
   pub count-fits : entryCount m < 2 ^ 18
 
+-- by the fields' widths
 map-fits-by : (m : Row) → Fit (16 ∷ 4 ∷ 18 ∷ []) m → MapFits m
 map-fits-by m (one a (one b (one c f))) = record { kind-fits = b; count-fits = c }
 
+-- by the test of a map
 map-fits : (m : Row) → mapFits m ≡ true → MapFits m
 map-fits m h = map-fits-by m (fits-fit (16 ∷ 4 ∷ 18 ∷ []) m h)
 
 -- ---- all maps are not longer than their counts can tell
 
+-- a body has at most 65,535 coarse rows and 262,143 fine rows
 pub bodies-most : (ms es : List Row) → every mapFits ms ≡ true → everyMap fewRuns ms es ≡ true → length (bodies ms es) ≤ 1572856 * length ms
 bodies-most [] es f r = omega arith
 bodies-most (m ∷ ms) es f r =
@@ -54,20 +57,24 @@ bodies-most (m ∷ ms) es f r =
 -- ---- two tables
 
 module _ (maps : List ℕ) (n : ℕ) (entries : List ℕ) (m : ℕ) where
+  -- the maps from row k on
   abbrev pub mapsLeft : ℕ → List Row
   mapsLeft k = rowsLeft mapCells maps n k
 
+  -- the entries from row j on
   abbrev pub entriesLeft : ℕ → List Row
   entriesLeft j = rowsLeft entryCells entries m j
 
-  -- row k of the maps, and how many there are
+  -- row k of the maps
   abbrev pub mapRow : ℕ → Row
   mapRow k = cellsAt maps mapCells (12 * k)
 
+  -- there are as many maps as stated
   pub maps-count : length (mapRows maps n) ≡ n
   unfolding tableRows
   maps-count = rows-length (cellsAt maps mapCells) (λ p. p + 4 * mapCells) 0 n
 
+  -- there are as many entries as stated
   pub entries-count : length (entryRows entries m) ≡ m
   unfolding tableRows
   entries-count = rows-length (cellsAt entries entryCells) (λ p. p + 4 * entryCells) 0 m
@@ -80,6 +87,7 @@ module _ (maps : List ℕ) (n : ℕ) (entries : List ℕ) (m : ℕ) where
   pub map-room : Lent maps n entries m → (k : ℕ) → k < n → 12 * k + 12 ≤ length maps
   map-room l k h = omega (arith, le-div-iff-mul-le (lit< tt) .0 (l .maps-there))
 
+  -- and so do all entries
   pub entries-room : Lent maps n entries m → 20 * m ≤ length entries
   entries-room l = omega (arith, le-div-iff-mul-le (lit< tt) .0 (l .entries-there))
 
@@ -90,6 +98,7 @@ module _ (maps : List ℕ) (n : ℕ) (entries : List ℕ) (m : ℕ) where
     pub add : total entryCount (mapsLeft k) ≡ m - j
     pub fit : every mapFits (mapsLeft k) ≡ true
 
+  -- before the first map all are left
   pub walk-first : Counted (mapRows maps n) (entryRows entries m) → Walk 0 0
   walk-first c =
       let adds = eqb-true (total entryCount (mapRows maps n)) (length (entryRows entries m)) (c .add) in
@@ -101,7 +110,7 @@ module _ (maps : List ℕ) (n : ℕ) (entries : List ℕ) (m : ℕ) where
       }
 
   module _ (j k : ℕ) (w : Walk j k) (h : k < n) where
-    -- the map fits, and its entries are left
+    -- the map fits
     pub row-fits : MapFits (mapRow k)
     row-fits = map-fits (mapRow k) (both-true (mapFits (mapRow k)) (every mapFits (mapsLeft (k + 1))) (rw (left-turn mapCells maps n k h) at (w .fit)) .0)
 
@@ -110,26 +119,31 @@ module _ (maps : List ℕ) (n : ℕ) (entries : List ℕ) (m : ℕ) where
       count-is : c ≡ entryCount (mapRow k)
       count-is = map-cell maps (12 * k) 2 (omega arith) cell
 
+      -- and what the maps behind it count
       counts : c + total entryCount (mapsLeft (k + 1)) ≡ m - j
       counts = rw (← count-is) at (rw (left-turn mapCells maps n k h) at (w .add))
 
+      -- it has few entries
       pub count-few : c ≤ 262143
       count-few = omega (arith, row-fits .count-fits, count-is)
 
+      -- they are among those left
       pub own-within : j + c ≤ m
       own-within = omega (arith, counts, w .within)
 
-      -- its entries, and those behind them
+      -- its entries
       pub own-rows : take (entryCount (mapRow k)) (entriesLeft j) ≡ entriesAt entries (20 * j) c
       own-rows =
           rw (← count-is) (take-rows (cellsAt entries entryCells) (λ p. p + 4 * entryCells) (20 * j) (m - j) c (omega (arith, own-within)))
 
+      -- those behind them
       pub later-rows : drop (entryCount (mapRow k)) (entriesLeft j) ≡ entriesLeft (j + c)
       later-rows =
           let e : 20 * j + c * 20 ≡ 20 * (j + c) = omega arith in
           let f : m - j - c ≡ m - (j + c) = omega arith in
           rw (← count-is, ← e, ← f) (drop-rows (cellsAt entries entryCells) 20 (20 * j) (m - j) c (omega (arith, own-within)))
 
+      -- the walk goes on behind the map
       pub walk-turn : Walk (j + c) (k + 1)
       walk-turn = record {
         turns = omega arith;
@@ -138,14 +152,16 @@ module _ (maps : List ℕ) (n : ℕ) (entries : List ℕ) (m : ℕ) where
         fit = both-true (mapFits (mapRow k)) (every mapFits (mapsLeft (k + 1))) (rw (left-turn mapCells maps n k h) at (w .fit)) .1;
       }
 
-      -- a test of each map, its bodies and its headers, with this map's own and those of the maps behind it
+      -- a test of each map: of this one with its own entries, and of those behind it
       pub every-turn : (test : Row → List Row → Bool)
           → everyMap test (mapsLeft k) (entriesLeft j) ≡ both (test (mapRow k) (entriesAt entries (20 * j) c)) (everyMap test (mapsLeft (k + 1)) (entriesLeft (j + c)))
       every-turn test = rw (left-turn mapCells maps n k h, own-rows, later-rows)
 
+      -- its body, and those behind it
       pub bodies-turn : bodies (mapsLeft k) (entriesLeft j) ≡ bodyBytes (entriesAt entries (20 * j) c) ++ bodies (mapsLeft (k + 1)) (entriesLeft (j + c))
       bodies-turn = rw (left-turn mapCells maps n k h, own-rows, later-rows)
 
+      -- its header, and those behind it, whose addresses are behind its body
       pub headers-turn : (address : ℕ) → headers (mapsLeft k) (entriesLeft j) address
           ≡ headerBytes (mapRow k) (entriesAt entries (20 * j) c) address
           ++ headers (mapsLeft (k + 1)) (entriesLeft (j + c)) (address + length (bodyBytes (entriesAt entries (20 * j) c)))

@@ -53,6 +53,7 @@ module _ (maps : List ℕ) (n : ℕ) (entries : List ℕ) (m : ℕ) (o₀ : List
         (bodies (mapsLeft maps n entries m k) (entriesLeft maps n entries m j))
         ≡ sets (sets o₀ (at + 8) (headers (mapRows maps n) (entryRows entries m) (2 + 12 * n))) (at + 8 + 12 * n) (bodies (mapRows maps n) (entryRows entries m))
 
+  -- before the first map the first body goes behind the headers
   pub putting-first : Writable (mapRows maps n) (entryRows entries m) → Putting o₀ (at + 8 + 12 * n) 0 0
   putting-first w =
       let head : at + 8 + 12 * 0 ≡ at + 8 = omega arith in

@@ -33,9 +33,11 @@ pub record Narrow (e : Row) : Type 0 where
   pub angle-fits : angle e < 2 ^ 1
   pub end-fits : iEnd e < 2 ^ 3
 
+-- by the fields' widths
 narrow-by : (e : Row) → Fit (1 ∷ 3 ∷ 32 ∷ 32 ∷ 4 ∷ []) e → Narrow e
 narrow-by e (one a (one i f)) = record { angle-fits = a; end-fits = i }
 
+-- by the test of an entry
 narrow : (type : ℕ) (e : Row) → entryFits type e ≡ true → Narrow e
 narrow type e h =
     narrow-by e (fits-fit (1 ∷ 3 ∷ 32 ∷ 32 ∷ 4 ∷ []) e (both-true (fits (1 ∷ 3 ∷ 32 ∷ 32 ∷ 4 ∷ []) e) (both (eqb (time e % 512) 0) (eqb (entryType e) type)) h .0))
@@ -69,6 +71,7 @@ module _ (t : List ℕ) (p n : ℕ) (o₀ : List ℕ) (at : ℕ) where
     pub place : to + 8 * length (coarseFrom k (entriesFrom t p n k)) ≡ at + 8 * runs (entriesAt t p n)
     pub rest : sets o to (flat coarseBytes (coarseFrom k (entriesFrom t p n k))) ≡ sets o₀ at (flat coarseBytes (coarseRows (entriesAt t p n)))
 
+  -- before the first turn all are to be stored
   pub coarse-first : Coarse o₀ at 0
   unfolding runs
   coarse-first = record {
@@ -117,6 +120,7 @@ module _ (t : List ℕ) (p n : ℕ) (o₀ : List ℕ) (at : ℕ) where
     pub long : length o ≡ length o₀
     pub rest : sets o (at + 4 * k) (flat fineBytes (entriesFrom t p n k)) ≡ sets o₀ at (flat fineBytes (entriesAt t p n))
 
+  -- before the first turn all are to be stored
   pub fine-first : Fine o₀ 0
   fine-first = let z : at + 4 * 0 ≡ at = omega arith in record { within = omega arith; long = refl; rest = rw (z, left-all t p n) }
 

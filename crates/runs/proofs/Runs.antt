@@ -21,11 +21,12 @@ use Rattle.runs.specs.Runs.{entriesAt, entriesFrom, keyed, runEnd, endFr
 
 -- ---- keys
 
--- equal time keys leave the test to the packet keys, and others end it
 module _ {a b : ℕ} (time packet time′ packet′ : ℕ) (left : a ≡ time / 524288) (right : b ≡ time′ / 524288) where
+  -- equal time keys leave the test to the packet keys
   pub same-time : {c d : ℕ} → a ≡ b → c ≡ packet / 131072 → d ≡ packet′ / 131072 → eqb c d ≡ sameRun (keyed time packet) (keyed time′ packet′)
   same-time h e f = rw (← left, ← right, eq-eqb a b h, e, f)
 
+  -- other time keys end it
   pub other-time : (a ≡ b → ⊥) → eqb a b ≡ sameRun (keyed time packet) (keyed time′ packet′)
   other-time h = rw (← left, ← right, ne-eqb a b h)
 
@@ -44,6 +45,7 @@ pub record Ends (k r n : ℕ) : Type 0 where
   pub past : k ≤ r
   pub within : r ≤ k + n
 
+-- so does every run
 pub run-ends : (e : Row) (k : ℕ) (xs : List Row) → Ends k (runEnd e k xs) (length xs)
 unfolding runEnd
 run-ends e k [] = record { past = omega arith; within = omega arith }
@@ -82,6 +84,7 @@ after-few e k (x ∷ xs) = go (sameRun e x) (after-few x (suc k) xs)
     go true h = omega arith
     go false h = omega arith
 
+-- of all entries, too
 pub runs-few : (es : List Row) → runs es ≤ length es
 unfolding runs
 runs-few [] = omega arith
@@ -127,6 +130,7 @@ module _ (t : List ℕ) (p n : ℕ) where
       pub within : k ≤ n
       pub rest : runEnd (cellsAt t 5 (p + 20 * from)) k (entriesFrom t p n k) ≡ endFrom from (entriesFrom t p n from)
 
+    -- behind its first entry the run may go on
     pub along-first : from < n → Along (from + 1)
     along-first h = record { past = omega arith; within = omega arith; rest = rw (left-turn from h, add-one) }
 
@@ -166,6 +170,7 @@ module _ (t : List ℕ) (p n : ℕ) where
     pub within : r ≤ n
     pub rows : coarseFrom k (entriesFrom t p n k) ≡ coarseRow k (cellsAt t 5 (p + 20 * k)) ∷ coarseFrom r (entriesFrom t p n r)
 
+  -- one run, and those behind it
   pub next-run : (k r : ℕ) → k < n → r ≡ endFrom k (entriesFrom t p n k) → NextRun k r
   next-run k r h e =
       let x = cellsAt t 5 (p + 20 * k) in
@@ -186,15 +191,18 @@ module _ (t : List ℕ) (p n : ℕ) where
     pub small : count ≤ k
     pub rest : count + length (coarseFrom k (entriesFrom t p n k)) ≡ runs (entriesAt t p n)
 
+  -- before the first run none is counted
   pub counted-first : Counted 0 0
   unfolding runs
   counted-first = record { within = omega arith; small = omega arith; rest = rw (left-all, coarse-all (entriesAt t p n)) (omega arith) }
 
+  -- one more is counted
   pub counted-turn : (count k r : ℕ) → Counted count k → k < n → r ≡ endFrom k (entriesFrom t p n k) → Counted (count + 1) r
   counted-turn count k r i h e =
       let next = next-run k r h e in
       let rest = rw (next .rows) at (i .rest) in
       record { within = next .within; small = omega (arith, next .past, i .small); rest = omega arith }
 
+  -- all are counted
   pub counted-done : (count k : ℕ) → Counted count k → n ≤ k → count ≡ runs (entriesAt t p n)
   counted-done count k i h = let rest = rw (left-done k h) at (i .rest) in omega arith
