@@ -39,6 +39,7 @@ module _ (f : List ℕ) (m : MapBody) (o₀ : List ℕ) (at : ℕ) where
     pub place : to + 8 * length (coarseFrom k (entriesLeft f m k)) ≡ at + 8 * runs (entriesIn f m)
     pub rest : sets o to (flat coarseBytes (coarseFrom k (entriesLeft f m k))) ≡ sets o₀ at (flat coarseBytes (coarseRows (entriesIn f m)))
 
+  -- before the first turn
   pub coarse-first : (walk : Walk) → IsWalk f (coarseIn f m) 0 walk → Coarse o₀ walk at 0
   unfolding runs
   coarse-first walk w = record {
@@ -89,6 +90,7 @@ module _ (f : List ℕ) (m : MapBody) (o₀ : List ℕ) (at : ℕ) where
     pub long : length o ≡ length o₀
     pub rest : sets o (at + 4 * k) (flat fineBytes (entriesLeft f m k)) ≡ sets o₀ at (flat fineBytes (entriesIn f m))
 
+  -- before the first turn
   pub fine-first : (walk : Walk) → IsWalk f (coarseIn f m) 0 walk → Fine o₀ walk 0
   fine-first walk w = let z : at + 4 * 0 ≡ at = omega arith in record { within = omega arith; walk-is = w; long = refl; rest = rw (z, left-all f m) }
 

@@ -18,6 +18,7 @@ use Rattle.map_runs.specs.Entries.{coarseIn, entriesIn, entriesLeft, ent
 use Rattle.map_runs.specs.declared.walked.MapBody.{MapBody}
 
 module _ (f : List ℕ) (m : MapBody) where
+  -- how many fine rows there are
   abbrev n : ℕ
   n = m .«num_fine»
 
@@ -45,34 +46,38 @@ module _ (f : List ℕ) (m : MapBody) where
       entries-length (m .kind) (coarseIn f m) k (rowsAt (fineAt f) nextFine (m .fine + 4 * k) (n - k))
       ∙ rows-length (fineAt f) nextFine (m .fine + 4 * k) (n - k)
 
-  -- all are as many as the fine rows, and there are not more runs
+  -- all are as many as the fine rows
   pub all-length : length (entriesIn f m) ≡ n
   all-length =
       entries-length (m .kind) (coarseIn f m) 0 (rowsAt (fineAt f) nextFine (m .fine) n)
       ∙ rows-length (fineAt f) nextFine (m .fine) n
 
+  -- there are not more runs
   pub runs-within : runs (entriesIn f m) ≤ n
   runs-within = omega (arith, runs-few (entriesIn f m), all-length)
 
+  -- how long the body is
   pub body-size : length (bodyBytes (entriesIn f m)) ≡ 4 + 8 * runs (entriesIn f m) + 4 * n
   body-size = omega (arith, body-length (entriesIn f m), all-length)
 
-  -- those behind some of them
+  -- those behind d of them
   drop-left : (d k : ℕ) → k + d ≤ n → drop d (entriesLeft f m k) ≡ entriesLeft f m (k + d)
   drop-left zero k h = let e : k + 0 ≡ k = omega arith in rw e
   drop-left (suc d) k h =
       let e : k + 1 + d ≡ k + suc d = omega arith in
       rw (left-turn k (omega arith), ← e) (drop-left d (k + 1) (omega arith))
 
+  -- those from row r on
   pub left-drop : (k r : ℕ) → k ≤ r → r ≤ n → drop (r - k) (entriesLeft f m k) ≡ entriesLeft f m r
   left-drop k r h g = let e : k + (r - k) ≡ r = omega arith in rw e at (drop-left (r - k) k (omega arith))
 
-  -- row r, where the run ends that begins at row k: the coarse rows from row k on are its own and those from row r on
+  -- row r lies behind a run that begins at row k: the coarse rows from row k on are its own and those from row r on
   pub record NextRun (k r : ℕ) : Type 0 where
     pub past : k < r
     pub within : r ≤ n
     pub rows : coarseFrom k (entriesLeft f m k) ≡ coarseRow k (entryIn f m k) ∷ coarseFrom r (entriesLeft f m r)
 
+  -- where the run ends that begins at row k
   pub next-run : (k r : ℕ) → k < n → r ≡ endFrom k (entriesLeft f m k) → NextRun k r
   next-run k r h e =
       let x = entryIn f m k in

@@ -47,6 +47,7 @@ module _ (f : List ℕ) (m : MapBody) where
       pub walk-is : IsWalk f (coarseIn f m) k walk
       pub rest : runEnd (entryIn f m from) k (entriesLeft f m k) ≡ endFrom from (entriesLeft f m from)
 
+    -- before the first turn
     pub along-first : (first : Met) → IsMet f m from first → from < m .«num_fine» → Along (first .walk) (from + 1)
     along-first first known h = record {
       past = omega arith;
@@ -96,17 +97,20 @@ module _ (f : List ℕ) (m : MapBody) where
     pub walk-is : IsWalk f (coarseIn f m) k walk
     pub rest : count + length (coarseFrom k (entriesLeft f m k)) ≡ runs (entriesIn f m)
 
+  -- before the first turn
   pub counted-first : (walk : Walk) → IsWalk f (coarseIn f m) 0 walk → Counted walk 0 0
   unfolding runs
   counted-first walk w =
       record { within = omega arith; small = omega arith; walk-is = w; rest = rw (left-all f m, coarse-all (entriesIn f m)) (omega arith) }
 
+  -- one more run is counted
   pub counted-turn : (walk : Walk) (count k : ℕ) (r : RunEnd) → Counted walk count k → k < m .«num_fine» → IsEnd f m k r → Counted (r .walk) (count + 1) (r .row)
   counted-turn walk count k r i h e =
       let next = next-run f m k (r .row) h (e .row-is) in
       let rest = rw (next .rows) at (i .rest) in
       record { within = next .within; small = omega (arith, next .past, i .small); walk-is = e .walk-is; rest = omega arith }
 
+  -- all are counted
   pub counted-done : (walk : Walk) (count k : ℕ) → Counted walk count k → m .«num_fine» ≤ k → count ≡ runs (entriesIn f m)
   counted-done walk count k i h = let rest = rw (left-done f m k h) at (i .rest) in omega arith
 

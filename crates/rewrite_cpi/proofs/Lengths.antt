@@ -23,11 +23,20 @@ use Rattle.map_runs.specs.declared.walked.MapBody.{MapBody}
 use Rattle.rewrite_cpi.specs.Cpi.{Section, bodyOf}
 use Rattle.rewrite_cpi.proofs.Maps.{headAt, mapsLeft, entriesLeft, maps-all, entries-all, maps-count, maps-done, Left, left-first, left-next, every-turn, bodies-turn}
 
--- ---- one map's body
+-- ---- one map, of which the runs were counted
 
--- how long it is, where its runs were counted
-pub own-size : (f : List ℕ) (c p : ℕ) {r n : ℕ} → r ≡ runs (entriesOf f c p) → n ≡ fineCountAt f p → length (bodyBytes (entriesOf f c p)) ≡ 4 + 8 * r + 4 * n
-own-size f c p e n = omega (arith, body-length (entriesOf f c p), own-length f c p, e, n)
+module _ (f : List ℕ) (c p : ℕ) {r : ℕ} (m : MapBody) (e : m ≡ bodyOf f c p) (is : r ≡ runs (entriesIn f m)) where
+  -- they are the runs of its entries
+  pub own-runs : r ≡ runs (entriesOf f c p)
+  own-runs = is ∙ ap (λ (x : MapBody). runs (entriesIn f x)) e
+
+  -- how many fine rows it has
+  pub own-count : m .«num_fine» ≡ fineCountAt f p
+  own-count = ap (λ (x : MapBody). x .«num_fine») e
+
+  -- how long its body is
+  pub own-size : length (bodyBytes (entriesOf f c p)) ≡ 4 + 8 * r + 4 * m .«num_fine»
+  own-size = omega (arith, body-length (entriesOf f c p), own-length f c p, own-runs, own-count)
 
 -- without maps the section has four bytes
 pub none-size : (ms es : List Row) → length ms ≡ 0 → length (cpiBytesBy ms es) ≡ 4
@@ -44,6 +53,7 @@ module _ (f : List ℕ) (c count : ℕ) where
     pub fits : everyMap fewRuns (mapsLeft f c count k) (entriesLeft f c count k) ≡ everyMap fewRuns (mapsFrom f c) (entriesFrom f c)
     pub rest : len + length (bodies (mapsLeft f c count k) (entriesLeft f c count k)) ≡ 8 + 12 * count + length (bodies (mapsFrom f c) (entriesFrom f c))
 
+  -- before the first turn
   pub measured-first : Section f c count → Measured (8 + 12 * count) 0
   measured-first s = record {
     left = left-first f c count s;
@@ -53,31 +63,29 @@ module _ (f : List ℕ) (c count : ℕ) where
   }
 
   module _ (len k : ℕ) (i : Measured len k) (h : k < count) {r : ℕ} (m : MapBody) (e : m ≡ bodyOf f c (headAt f c count k)) (is : r ≡ runs (entriesIn f m)) where
-    own-runs : r ≡ runs (entriesOf f c (headAt f c count k))
-    own-runs = is ∙ ap (λ (x : MapBody). runs (entriesIn f x)) e
-
-    own-count : m .«num_fine» ≡ fineCountAt f (headAt f c count k)
-    own-count = ap (λ (x : MapBody). x .«num_fine») e
+    -- its runs
+    runs-are : r ≡ runs (entriesOf f c (headAt f c count k))
+    runs-are = own-runs f c (headAt f c count k) m e is
 
     -- the map has not too many runs
     pub measured-turn : r ≤ 65535 → Measured (len + (4 + 8 * r + 4 * m .«num_fine»)) (k + 1)
     measured-turn few =
         let own = entriesOf f c (headAt f c count k) in
         let later = bodies (mapsLeft f c count (k + 1)) (entriesLeft f c count (k + 1)) in
-        let passes = le-leb (runs own) 65535 (rw (← own-runs) few) in
+        let passes = le-leb (runs own) 65535 (rw (← runs-are) few) in
         let sizes = ap length (bodies-turn f c count k h) ∙ length-append (bodyBytes own) later in
         record {
           left = left-next f c count k h (i .left);
-          small = omega (arith, i .small, few, own-count, counts-small f (headAt f c count k) .1);
+          small = omega (arith, i .small, few, own-count f c (headAt f c count k) m e is, counts-small f (headAt f c count k) .1);
           fits = rw (every-turn f c count k h fewRuns, passes) at (i .fits);
-          rest = omega (arith, i .rest, sizes, own-size f c (headAt f c count k) own-runs own-count);
+          rest = omega (arith, i .rest, sizes, own-size f c (headAt f c count k) m e is);
         }
 
     -- it has
     pub measured-refused : 65535 < r → Length.TooManyRuns ≡ cpiLengthOf (mapsFrom f c) (entriesFrom f c)
     unfolding cpiLengthOf
     measured-refused many =
-        let fails = lt-leb (runs (entriesOf f c (headAt f c count k))) 65535 (rw (← own-runs) many) in
+        let fails = lt-leb (runs (entriesOf f c (headAt f c count k))) 65535 (rw (← runs-are) many) in
         rw (← i .fits, every-turn f c count k h fewRuns, fails)
 
   -- all are measured

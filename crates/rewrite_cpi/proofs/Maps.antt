@@ -46,9 +46,11 @@ module _ (f : List ℕ) (c count : ℕ) where
   abbrev pub headAt : ℕ → ℕ
   headAt k = c + 8 + 12 * k
 
+  -- the maps from map k on
   abbrev pub mapsLeft : ℕ → List Row
   mapsLeft k = rowsAt (mapAt f) nextMap (headAt k) (count - k)
 
+  -- their entries
   abbrev pub entriesLeft : ℕ → List Row
   entriesLeft k = gather (entriesOf f c) nextMap (headAt k) (count - k)
 
@@ -58,28 +60,34 @@ module _ (f : List ℕ) (c count : ℕ) where
 
   -- before the first turn
   module _ (counted : count ≡ mapCount f c) where
+    -- the first header
     all-at : headAt 0 ≡ c + 8
     all-at = omega arith
 
+    -- all are to come
     all-of : count - 0 ≡ mapCount f c
     all-of = omega (arith, counted)
 
+    -- all maps are left
     pub maps-all : mapsLeft 0 ≡ mapsFrom f c
     unfolding mapsFrom
     maps-all = rw (all-at, all-of)
 
+    -- so are all entries
     pub entries-all : entriesLeft 0 ≡ entriesFrom f c
     unfolding entriesFrom
     entries-all = rw (all-at, all-of)
 
+    -- how many maps there are
     pub maps-count : length (mapsFrom f c) ≡ count
     unfolding mapsFrom
     maps-count = rows-length (mapAt f) nextMap (c + 8) (mapCount f c) ∙ sym counted
 
-  -- after the last
+  -- after the last none is left
   pub maps-done : (k : ℕ) → count ≤ k → mapsLeft k ≡ []
   maps-done k h = rw (none-left count k h)
 
+  -- how many are left
   pub left-count : (k : ℕ) → length (mapsLeft k) ≡ count - k
   left-count k = rows-length (mapAt f) nextMap (headAt k) (count - k)
 
@@ -88,6 +96,7 @@ module _ (f : List ℕ) (c count : ℕ) where
     pub within : k ≤ count
     pub good : every (λ b. b) (rowsAt (mapIn f c) nextMap (headAt k) (count - k)) ≡ true
 
+  -- all maps of a section that is in the file are
   pub left-first : Section f c count → Left 0
   unfolding mapsIn
   left-first s =
@@ -96,49 +105,58 @@ module _ (f : List ℕ) (c count : ℕ) where
       record { within = omega arith; good = rw (p, n) (s .maps-in) }
 
   module _ (k : ℕ) (h : k < count) where
+    -- the header behind this one
     next-at : headAt k + 12 ≡ headAt (k + 1)
     next-at = omega arith
 
+    -- this map and those behind it
     maps-turn : mapsLeft k ≡ mapAt f (headAt k) ∷ mapsLeft (k + 1)
     maps-turn = rw (one-left count k h, next-at)
 
+    -- its entries and theirs
     entries-turn : entriesLeft k ≡ entriesOf f c (headAt k) ++ entriesLeft (k + 1)
     entries-turn = rw (one-left count k h, next-at)
 
-    -- this map, and those behind it
+    -- this map is in the file, and those behind it are
     goods : Left k → (mapIn f c (headAt k) ≡ true) × (every (λ b. b) (rowsAt (mapIn f c) nextMap (headAt k + 12) (count - (k + 1))) ≡ true)
     goods i = split-both (rw (one-left count k h) at (i .good))
 
+    -- so its header and body are
     pub left-map : Section f c count → Left k → MapAt f c (headAt k)
     left-map s i =
         let t = there f c count (s .counted) (s .head-in) (omega arith) in
         record { small = s .small; end-in = t .end-in; header = omega (arith, t .headers); body = goods i .0 }
 
+    -- those behind it are left
     pub left-next : Left k → Left (k + 1)
     left-next i = record { within = omega arith; good = rw next-at at (goods i .1) }
 
-    -- its entries are its own
+    -- its own entries
     abbrev own : List Row
     own = entriesOf f c (headAt k)
 
+    -- the first of those that are left
     own-rows : take (fineCountAt f (headAt k)) (own ++ entriesLeft (k + 1)) ≡ own
     own-rows = take-at own (entriesLeft (k + 1)) (fineCountAt f (headAt k)) (own-length f c (headAt k))
 
+    -- the others are behind them
     later-rows : drop (fineCountAt f (headAt k)) (own ++ entriesLeft (k + 1)) ≡ entriesLeft (k + 1)
     later-rows = drop-at own (entriesLeft (k + 1)) (fineCountAt f (headAt k)) (own-length f c (headAt k))
 
-    -- a test of each map, the bodies and the headers, with this map's own and those of the maps behind it
+    -- a test of each map: of this one, and of those behind it
     pub every-turn : (test : Row → List Row → Bool)
         → everyMap test (mapsLeft k) (entriesLeft k) ≡ both (test (mapAt f (headAt k)) own) (everyMap test (mapsLeft (k + 1)) (entriesLeft (k + 1)))
     every-turn test =
         ap₂ (everyMap test) maps-turn entries-turn
         ∙ ap₂ (λ (x y : List Row). both (test (mapAt f (headAt k)) x) (everyMap test (mapsLeft (k + 1)) y)) own-rows later-rows
 
+    -- the bodies: its own, and those of the maps behind it
     pub bodies-turn : bodies (mapsLeft k) (entriesLeft k) ≡ bodyBytes own ++ bodies (mapsLeft (k + 1)) (entriesLeft (k + 1))
     bodies-turn =
         ap₂ bodies maps-turn entries-turn
         ∙ ap₂ (λ (x y : List Row). bodyBytes x ++ bodies (mapsLeft (k + 1)) y) own-rows later-rows
 
+    -- the headers
     pub headers-turn : (address : ℕ) → headers (mapsLeft k) (entriesLeft k) address
         ≡ headerBytes (mapAt f (headAt k)) own address ++ headers (mapsLeft (k + 1)) (entriesLeft (k + 1)) (address + length (bodyBytes own))
     headers-turn address =

@@ -25,7 +25,7 @@ use Rattle.map_runs.specs.Entries.{entriesIn, BodyRoom}
 use Rattle.map_runs.specs.declared.walked.MapBody.{MapBody}
 use Rattle.rewrite_cpi.specs.Cpi.{MapAt, MapsRoom, MapRoom, CpiRoom, bodyOf}
 use Rattle.rewrite_cpi.proofs.Maps.{rows-in, headAt, mapsLeft, entriesLeft, maps-all, entries-all, maps-count, maps-done, left-count, Left, left-first, left-map, left-next, every-turn, bodies-turn, headers-turn}
-use Rattle.rewrite_cpi.proofs.Lengths.{own-size, none-size}
+use Rattle.rewrite_cpi.proofs.Lengths.{own-runs, own-count, own-size, none-size}
 
 -- ---- one map
 
@@ -34,22 +34,17 @@ pub body-room : (f : List ℕ) (c p size body : ℕ) (m : MapBody) → m ≡ bod
 body-room f c p size body m e i room = record { rows = rows-in f c p m e i; room = rw e room }
 
 module _ (f : List ℕ) (c p : ℕ) {r : ℕ} (m : MapBody) (e : m ≡ bodyOf f c p) (is : r ≡ runs (entriesIn f m)) where
-  pub own-runs : r ≡ runs (entriesOf f c p)
-  own-runs = is ∙ ap (λ (x : MapBody). runs (entriesIn f x)) e
-
-  own-count : m .«num_fine» ≡ fineCountAt f p
-  own-count = ap (λ (x : MapBody). x .«num_fine») e
-
-  -- type and counts fit their fields
+  -- its type fits its field
   pub kind-fits : m .kind < 2 ^ 4
   kind-fits = let k = ap (λ (x : MapBody). x .kind) e in rw k (omega arith)
 
+  -- so does the number of its fine rows
   pub count-fits : m .«num_fine» < 2 ^ 18
-  count-fits = omega (arith, own-count, counts-small f p .1)
+  count-fits = omega (arith, own-count f c p m e is, counts-small f p .1)
 
   -- the place behind the body
   pub place-is : (body : ℕ) → body + 4 + 8 * r + 4 * m .«num_fine» ≡ body + length (bodyBytes (entriesOf f c p))
-  place-is body = omega (arith, own-size f c p own-runs own-count)
+  place-is body = omega (arith, own-size f c p m e is)
 
   -- its body was stored, and then its header
   pub map-put : (o : List ℕ) (body head address pid : ℕ) {o₁ o₂ : List ℕ} → pid ≡ beAt f p 2 → o₁ ≡ sets o body (bodyBytes (entriesIn f m))
@@ -58,9 +53,9 @@ module _ (f : List ℕ) (c p : ℕ) {r : ℕ} (m : MapBody) (e : m ≡ bodyOf f 
   map-put o body head address pid {o₁} w b h =
       let own = entriesOf f c p in
       let kind : m .kind ≡ mapTypeAt f p = ap (λ (x : MapBody). x .kind) e in
-      let count : m .«num_fine» ≡ length own = own-count ∙ sym (own-length f c p) in
+      let count : m .«num_fine» ≡ length own = own-count f c p m e is ∙ sym (own-length f c p) in
       let fields : 0 ∷ m .kind ∷ r ∷ m .«num_fine» ∷ [] ≡ 0 ∷ mapTypeAt f p ∷ runs own ∷ length own ∷ [] =
-      ap (λ (x : ℕ). 0 ∷ x ∷ r ∷ m .«num_fine» ∷ []) kind ∙ ap₂ (λ (x y : ℕ). 0 ∷ mapTypeAt f p ∷ x ∷ y ∷ []) own-runs count in
+      ap (λ (x : ℕ). 0 ∷ x ∷ r ∷ m .«num_fine» ∷ []) kind ∙ ap₂ (λ (x y : ℕ). 0 ∷ mapTypeAt f p ∷ x ∷ y ∷ []) (own-runs f c p m e is) count in
       let head-is : fieldBytes (2 ∷ 6 ∷ 4 ∷ []) (pid ∷ packed headerWidths (0 ∷ m .kind ∷ r ∷ m .«num_fine» ∷ []) ∷ address ∷ []) ≡ headerBytes (mapAt f p) own address =
       ap₂ (λ (x y : ℕ). fieldBytes (2 ∷ 6 ∷ 4 ∷ []) (x ∷ y ∷ address ∷ [])) w (ap (packed headerWidths) fields) in
       let body-is : o₁ ≡ sets o body (bodyBytes own) = b ∙ ap (λ (x : MapBody). sets o body (bodyBytes (entriesIn f x))) e in
@@ -78,7 +73,7 @@ bodies-most f c count (suc d) k e t =
     let later = bodies (mapsLeft f c count (k + 1)) (entriesLeft f c count (k + 1)) in
     let few = both-true (fewRuns (mapAt f (headAt f c count k)) own) (everyMap fewRuns (mapsLeft f c count (k + 1)) (entriesLeft f c count (k + 1))) (rw (every-turn f c count k h fewRuns) at t) in
     let sizes = ap length (bodies-turn f c count k h) ∙ length-append (bodyBytes own) later in
-    omega (arith, bodies-most f c count d (k + 1) (omega arith) (few .1), sizes, own-size f c (headAt f c count k) refl refl, leb-true (runs own) 65535 (few .0), counts-small f (headAt f c count k) .1)
+    omega (arith, bodies-most f c count d (k + 1) (omega arith) (few .1), sizes, own-size f c (headAt f c count k) (bodyOf f c (headAt f c count k)) refl refl, leb-true (runs own) 65535 (few .0), counts-small f (headAt f c count k) .1)
 
 module _ (f : List ℕ) (c count : ℕ) (o₀ : List ℕ) (at : ℕ) where
   -- before map k, of which the body goes to `body`
@@ -92,9 +87,11 @@ module _ (f : List ℕ) (c count : ℕ) (o₀ : List ℕ) (at : ℕ) where
         ≡ sets (sets o₀ (at + 8) (headers (mapsFrom f c) (entriesFrom f c) (2 + 12 * count))) (at + 8 + 12 * count) (bodies (mapsFrom f c) (entriesFrom f c))
 
   module _ (room : MapsRoom f c count (length o₀) at) where
+    -- how many maps there are
     abbrev counted : count ≡ mapCount f c
     counted = room .section .counted
 
+    -- before the first turn
     pub putting-first : Putting o₀ (at + 8 + 12 * count) 0
     putting-first =
         let head : at + 8 + 12 * 0 ≡ at + 8 = omega arith in
@@ -113,15 +110,19 @@ module _ (f : List ℕ) (c count : ℕ) (o₀ : List ℕ) (at : ℕ) where
     bodies-small = omega (arith, room .few, rw (maps-all f c count counted, entries-all f c count counted) at (bodies-most f c count count 0 (omega arith) (putting-first .runs-few)))
 
     module _ (o : List ℕ) (body k : ℕ) (i : Putting o body k) (h : k < count) where
+      -- this map's entries
       abbrev own : List Row
       own = entriesOf f c (headAt f c count k)
 
+      -- the maps behind it
       abbrev ms : List Row
       ms = mapsLeft f c count (k + 1)
 
+      -- their entries
       abbrev es : List Row
       es = entriesLeft f c count (k + 1)
 
+      -- it has not too many runs, and they have not
       here : (fewRuns (mapAt f (headAt f c count k)) own ≡ true) × (everyMap fewRuns ms es ≡ true)
       here = both-true (fewRuns (mapAt f (headAt f c count k)) own) (everyMap fewRuns ms es) (rw (every-turn f c count k h fewRuns) at (i .runs-few))
 
@@ -191,18 +192,23 @@ count-by f c some = go (hasMaps f c) some
     go false h = absurd (h refl)
 
 module _ (f : List ℕ) (c count len : ℕ) (o₀ : List ℕ) (at : ℕ) (room : CpiRoom f c count len (length o₀) at) where
+  -- all bodies
   abbrev bodiesOf : List ℕ
   bodiesOf = bodies (mapsFrom f c) (entriesFrom f c)
 
+  -- all headers
   abbrev headersOf : List ℕ
   headersOf = headers (mapsFrom f c) (entriesFrom f c) (2 + 12 * count)
 
+  -- how many maps there are
   all-count : length (mapsFrom f c) ≡ count
   all-count = maps-count f c count (room .section .counted)
 
+  -- without maps it has four bytes
   pub none-long : count ≡ 0 → len ≡ 4
   none-long z = room .long ∙ none-size (mapsFrom f c) (entriesFrom f c) (omega (arith, all-count))
 
+  -- they are stored
   pub cpi-none : {o : List ℕ} → count ≡ 0 → o ≡ sets o₀ at (bytesOf 4 0) → (at + 4 ≡ at + len) × (o ≡ sets o₀ at (cpiBytesBy (mapsFrom f c) (entriesFrom f c)))
   cpi-none z p = (omega (arith, none-long z), p ∙ ap (sets o₀ at) (sym (none-bytes (mapsFrom f c) (entriesFrom f c) (omega (arith, all-count)))))
 

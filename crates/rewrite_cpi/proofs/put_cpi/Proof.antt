@@ -47,12 +47,15 @@ is c =
     let a = s .args in
     byte-is (now (a .file)) (a .start) (a .count) (a .len) (now (a .out)) (a .at) (s .pre) (c .before .if1 .left) (c .u8-at .ensures .same)
 
+-- there are some
 some : (c : tie.After-u8-at) → c .u8-at .result ≡ 0 → ⊥
 some c z = c .before .if1 .left (sym (is c) ∙ z)
 
+-- not more than a byte can say
 few : (c : tie.After-u8-at) → c .u8-at .result ≤ 255
 few c = omega (arith, c .u8-at .ensures .below)
 
+-- what is wanted, by that number
 room : (c : tie.After-u8-at)
     → CpiRoom (now (c .before .before .before .before .args .file)) (c .before .before .before .before .args .start) (c .u8-at .result) (c .before .before .before .before .args .len)
     (length (now (c .before .before .before .before .args .out))) (c .before .before .before .before .args .at)

@@ -2,7 +2,8 @@
 use Prim.Native.Nat.{_+_, _*_, _-_}
 use native.Mathlib.Omega.{arith}
 use denote.Ref.{now}
-use Rattle.rewrite_cpi.proofs.Sections.{body-room, own-runs, kind-fits, count-fits, place-is, map-put}
+use Rattle.rewrite_cpi.proofs.Lengths.{own-runs}
+use Rattle.rewrite_cpi.proofs.Sections.{body-room, kind-fits, count-fits, place-is, map-put}
 use borrow.Author.Needs.{needs}
 use Rattle.rewrite_cpi.proofs.put_map.Statement.{statement}
 use Rattle.rewrite_cpi.proofs.put_map.Tie as tie
