@@ -9,7 +9,7 @@ use lib.ListN.{length, length-append}
 use lib.Seq.{sets, length-sets}
 use Rattle.format.specs.Bytes.{pick, beAt, bytesOf, fieldBytes, packed}
 use Rattle.format.specs.ClipRecord.{Row}
-use Rattle.format.specs.EntryPoints.{headerWidths, mapTypeAt, fineCountAt, mapAt, entriesOf, hasMaps, mapCount, mapsFrom, entriesFrom}
+use Rattle.format.specs.EntryPoints.{headerWidths, mapTypeAt, mapAt, entriesOf, hasMaps, mapCount, mapsFrom, entriesFrom}
 use Rattle.format.specs.Refusals.{everyMap}
 use Rattle.format.specs.Rewriting.{runs, bodyBytes, bodies, headerBytes, headers, cpiBytesBy}
 use Rattle.format.proofs.Cpi.{header-length, headers-length}
