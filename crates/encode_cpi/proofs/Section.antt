@@ -29,7 +29,7 @@ use Rattle.encode_cpi.proofs.Maps.{bodies-most, mapsLeft, entriesLeft, 
 -- ---- one turn
 
 -- a body was stored, and then a header before it; the headers and the bodies that are left go behind them
-pair-more : (o : List ℕ) (head body w : ℕ) (H Hs B Bs : List ℕ) {o′ whole : List ℕ} → length H ≡ 12 → length B ≡ w → head + (12 + length Hs) ≤ body
+pub pair-more : (o : List ℕ) (head body w : ℕ) (H Hs B Bs : List ℕ) {o′ whole : List ℕ} → length H ≡ 12 → length B ≡ w → head + (12 + length Hs) ≤ body
     → o′ ≡ sets (sets o body B) head H → sets (sets o head (H ++ Hs)) body (B ++ Bs) ≡ whole
     → sets (sets o′ (head + 12) Hs) (body + w) Bs ≡ whole
 pair-more o head body w H Hs B Bs {o′} hl bl apart put i =

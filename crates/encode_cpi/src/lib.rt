@@ -71,7 +71,7 @@ fn put_maps(maps: &[u8], n: usize, entries: &[u8], m: u32, out: &mut [u8], at: u
 }
 
 // The section's first eight bytes from `at`: the length of what is behind the first four, type 1, a spare byte, the number of maps.
-fn put_top(behind: u32, n: u32, out: &mut [u8], at: usize)
+pub fn put_top(behind: u32, n: u32, out: &mut [u8], at: usize)
     requires { ⌜ at + 8 ≤ length (now out) ⌝ }
     ensures { λ _. ⌜ now (out .exit) ≡ sets (now (out .entry)) at (fieldBytes (4 ∷ 2 ∷ 1 ∷ 1 ∷ []) (behind ∷ 1 ∷ 0 ∷ n ∷ [])) ⌝ }
 {

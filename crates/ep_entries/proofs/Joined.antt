@@ -1,7 +1,7 @@
 -- The loop that joins coarse and fine rows: a turn, and the end.
 use Prim.Native.Nat.{ℕ, zero, suc, _+_, _*_, _-_, _^_, _<_, _≤_, min}
 use mathlib.Core.Path.{_≡_, refl, sym, ap, ap₂, _∙_}
-use mathlib.Core.List.{List, [], _∷_, _++_, append-assoc}
+use mathlib.Core.List.{List, _++_, append-assoc}
 use native.Mathlib.Omega.{arith}
 use lib.Seq.{sets}
 use Rattle.format.specs.Bytes.{beAt, unpacked, rowsAt}
@@ -12,9 +12,10 @@ use Rattle.format.proofs.Loops.{one-left, none-left, put-more}
 use Rattle.format.proofs.Sweep.{row-bytes, rows-bytes}
 use Rattle.ep_rows.specs.Rows.{fineOf}
 use Rattle.ep_rows.specs.declared.FineRow.{FineRow}
-use Rattle.ep_entries.specs.Entries.{entryBy, runBytes}
+use Rattle.ep_entries.specs.Entries.{joined, rowOf, entryBy, runBytes}
 use Rattle.ep_entries.specs.Walks.{IsWalk}
 use Rattle.ep_entries.proofs.Walks.{walk-stop, walk-later}
+use Rattle.ep_entries.specs.declared.entries.Entry.{Entry}
 use Rattle.ep_entries.specs.declared.walk.Walk.{Walk}
 
 -- the bytes of the entries that are left, from fine row k on
@@ -96,9 +97,13 @@ fine-time-below word r e = rw e (omega arith)
 pub fine-packet-below : (word : ℕ) (r : FineRow) → r ≡ fineOf (unpacked fineWidths word) → r .packet < 2 ^ 17
 fine-packet-below word r e = rw e (omega arith)
 
+-- its fields with time and packet joined are the entry
+pub entry-joined : (word coarse-time coarse-packet time packet : ℕ) (r : FineRow) → r ≡ fineOf (unpacked fineWidths word)
+    → time ≡ joinTime coarse-time (r .time) → packet ≡ joinPacket coarse-packet (r .packet)
+    → record { angle = r .angle; «i_end» = r .«i_end»; time = time; packet = packet } ≡ joined coarse-time coarse-packet (unpacked fineWidths word)
+entry-joined word ct cp time packet r e te pe = rw (te, pe, e)
+
 -- the row that is stored of it
-pub entry-stored : (t : List ℕ) (at word kind coarse-time coarse-packet time packet : ℕ) (r : FineRow) {t′ : List ℕ}
-    → r ≡ fineOf (unpacked fineWidths word) → time ≡ joinTime coarse-time (r .time) → packet ≡ joinPacket coarse-packet (r .packet)
-    → t′ ≡ sets t at (rowBytes (r .angle ∷ r .«i_end» ∷ time ∷ packet ∷ kind ∷ []))
-    → t′ ≡ sets t at (rowBytes (entryBy kind coarse-time coarse-packet (unpacked fineWidths word)))
-entry-stored t at word kind ct cp time packet r e te pe p = p ∙ rw (te, pe, e)
+pub entry-stored : (t : List ℕ) (at word kind coarse-time coarse-packet : ℕ) (r : Entry) {t′ : List ℕ} → r ≡ joined coarse-time coarse-packet (unpacked fineWidths word)
+    → t′ ≡ sets t at (rowBytes (rowOf kind r)) → t′ ≡ sets t at (rowBytes (entryBy kind coarse-time coarse-packet (unpacked fineWidths word)))
+entry-stored t at word kind ct cp r e p = p ∙ rw e

@@ -6,11 +6,24 @@ use Rattle.format.specs.Bytes.{rowsAt}
 use Rattle.format.specs.ClipRecord.{Row}
 use Rattle.format.specs.EntryPoints.{fineAt, nextFine, joinTime, joinPacket, fineTime, finePacket}
 use Rattle.format.specs.Tables.{tableBytes}
+use Rattle.ep_entries.specs.declared.entries.Entry.{Entry}
+
+-- the entry of a fine row under a coarse row's time and packet
+abbrev pub joined : ℕ → ℕ → Row → Entry
+joined time packet fine = record {
+  angle = getD fine 0 0;
+  «i_end» = getD fine 1 0;
+  time = joinTime time (fineTime fine);
+  packet = joinPacket packet (finePacket fine);
+}
+
+-- an entry of this type as a row
+abbrev pub rowOf : ℕ → Entry → Row
+rowOf type e = e .angle ∷ e .«i_end» ∷ e .time ∷ e .packet ∷ type ∷ []
 
 -- an entry of this type under a coarse row's time and packet
 abbrev pub entryBy : ℕ → ℕ → ℕ → Row → Row
-entryBy type time packet fine =
-    getD fine 0 0 ∷ getD fine 1 0 ∷ joinTime time (fineTime fine) ∷ joinPacket packet (finePacket fine) ∷ type ∷ []
+entryBy type time packet fine = rowOf type (joined time packet fine)
 
 -- the bytes of the entries of fine rows `from` up to `end`, all under one coarse row's time and packet
 abbrev pub runBytes : List ℕ → ℕ → ℕ → ℕ → ℕ → ℕ → ℕ → List ℕ

@@ -6,7 +6,7 @@ ghost use lib.Seq.{sets};
 ghost use Rattle.format.specs.Bytes.{unpacked, rowsAt};
 ghost use Rattle.format.specs.EntryPoints.{fineWidths, coarseAt, fineAt, nextCoarse, nextFine, entriesFor};
 ghost use Rattle.format.specs.Tables.{rowBytes, tableBytes};
-ghost use Rattle.ep_entries.specs.Entries.{entryBy, runBytes, Run, Fill};
+ghost use Rattle.ep_entries.specs.Entries.{joined, entryBy, runBytes, Run, Fill};
 use crate::walk::Walk;
 use crate::walk::reach;
 use crate::walk::start;
@@ -16,15 +16,36 @@ use ep_rows::entry_time;
 use ep_rows::fine_row;
 use numbers::u32_at;
 
-// The entry of a fine row under the walk's coarse row, as the row of a table from `at`.
-fn put_entry(word: u32, w: Walk, kind: u32, table: &mut [u8], at: usize)
-    requires { ⌜ at + 20 ≤ length (now table) ⌝ }
-    ensures { λ _. ⌜ now (table .exit) ≡ sets (now (table .entry)) at (rowBytes (entryBy kind (w .time) (w .packet) (unpacked fineWidths word))) ⌝ }
+// An entry beside its type: whether the angle may change, where the I picture ends, time and packet.
+pub struct Entry {
+    pub angle: u32,
+    pub i_end: u32,
+    pub time: u32,
+    pub packet: u32,
+}
+
+// The entry of a fine row under the walk's coarse row.
+pub fn join(word: u32, w: Walk) -> Entry
+    ensures { λ r. ⌜ r ≡ joined (w .time) (w .packet) (unpacked fineWidths word) ⌝ }
 {
     let fine = fine_row(word);
     let time = entry_time(w.time, fine.time);
     let packet = entry_packet(w.packet, fine.packet);
-    put_row5(table, at, fine.angle, fine.i_end, time, packet, kind);
+    Entry {
+        angle: fine.angle,
+        i_end: fine.i_end,
+        time,
+        packet,
+    }
+}
+
+// That entry as the row of a table from `at`.
+fn put_entry(word: u32, w: Walk, kind: u32, table: &mut [u8], at: usize)
+    requires { ⌜ at + 20 ≤ length (now table) ⌝ }
+    ensures { λ _. ⌜ now (table .exit) ≡ sets (now (table .entry)) at (rowBytes (entryBy kind (w .time) (w .packet) (unpacked fineWidths word))) ⌝ }
+{
+    let e = join(word, w);
+    put_row5(table, at, e.angle, e.i_end, e.time, e.packet, kind);
 }
 
 // The entries of the fine rows from number `from` up to `end`, all under the walk's coarse row; the table's row for fine row 0 is at `at`.

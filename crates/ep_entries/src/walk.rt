@@ -48,7 +48,7 @@ pub(crate) fn at_row(file: &[u8], p: usize, n: usize) -> Walk
 }
 
 // The walk for fine row 0, over the n coarse rows at p; with none, zeros.
-pub(crate) fn start(file: &[u8], p: usize, n: usize) -> Walk
+pub fn start(file: &[u8], p: usize, n: usize) -> Walk
     requires { ⌜ p + 8 * n ≤ length (now file) ⌝ }
     ensures { λ r. ⌜ IsWalk (now (file .entry)) (rowsAt (coarseAt (now (file .entry))) nextCoarse p n) 0 r ⌝ }
 {
@@ -65,7 +65,7 @@ pub(crate) fn start(file: &[u8], p: usize, n: usize) -> Walk
 }
 
 // The walk for fine row k: steps on while the next row's first fine row is at most k.
-pub(crate) fn reach(file: &[u8], k: u32, from: Walk) -> Walk
+pub fn reach(file: &[u8], k: u32, from: Walk) -> Walk
     requires { ⌜ Steps (now file) from × (k < 262144) ⌝ }
     ensures { λ r. ⌜ Reached (now (file .entry)) k from r ⌝ }
 {

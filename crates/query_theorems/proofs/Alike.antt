@@ -1,70 +1,58 @@
--- The calls answer alike: by demand 3's fourth part on the definitions, and by the rows that the tables hold.
-use Prim.Native.Nat.{ℕ, _<_}
-use mathlib.Core.Path.{_≡_, refl, sym, ap, _∙_}
+-- Each call answers alike from the old file and the new: by what its own contract claims of it, and by what the definitions answer.
+use Prim.Native.Nat.{ℕ}
+use mathlib.Core.Path.{_≡_, refl}
 use mathlib.Core.List.{List, [], _∷_}
-use mathlib.Core.Bool.{true}
-use lib.Dec.{lit<}
-use Rattle.format.specs.ClipRecord.{Row, Clip, Record}
-use Rattle.format.specs.Reading.{recordOf}
-use Rattle.format.specs.Tables.{Table, HoldsRows, rowsOf, isStated, atcCells, stcCells, programCells, streamCells, mapCells, entryCells}
-use Rattle.format.specs.Questions.{Question, Answer, partsOf, HoldsPart, ask}
+use mathlib.Core.Bool.{Bool, true, false}
+use Rattle.format.specs.Questions.{partsOf, ask}
 use Rattle.format.specs.Questions as of
-use Rattle.format.proofs.Lists.{All, none, more}
-use Rattle.format.proofs.Tables.{Cells}
-use Rattle.format.proofs.ClipTables.{Shaped, rows-held, is-stated}
-use Rattle.queries.specs.Asked.{onlyCounts, onlyScalars, onlyStcs, onlyPrograms, onlyStreams, onlyMaps, mapsAndEntries, atcsAndStcs}
-use Rattle.table_rows.specs.OwnRows.{headCells, isCounted, mayAsk, ownedRows}
-use Rattle.theorems.specs.Rewriting.{Rewritable, rewritten, RewritingKeeps}
-use Rattle.theorems.proofs.Rewriting.{rewriting-keeps, file-shaped}
-use Rattle.query_theorems.specs.Alike.{CallsAlike, Alike}
+use Rattle.ticks.specs.Times.{as90}
+use Rattle.queries.specs.Asked.{onlyCounts, onlyScalars}
+use Rattle.ep_map_queries.specs.InMap.{seekQuestion}
+use Rattle.theorems.specs.Rewriting.{Rewritable}
+use Rattle.query_theorems.specs.Alike.{Alike}
+use Rattle.query_theorems.proofs.Readings.{found, time45, time90, duration, bytes, own}
+use Rattle.query_theorems.proofs.Calls.{from-table, from-tables, from-number, from-numbers}
+use Rattle.query_theorems.proofs.Held.{rate, packets, of-stcs, of-programs, of-streams, of-maps, of-entries, of-atcs, own-stcs, own-streams, own-entries}
 
--- the rows of a header row depend on the rows held alone
-own-held : (cell cells : ℕ) → 0 < cells → {heads rows : List Row} → All (Cells headCells) heads → All (Cells cells) rows → (old₁ old₂ new₁ new₂ : Table) (head : ℕ)
-    → HoldsRows old₁ heads → HoldsRows old₂ rows → HoldsRows new₁ heads → HoldsRows new₂ rows → ownedRows cell cells old₁ old₂ head ≡ ownedRows cell cells new₁ new₂ head
-unfolding ownedRows mayAsk isCounted
-own-held cell cells pos hs rs old₁ old₂ new₁ new₂ head a b c d =
-    rw (
-      rows-held headCells old₁ hs a,
-      rows-held cells old₂ rs b,
-      rows-held headCells new₁ hs c,
-      rows-held cells new₂ rs d,
-      is-stated headCells old₁ hs a (lit< tt),
-      is-stated cells old₂ rs b pos,
-      is-stated headCells new₁ hs c (lit< tt),
-      is-stated cells new₂ rs d pos,
-    )
+-- either way, a seek looks at the maps and the entries
+seek-parts : (is-after : Bool) (m at : ℕ) → partsOf (seekQuestion is-after m at) ≡ of.maps ∷ of.entries ∷ []
+seek-parts true m at = refl
+seek-parts false m at = refl
 
 module _ (f : List ℕ) (h : Rewritable f) where
-  keeps : RewritingKeeps f
-  keeps = rewriting-keeps f h
-
-  -- the two records, and that they are one
-  abbrev old : Clip
-  old = recordOf f .clip
-
-  abbrev new : Clip
-  new = recordOf (rewritten f) .clip
-
-  same : new ≡ old
-  same = ap (λ (r : Record). r .clip) (keeps .same)
-
-  -- two answers that are asked for alike
-  joined : {A : Type 0} {x y a b : A} → a ≡ b → x ≡ a → y ≡ b → x ≡ y
-  joined e x y = x ∙ e ∙ sym y
-
+  -- of each call: how its result is read, the law of its question with the other arguments `o`, and what its contract claims
   pub calls-alike : Alike f
   calls-alike = record {
-    of-stcs = λ q o n one ho hn. joined (keeps .alike q (onlyStcs o) (onlyStcs n) (rw one (more ho none)) (rw one (more hn none)));
-    of-programs = λ q o n one ho hn. joined (keeps .alike q (onlyPrograms o) (onlyPrograms n) (rw one (more ho none)) (rw one (more hn none)));
-    of-streams = λ q o n one ho hn. joined (keeps .alike q (onlyStreams o) (onlyStreams n) (rw one (more ho none)) (rw one (more hn none)));
-    of-maps = λ q o n one ho hn. joined (keeps .alike q (onlyMaps o) (onlyMaps n) (rw one (more ho none)) (rw one (more hn none)));
-    of-maps-and-entries = λ q o₁ o₂ n₁ n₂ two h₁ h₂ g₁ g₂. joined (keeps .alike q (mapsAndEntries o₁ o₂) (mapsAndEntries n₁ n₂) (rw two (more h₁ (more h₂ none))) (rw two (more g₁ (more g₂ none))));
-    of-atcs-and-stcs = λ q o₁ o₂ n₁ n₂ two h₁ h₂ g₁ g₂. joined (keeps .alike q (atcsAndStcs o₁ o₂) (atcsAndStcs n₁ n₂) (rw two (more h₁ (more h₂ none))) (rw two (more g₁ (more g₂ none))));
-    of-packets = λ q o n ho hn. joined (ap (λ (p : ℕ). ask q (onlyScalars (onlyCounts 0 p))) (ho ∙ sym (ap (λ (c : Clip). c .scalars .packets) same) ∙ sym hn));
-    of-rate = λ q o₁ o₂ n₁ n₂ h₁ h₂ g₁ g₂. joined (
-        ap (λ (r : ℕ). ask q (onlyScalars (onlyCounts r o₂))) (h₁ ∙ sym (ap (λ (c : Clip). c .scalars .rate) same) ∙ sym g₁)
-        ∙ ap (λ (p : ℕ). ask q (onlyScalars (onlyCounts n₁ p))) (h₂ ∙ sym (ap (λ (c : Clip). c .scalars .packets) same) ∙ sym g₂));
-    stcs-of-atc = λ o₁ o₂ n₁ n₂ head h₁ h₂ g₁ g₂. let s = file-shaped f h in joined (own-held 1 stcCells (lit< tt) (s .atcs) (s .stcs) o₁ o₂ n₁ n₂ head h₁ h₂ (rw same at g₁) (rw same at g₂));
-    streams-of-program = λ o₁ o₂ n₁ n₂ head h₁ h₂ g₁ g₂. let s = file-shaped f h in joined (own-held 2 streamCells (lit< tt) (s .programs) (s .streams) o₁ o₂ n₁ n₂ head h₁ h₂ (rw same at g₁) (rw same at g₂));
-    entries-of-map = λ o₁ o₂ n₁ n₂ head h₁ h₂ g₁ g₂. let s = file-shaped f h in joined (own-held 2 entryCells (lit< tt) (s .maps) (s .entries) o₁ o₂ n₁ n₂ head h₁ h₂ (rw same at g₁) (rw same at g₂));
+    first_stc_sequence = from-table found (λ o. of-stcs f h of.firstStcSequence refl) (λ x. x .allowed);
+    duration_45k = from-table time45 (λ o. of-stcs f h (of.duration45k (o .0)) refl) (λ x. x .allowed);
+    duration_90k = from-table time90 (λ o. of-stcs f h (of.duration90k (o .0)) refl) (λ x. x .allowed);
+    presentation_span_90k = from-table time90 (λ o. of-stcs f h of.presentationSpan90k refl) (λ x. x .allowed);
+    minutes_remaining = from-table found (λ o. of-stcs f h (of.minutesRemaining (as90 (o .0))) refl) (λ x. x .allowed);
+    stcs_of_atc = from-tables own (λ o. own-stcs f h (o .0)) (λ x. x .allowed);
+    stc_sequence_by_id = from-tables found (λ o. of-atcs f h (of.stcSequenceById (o .0)) refl) (λ x. x .allowed);
+    stc_sequence_for_spn = from-tables found (λ o. of-atcs f h (of.stcSequenceForSpn (o .0) (o .1 .0)) refl) (λ x. x .allowed);
+    program_by_pmt_pid = from-table found (λ o. of-programs f h (of.programByPmtPid (o .0)) refl) (λ x. x .allowed);
+    streams_of_program = from-tables own (λ o. own-streams f h (o .0)) (λ x. x .allowed);
+    stream_by_pid = from-table found (λ o. of-streams f h (of.streamByPid (o .0)) refl) (λ x. x .allowed);
+    primary_video_pid = from-table found (λ o. of-streams f h of.primaryVideoPid refl) (λ x. x .allowed);
+    next_video_stream = from-table found (λ o. of-streams f h (of.nextVideoStream (o .0)) refl) (λ x. x .allowed);
+    next_audio_stream = from-table found (λ o. of-streams f h (of.nextAudioStream (o .0)) refl) (λ x. x .allowed);
+    clip_byte_len = from-number bytes (λ o p. ask of.clipByteLen (onlyScalars (onlyCounts 0 p))) (packets f h) (λ x. x .allowed);
+    spn_to_byte = from-number found (λ o p. ask (of.spnToByte (o .0)) (onlyScalars (onlyCounts 0 p))) (packets f h) (λ x. x .allowed);
+    byte_to_spn = from-number found (λ o p. ask (of.byteToSpn (o .0)) (onlyScalars (onlyCounts 0 p))) (packets f h) (λ x. x .allowed);
+    transfer_duration_secs = from-numbers duration (λ o r p. ask of.transferDurationSecs (onlyScalars (onlyCounts r p))) (rate f h) (packets f h) (λ x. x .allowed .0);
+    seek = from-tables found (λ o. of-entries f h (seekQuestion (o .1 .0) (o .0) (o .1 .1 .0)) (seek-parts (o .1 .0) (o .0) (o .1 .1 .0))) (λ x. x .allowed);
+    entries_of_map = from-tables own (λ o. own-entries f h (o .0)) (λ x. x .allowed);
+    entry_point_at_or_before = from-tables found (λ o. of-entries f h (of.entryPointAtOrBefore (o .0) (record { ticks = o .1 .0 })) refl) (λ x. x .allowed);
+    entry_point_after = from-tables found (λ o. of-entries f h (of.entryPointAfter (o .0) (record { ticks = o .1 .0 })) refl) (λ x. x .allowed);
+    seek_spn = from-tables found (λ o. of-entries f h (of.seekSpn (o .0) (record { ticks = o .1 .0 })) refl) (λ x. x .allowed);
+    next_seek_spn = from-tables found (λ o. of-entries f h (of.nextSeekSpn (o .0) (record { ticks = o .1 .0 })) refl) (λ x. x .allowed);
+    first_pts = from-tables time90 (λ o. of-entries f h (of.firstPts (o .0)) refl) (λ x. x .allowed);
+    last_pts = from-tables time90 (λ o. of-entries f h (of.lastPts (o .0)) refl) (λ x. x .allowed);
+    indexed_span_90k = from-tables time90 (λ o. of-entries f h (of.indexedSpan90k (o .0)) refl) (λ x. x .allowed);
+    ep_map_by_kind = from-table found (λ o. of-maps f h (of.epMapByKind (o .0)) refl) (λ x. x .allowed);
+    next_video_ep_map = from-table found (λ o. of-maps f h (of.nextVideoEpMap (o .0)) refl) (λ x. x .allowed);
+    primary_video_ep_map = from-table found (λ o. of-maps f h of.primaryVideoEpMap refl) (λ x. x .allowed);
+    primary_seek_spn = from-tables found (λ o. of-entries f h (of.primarySeekSpn (record { ticks = o .0 })) refl) (λ x. x .allowed);
+    primary_next_seek_spn = from-tables found (λ o. of-entries f h (of.primaryNextSeekSpn (record { ticks = o .0 })) refl) (λ x. x .allowed);
   }

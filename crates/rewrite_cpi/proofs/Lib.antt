@@ -1,0 +1,4 @@
+-- The laws that the functions' proofs, and those of callers, cite.
+pub mod Maps
+pub mod Lengths
+pub mod Sections

@@ -1,0 +1,76 @@
+-- Each turn stores a map's body and header; what is left goes behind them.
+use Prim.Native.Nat.{_-_}
+use native.Mathlib.Omega.{arith}
+use denote.Ref.{now}
+use Rattle.rewrite_cpi.proofs.Sections.{Putting, putting-first, putting-room, putting-turn, putting-done}
+use Rattle.rewrite_cpi.proofs.put_maps.Statement.{statement}
+use Rattle.rewrite_cpi.proofs.put_maps.Tie as tie
+
+abbrev Inv-loop : tie.InvT-loop
+Inv-loop file start count out₀ at body₀ k₀ out body k = Putting file start count out₀ at out body k
+
+abbrev μ-loop : tie.MeasureT-loop
+μ-loop file start count out₀ at body₀ k₀ out body k = count - k
+
+add-body : tie.Need-add-body Inv-loop μ-loop
+add-body c = omega (arith, c .before .before .pre .room)
+
+mul-body : tie.Need-mul-body Inv-loop μ-loop
+mul-body c = omega (arith, c .before .before .pre .few)
+
+add-body-2 : tie.Need-add-body-2 Inv-loop μ-loop
+add-body-2 c = omega (arith, c .before .before .pre .room)
+
+loop-holds : tie.Need-loop-holds Inv-loop μ-loop
+loop-holds c =
+    let s = c .before .before in
+    let a = s .args in
+    putting-first (now (a .file)) (a .start) (a .count) (now (a .out)) (a .at) (s .pre)
+
+put-map-requires : tie.Need-put-map-requires Inv-loop μ-loop
+put-map-requires c κs =
+    let s = c .before .before .before .before .before in
+    let a = s .args in
+    let l = c .before .before .loop in
+    putting-room (now (a .file)) (a .start) (a .count) (now (a .out)) (a .at) (s .pre) (l .out) (l .body) (l .k) (l .inv) (c .before .loop-test .taken)
+
+add-k : tie.Need-add-k Inv-loop μ-loop
+add-k c = omega (arith, c .before .before .before .before .before .before .before .before .pre .few, c .before .before .before .before .loop-test .taken)
+
+loop-less : tie.Need-loop-less Inv-loop μ-loop
+loop-less c = omega (arith, c .before .before .before .before .loop-test .taken)
+
+loop-again : tie.Need-loop-again Inv-loop μ-loop
+loop-again c =
+    let s = c .before .before .before .before .before .before .before .before in
+    let a = s .args in
+    let l = c .before .before .before .before .before .loop in
+    let put = c .before .before .put-map in
+    putting-turn (now (a .file)) (a .start) (a .count) (now (a .out)) (a .at) (s .pre) (l .out) (l .body) (l .k) (l .inv) (c .before .before .before .before .loop-test .taken) (put .ensures .0) (put .ensures .1)
+
+same-length : tie.Need-same-length Inv-loop μ-loop
+same-length c = c .before .loop .inv .long
+
+returns : tie.Need-returns Inv-loop μ-loop
+returns c =
+    let s = c .before .before .before .before in
+    let a = s .args in
+    let l = c .before .loop in
+    putting-done (now (a .file)) (a .start) (a .count) (now (a .out)) (a .at) (s .pre) (l .out) (l .body) (l .k) (l .inv) (c .loop-test .left)
+
+pub put-maps-spec : {M : Type 1} → statement M
+put-maps-spec =
+    tie.close
+    (tie.spec
+    Inv-loop
+    μ-loop
+    add-body
+    mul-body
+    add-body-2
+    loop-holds
+    put-map-requires
+    add-k
+    loop-less
+    loop-again
+    same-length
+    returns)
