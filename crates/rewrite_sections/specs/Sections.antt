@@ -1,0 +1,64 @@
+-- The sequences and the programs of the new file, told of the bytes of the old one.
+use Prim.Native.Nat.{ℕ, _+_, _*_, _^_, _<_, _≤_}
+use mathlib.Core.Path.{_≡_}
+use mathlib.Core.List.{List, _++_}
+use lib.ListN.{length, take, drop}
+use Rattle.format.specs.Bytes.{beAt, rowsAt, gather, endOf, flat}
+use Rattle.format.specs.ClipRecord.{atcStcCount, streamCount, atcsFrom, stcsFrom, sequencesEnd}
+use Rattle.format.specs.Programs.{programAt, nextProgram, streamAt, nextStream, programsFrom, streamsFrom, programsEnd}
+use Rattle.format.specs.Rewriting.{groups, sectionBytes, atcBytes, stcBytes, programBytes, streamBytes}
+use Rattle.rewrite_sections.specs.declared.Places.{Places}
+
+-- the n bytes of f from place p on
+abbrev pub part : List ℕ → ℕ → ℕ → List ℕ
+part f p n = take n (drop p f)
+
+-- ---- sequences
+
+-- the new section of the sequences that start at `start`
+unfoldable pub newSequences : List ℕ → ℕ → List ℕ
+newSequences f start = sectionBytes (length (atcsFrom f start)) (groups atcBytes atcStcCount stcBytes (atcsFrom f start) (stcsFrom f start))
+
+-- the section ends within the file and has these counts, its length fits four bytes, and the output has room for it
+pub record SequencesRoom (f : List ℕ) (start atcs stcs : ℕ) (out : List ℕ) (at : ℕ) : Type 0 where
+  pub ends : sequencesEnd f start ≤ length f
+  pub atcs-are : atcs ≡ length (atcsFrom f start)
+  pub stcs-are : stcs ≡ length (stcsFrom f start)
+  pub short : 6 + 6 * atcs + 14 * stcs < 2 ^ 32
+  pub room : at + (6 + 6 * atcs + 14 * stcs) ≤ length out
+
+-- ---- programs
+
+-- the new bytes of the n streams at p, and where they end: in the old file, and in an output that has them from `at` on
+abbrev pub newStreams : List ℕ → ℕ → ℕ → List ℕ
+newStreams f p n = flat streamBytes (rowsAt (streamAt f) (nextStream f) p n)
+
+abbrev pub streamsBehind : List ℕ → ℕ → ℕ → ℕ → Places
+streamsBehind f p n at = record { file = endOf (nextStream f) p n; out = at + length (newStreams f p n) }
+
+-- the same of the program at p with its streams
+abbrev pub newProgram : List ℕ → ℕ → List ℕ
+newProgram f p = programBytes (programAt f p) ++ newStreams f (p + 8) (beAt f (p + 6) 1)
+
+abbrev pub programBehind : List ℕ → ℕ → ℕ → Places
+programBehind f p at = record { file = nextProgram f p; out = at + length (newProgram f p) }
+
+-- the new bytes of the n programs at p
+abbrev pub newItems : List ℕ → ℕ → ℕ → List ℕ
+newItems f p n = gather (newProgram f) (nextProgram f) p n
+
+-- the new section of the programs that start at `start`
+unfoldable pub newPrograms : List ℕ → ℕ → List ℕ
+newPrograms f start = sectionBytes (length (programsFrom f start)) (groups programBytes streamCount streamBytes (programsFrom f start) (streamsFrom f start))
+
+-- the section ends within the file, and the length of the new one fits four bytes
+pub record ProgramsShort (f : List ℕ) (start : ℕ) : Type 0 where
+  pub ends : programsEnd f start ≤ length f
+  pub short : length (newPrograms f start) < 2 ^ 32
+
+-- besides, `size` is that length, and the output has room for it
+pub record ProgramsRoom (f : List ℕ) (start size : ℕ) (out : List ℕ) (at : ℕ) : Type 0 where
+  pub ends : programsEnd f start ≤ length f
+  pub size-is : size ≡ length (newPrograms f start)
+  pub short : size < 2 ^ 32
+  pub room : at + size ≤ length out
