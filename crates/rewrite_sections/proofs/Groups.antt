@@ -6,7 +6,7 @@ use native.Mathlib.Nat.{le-trans}
 use native.Mathlib.Omega.{arith}
 use lib.ListN.{length, length-append}
 use lib.Seq.{sets, length-sets, take-at, drop-at}
-use Rattle.format.specs.Bytes.{IsBytes, beAt, fieldBytes, rowsAt, gather, endOf, flat}
+use Rattle.format.specs.Bytes.{IsBytes, beAt, rowsAt, gather, endOf, flat}
 use Rattle.format.specs.ClipRecord.{Row, atcStcCount, streamCount, sequencesStart, programsStart, atcAt, stcAt, nextStc, stcsOf, nextAtc, atcsFrom, stcsFrom, sequencesEnd}
 use Rattle.format.specs.Programs.{programAt, streamAt, nextStream, streamsOf, nextProgram, programsFrom, streamsFrom, programsEnd}
 use Rattle.format.specs.Reading.{clipOf}
@@ -15,9 +15,8 @@ use Rattle.format.proofs.Loops.{end-ge}
 use Rattle.format.proofs.Places.{up-stc, atc-head, up-atc, up-program}
 use Rattle.format.proofs.Rows.{rows-length}
 use Rattle.format.proofs.Sweep.{end-steps}
-use Rattle.row_bytes.proofs.Fields.{part-then, atc-length, program-length}
-use Rattle.rewrite_sections.specs.Sections.{part, newSequences, newStreams, streamsBehind, newProgram, programBehind, newItems, newPrograms}
-use Rattle.rewrite_sections.specs.declared.Places.{Places}
+use Rattle.row_bytes.proofs.Fields.{part-then, sectionHead, section-head}
+use Rattle.rewrite_sections.specs.Sections.{part, newSequences, newItems, newPrograms}
 use Rattle.rewrite_sections.proofs.Parts.{part-length, part-two, fields-part, items-part}
 
 -- ---- any kind of items
@@ -87,7 +86,7 @@ module _ (f : List ℕ) (start : ℕ) where
 
   -- the new section: the front, and the bytes of the file
   pub sequences-are : IsBytes f → sequencesEnd f start ≤ length f → {atcs stcs : ℕ} → atcs ≡ length (atcsFrom f start) → stcs ≡ length (stcsFrom f start)
-      → newSequences f start ≡ fieldBytes (4 ∷ 1 ∷ 1 ∷ []) ((2 + (6 * atcs + 14 * stcs)) ∷ 0 ∷ atcs ∷ []) ++ part f (start + 6) (6 * atcs + 14 * stcs)
+      → newSequences f start ≡ sectionHead (2 + (6 * atcs + 14 * stcs)) atcs ++ part f (start + 6) (6 * atcs + 14 * stcs)
   unfolding newSequences
   sequences-are bytes h {atcs} {stcs} a b =
       let items = 6 * atcs + 14 * stcs in
@@ -98,55 +97,9 @@ module _ (f : List ℕ) (start : ℕ) where
 
 -- ---- programs
 
--- places, by other words for each
-pub places-are : {file file′ out out′ : ℕ} → file ≡ file′ → out ≡ out′ → _≡_ {A = Places} (record { file = file; out = out }) (record { file = file′; out = out′ })
-places-are e h = rw (e, h)
-
--- a row that was stored, and the place behind it, by other words for its cells
-pub row-as : (bytes : Row → List ℕ) (o : List ℕ) (at : ℕ) {row row′ : Row} {o′ : List ℕ} {r : ℕ} → row ≡ row′
-    → (r ≡ at + length (bytes row)) × (o′ ≡ sets o at (bytes row)) → (r ≡ at + length (bytes row′)) × (o′ ≡ sets o at (bytes row′))
-row-as bytes o at e h = rw e at h
-
-module _ (f : List ℕ) (p : ℕ) {n : ℕ} (count : n ≡ beAt f (p + 6) 1) where
-  -- a program takes eight bytes, and then its streams
-  pub program-long : length (newProgram f p) ≡ 8 + length (newStreams f (p + 8) n)
-  program-long =
-      let head = programAt f p in
-      rw count (length-append (programBytes head) (newStreams f (p + 8) (beAt f (p + 6) 1)) ∙ rw (program-length (beAt f p 4) (beAt f (p + 4) 2) (beAt f (p + 6) 1)))
-
-  -- where its streams end, it ends
-  pub program-ends : (at : ℕ) {to : ℕ} {r : Places} → to ≡ at + 8 → r ≡ streamsBehind f (p + 8) n to → r ≡ programBehind f p at
-  program-ends at place e = e ∙ places-are (ap (endOf (nextStream f) (p + 8)) count) (omega (arith, place, program-long))
-
-  -- where it ends within the file, they do
-  pub streams-within : nextProgram f p ≤ length f → endOf (nextStream f) (p + 8) n ≤ length f
-  streams-within h = rw count h
-
-  -- its own bytes are stored from `at` on, with the place `to` behind them
-  module _ (o : List ℕ) (at : ℕ) {row : Row} {to : ℕ} {o′ : List ℕ} (is : row ≡ programAt f p)
-      (put : (to ≡ at + length (programBytes row)) × (o′ ≡ sets o at (programBytes row))) where
-    pub head-place : to ≡ at + 8
-    head-place = row-as programBytes o at is put .0 ∙ ap (λ (k : ℕ). at + k) (program-length (beAt f p 4) (beAt f (p + 4) 2) (beAt f (p + 6) 1))
-
-    -- then its streams have room
-    pub streams-room : at + length (newProgram f p) ≤ length o → to + length (newStreams f (p + 8) n) ≤ length o′
-    streams-room h = rw (put .1, length-sets o at (programBytes row)) (omega (arith, head-place, program-long))
-
-    -- and stored behind it make the whole
-    pub streams-put : {o″ : List ℕ} → o″ ≡ sets o′ to (newStreams f (p + 8) n) → o″ ≡ sets o at (newProgram f p)
-    streams-put e =
-        let head = row-as programBytes o at is put in
-        part-then o at (length (programBytes (programAt f p))) (programBytes (programAt f p)) (newStreams f (p + 8) n) refl (head .0) (head .1) e
-        ∙ ap (λ (k : ℕ). sets o at (programBytes (programAt f p) ++ newStreams f (p + 8) k)) count
-
--- a program's own bytes have room where it has
-pub head-room : (f : List ℕ) (p : ℕ) (o : List ℕ) (at : ℕ) {row : Row} → row ≡ programAt f p → at + length (newProgram f p) ≤ length o
-    → at + length (programBytes row) ≤ length o
-head-room f p o at e h = rw e (omega (arith, length-append (programBytes (programAt f p)) (newStreams f (p + 8) (beAt f (p + 6) 1))))
-
 module _ (f : List ℕ) (start : ℕ) {n : ℕ} (count : n ≡ beAt f (start + 5) 1) where
   -- the new section: the front, and the programs with their streams
-  pub programs-are : newPrograms f start ≡ fieldBytes (4 ∷ 1 ∷ 1 ∷ []) ((2 + length (newItems f (start + 6) n)) ∷ 0 ∷ n ∷ []) ++ newItems f (start + 6) n
+  pub programs-are : newPrograms f start ≡ sectionHead (2 + length (newItems f (start + 6) n)) n ++ newItems f (start + 6) n
   unfolding newPrograms programsFrom streamsFrom
   programs-are =
       let m = beAt f (start + 5) 1 in
@@ -157,7 +110,7 @@ module _ (f : List ℕ) (start : ℕ) {n : ℕ} (count : n ≡ beAt f (start + 5
   pub programs-long : length (newPrograms f start) ≡ 6 + length (newItems f (start + 6) n)
   programs-long =
       let items = newItems f (start + 6) n in
-      ap length programs-are ∙ length-append (fieldBytes (4 ∷ 1 ∷ 1 ∷ []) ((2 + length items) ∷ 0 ∷ n ∷ [])) items ∙ rw (atc-length (2 + length items) 0 n)
+      ap length programs-are ∙ length-append (sectionHead (2 + length items) n) items ∙ rw (section-head (2 + length items) n)
 
   -- once the front is stored, the items have room
   pub items-room : {size : ℕ} → size ≡ length (newPrograms f start) → (o : List ℕ) (at : ℕ) (front : List ℕ) {o′ : List ℕ} → at + size ≤ length o
@@ -166,13 +119,13 @@ module _ (f : List ℕ) (start : ℕ) {n : ℕ} (count : n ≡ beAt f (start + 5
 
   -- the front is stored, and the items behind it
   pub programs-put : {size : ℕ} → size ≡ length (newPrograms f start) → (o : List ℕ) (at : ℕ) {o′ o″ : List ℕ}
-      → o′ ≡ sets o at (fieldBytes (4 ∷ 1 ∷ 1 ∷ []) ((size - 4) ∷ 0 ∷ n ∷ [])) → o″ ≡ sets o′ (at + 6) (newItems f (start + 6) n)
+      → o′ ≡ sets o at (sectionHead (size - 4) n) → o″ ≡ sets o′ (at + 6) (newItems f (start + 6) n)
       → o″ ≡ sets o at (newPrograms f start)
   programs-put {size} long o at e h =
       let items = newItems f (start + 6) n in
       let rest : size - 4 ≡ 2 + length items = omega (arith, long, programs-long) in
-      part-then o at 6 (fieldBytes (4 ∷ 1 ∷ 1 ∷ []) ((size - 4) ∷ 0 ∷ n ∷ [])) items (atc-length (size - 4) 0 n) refl e h
-      ∙ ap (λ (k : ℕ). sets o at (fieldBytes (4 ∷ 1 ∷ 1 ∷ []) (k ∷ 0 ∷ n ∷ []) ++ items)) rest
+      part-then o at 6 (sectionHead (size - 4) n) items (section-head (size - 4) n) refl e h
+      ∙ ap (λ (k : ℕ). sets o at (sectionHead k n ++ items)) rest
       ∙ ap (sets o at) (sym programs-are)
 
   -- the items end within the file, and so does the front

@@ -1,13 +1,13 @@
 -- The sequences and the programs of the new file, told of the bytes of the old one.
 use Prim.Native.Nat.{ℕ, _+_, _*_, _^_, _<_, _≤_}
 use mathlib.Core.Path.{_≡_}
-use mathlib.Core.List.{List, _++_}
+use mathlib.Core.List.{List}
 use lib.ListN.{length, take, drop}
-use Rattle.format.specs.Bytes.{beAt, rowsAt, gather, endOf, flat}
+use Rattle.format.specs.Bytes.{gather}
 use Rattle.format.specs.ClipRecord.{atcStcCount, streamCount, atcsFrom, stcsFrom, sequencesEnd}
-use Rattle.format.specs.Programs.{programAt, nextProgram, streamAt, nextStream, programsFrom, streamsFrom, programsEnd}
+use Rattle.format.specs.Programs.{nextProgram, programsFrom, streamsFrom, programsEnd}
 use Rattle.format.specs.Rewriting.{groups, sectionBytes, atcBytes, stcBytes, programBytes, streamBytes}
-use Rattle.rewrite_sections.specs.declared.Places.{Places}
+use Rattle.rewrite_program.specs.Programs.{newProgram}
 
 -- the n bytes of f from place p on
 abbrev pub part : List ℕ → ℕ → ℕ → List ℕ
@@ -28,20 +28,6 @@ pub record SequencesRoom (f : List ℕ) (start atcs stcs : ℕ) (out : List ℕ)
   pub room : at + (6 + 6 * atcs + 14 * stcs) ≤ length out
 
 -- ---- programs
-
--- the new bytes of the n streams at p, and where they end: in the old file, and in an output that has them from `at` on
-abbrev pub newStreams : List ℕ → ℕ → ℕ → List ℕ
-newStreams f p n = flat streamBytes (rowsAt (streamAt f) (nextStream f) p n)
-
-abbrev pub streamsBehind : List ℕ → ℕ → ℕ → ℕ → Places
-streamsBehind f p n at = record { file = endOf (nextStream f) p n; out = at + length (newStreams f p n) }
-
--- the same of the program at p with its streams
-abbrev pub newProgram : List ℕ → ℕ → List ℕ
-newProgram f p = programBytes (programAt f p) ++ newStreams f (p + 8) (beAt f (p + 6) 1)
-
-abbrev pub programBehind : List ℕ → ℕ → ℕ → Places
-programBehind f p at = record { file = nextProgram f p; out = at + length (newProgram f p) }
 
 -- the new bytes of the n programs at p
 abbrev pub newItems : List ℕ → ℕ → ℕ → List ℕ

@@ -9,9 +9,11 @@ use lib.Seq.{sets, length-sets}
 use Rattle.format.specs.Bytes.{rowsAt, flat}
 use Rattle.format.specs.ClipRecord.{Row}
 use Rattle.format.proofs.Loops.{one-left, none-left, put-more}
+use Rattle.row_bytes.proofs.Fields.{part-then}
 
--- ---- an output while bytes are stored: those that are left have room from `at` on, and put there give the whole, up to its end
+-- ---- an output while bytes are stored
 
+-- those that are left have room from `at` on, and put there give the whole, up to its end
 pub record Storing (o₀ whole : List ℕ) (end : ℕ) (left o : List ℕ) (at : ℕ) : Type 0 where
   pub long : length o ≡ length o₀
   pub room : end ≤ length o
@@ -44,6 +46,22 @@ module _ {o₀ whole : List ℕ} {end : ℕ} {left o : List ℕ} {at : ℕ} (s :
   pub storing-done : left ≡ [] → (at ≡ end) × (o ≡ whole)
   storing-done e = (sym (add-zero at) ∙ rw e at (s .behind), rw e at (s .rest))
 
+-- ---- two parts, one behind the other, for which there is room
+
+module _ (o a b : List ℕ) (at : ℕ) (room : at + length (a ++ b) ≤ length o) where
+  -- the first has room
+  pub first-room : at + length a ≤ length o
+  first-room = omega (arith, length-append a b)
+
+  module _ {o′ : List ℕ} {to : ℕ} (place : to ≡ at + length a) (first : o′ ≡ sets o at a) where
+    -- the first is stored, and the second has room
+    pub second-room : to + length b ≤ length o′
+    second-room = omega (arith, length-append a b, ap length first, length-sets o at a)
+
+    -- both are stored
+    pub both-stored : {o″ : List ℕ} {end : ℕ} → (end ≡ to + length b) × (o″ ≡ sets o′ to b) → (end ≡ at + length (a ++ b)) × (o″ ≡ sets o at (a ++ b))
+    both-stored s = (omega (arith, s .0, length-append a b), part-then o at (length a) a b refl place first (s .1))
+
 -- ---- rows: `row q` is the row at q, and `next q` where the one behind it stands
 
 module _ (row : ℕ → Row) (next : ℕ → ℕ) (bytes : Row → List ℕ) (q n : ℕ) where
@@ -51,10 +69,11 @@ module _ (row : ℕ → Row) (next : ℕ → ℕ) (bytes : Row → List ℕ) (q 
   abbrev pub rowsLeft : ℕ → List ℕ
   rowsLeft k = flat bytes (rowsAt row next q (n - k))
 
-  -- before the first turn all are left, at the end none
+  -- before the first turn all are left
   pub rows-all : rowsLeft 0 ≡ flat bytes (rowsAt row next q n)
   rows-all = rw (sub-zero n)
 
+  -- at the end none
   pub rows-none : (k : ℕ) → n ≤ k → rowsLeft k ≡ []
   rows-none k h = rw (none-left n k h)
 
@@ -76,6 +95,7 @@ module _ (row : ℕ → Row) (next : ℕ → ℕ) (bytes : Row → List ℕ) {o�
 -- ---- lengths added up: what was added and what is left is all
 
 module _ (row : ℕ → Row) (next : ℕ → ℕ) (bytes : Row → List ℕ) (whole : ℕ) where
+  -- after k of n rows the sum, with what is left from q on, is the whole
   abbrev pub Adding : (sum q n k : ℕ) → Type 0
   Adding sum q n k = sum + length (rowsLeft row next bytes q n k) ≡ whole
 

@@ -13,8 +13,9 @@ use Rattle.format.proofs.Places.{up-program}
 use Rattle.format.proofs.Rows.{as-is}
 use Rattle.format.proofs.Sweep.{Along, along-first, along-turn, along-within}
 use Rattle.row_bytes.proofs.Storing.{Storing, storing-first, storing-done, rowsLeft, rows-all, rows-none, row-room, row-put}
-use Rattle.rewrite_sections.specs.Sections.{newProgram, newItems}
-use Rattle.rewrite_sections.specs.declared.Places.{Places}
+use Rattle.rewrite_program.specs.Programs.{newProgram}
+use Rattle.rewrite_program.specs.declared.Places.{Places}
+use Rattle.rewrite_sections.specs.Sections.{newItems}
 use Rattle.rewrite_sections.proofs.Groups.{flat-gather}
 use borrow.Author.Needs.{needs}
 use Rattle.rewrite_sections.proofs.put_items.Statement.{statement}

@@ -1,11 +1,10 @@
 -- The front is stored, and behind it the programs with their streams.
 use Prim.Native.Nat.{_+_, _-_, _≤_}
 use mathlib.Core.Path.{refl}
-use mathlib.Core.List.{[], _∷_}
 use native.Mathlib.Omega.{arith}
 use denote.Ref.{now}
 use lib.ListN.{length}
-use Rattle.format.specs.Bytes.{fieldBytes}
+use Rattle.row_bytes.proofs.Fields.{sectionHead}
 use Rattle.rewrite_sections.proofs.Groups.{programs-long, items-room, programs-put, items-within, front-within}
 use borrow.Author.Needs.{needs}
 use Rattle.rewrite_sections.proofs.put_programs.Statement.{statement}
@@ -25,14 +24,14 @@ add-u8-at c = omega (arith, front (c .before .before))
 u8-at-requires : tie.Need-u8-at-requires
 u8-at-requires c κs = omega (arith, front (c .before .before))
 
-sub-put-front : tie.Need-sub-put-front
-sub-put-front c = omega (arith, long (c .before .before .before))
+sub-put-head : tie.Need-sub-put-head
+sub-put-head c = omega (arith, long (c .before .before .before))
 
-cast-put-front : tie.Need-cast-put-front
-cast-put-front c = search needs
+cast-put-head : tie.Need-cast-put-head
+cast-put-head c = search needs
 
-put-front-requires : tie.Need-put-front-requires
-put-front-requires c κs = omega (arith, long (c .before .before .before .before), c .before .before .before .before .pre .room)
+put-head-requires : tie.Need-put-head-requires
+put-head-requires c κs = omega (arith, long (c .before .before .before .before), c .before .before .before .before .pre .room)
 
 add-put-items : tie.Need-add-put-items
 add-put-items c = omega (arith, front (c .before .before .before .before .before .before .before))
@@ -50,8 +49,8 @@ put-items-requires c κs =
     let f = now (a .file) in
     let count = c .before .before .before .before .before .u8-at .ensures .same in (
       items-within f (a .start) count (s .pre .ends),
-      items-room f (a .start) count (s .pre .size-is) (now (a .out)) (a .at) (fieldBytes (4 ∷ 1 ∷ 1 ∷ []) ((a .size - 4) ∷ 0 ∷ c .before .before .before .before .before .u8-at .result ∷ [])) (s .pre .room)
-          (c .before .before .before .put-front .ensures),
+      items-room f (a .start) count (s .pre .size-is) (now (a .out)) (a .at) (sectionHead (a .size - 4) (c .before .before .before .before .before .u8-at .result)) (s .pre .room)
+          (c .before .before .before .put-head .ensures),
     )
 
 same-length : tie.Need-same-length
@@ -65,7 +64,7 @@ returns c =
     let count = c .before .before .before .before .before .before .before .before .u8-at .ensures .same in
     let put = c .before .before .put-items .ensures in (
       omega (arith, put .0, s .pre .size-is, programs-long f (a .start) count),
-      programs-put f (a .start) count (s .pre .size-is) (now (a .out)) (a .at) (c .before .before .before .before .before .before .put-front .ensures) (put .1),
+      programs-put f (a .start) count (s .pre .size-is) (now (a .out)) (a .at) (c .before .before .before .before .before .before .put-head .ensures) (put .1),
     )
 
 pub put-programs-spec : {M : Type 1} → statement M
@@ -74,9 +73,9 @@ put-programs-spec =
     (tie.spec
     add-u8-at
     u8-at-requires
-    sub-put-front
-    cast-put-front
-    put-front-requires
+    sub-put-head
+    cast-put-head
+    put-head-requires
     add-put-items
     cast-put-items
     add-put-items-2

@@ -1,13 +1,11 @@
 -- The front is stored, and behind it the bytes of the file, which are the items.
 use Prim.Native.Nat.{_+_, _*_, _≤_}
 use mathlib.Core.Path.{refl, sym, ap, _∙_}
-use mathlib.Core.List.{[], _∷_}
 use native.Mathlib.Omega.{arith}
 use denote.Ref.{now}
 use lib.ListN.{length}
 use lib.Seq.{sets}
-use Rattle.format.specs.Bytes.{fieldBytes}
-use Rattle.row_bytes.proofs.Fields.{part-then, atc-length}
+use Rattle.row_bytes.proofs.Fields.{part-then, sectionHead, section-head}
 use Rattle.rewrite_sections.specs.Sections.{part}
 use Rattle.rewrite_sections.proofs.Groups.{sequences-end, sequences-are}
 use borrow.Author.Needs.{needs}
@@ -27,17 +25,17 @@ mul-items-2 c = search needs
 add-items : tie.Need-add-items
 add-items c = search needs
 
-add-put-front : tie.Need-add-put-front
-add-put-front c = search needs
+add-put-head : tie.Need-add-put-head
+add-put-head c = search needs
 
-cast-put-front : tie.Need-cast-put-front
-cast-put-front c = search needs
+cast-put-head : tie.Need-cast-put-head
+cast-put-head c = search needs
 
-cast-put-front-2 : tie.Need-cast-put-front-2
-cast-put-front-2 c = search needs
+cast-put-head-2 : tie.Need-cast-put-head-2
+cast-put-head-2 c = search needs
 
-put-front-requires : tie.Need-put-front-requires
-put-front-requires c κs = search needs
+put-head-requires : tie.Need-put-head-requires
+put-head-requires c κs = search needs
 
 add-copy : tie.Need-add-copy
 add-copy c = omega (arith, within (c .before .before .before .before .before .before))
@@ -65,8 +63,8 @@ returns c =
     let items = 6 * a .atcs + 14 * a .stcs in
     let is = sequences-are f (a .start) (λ i. c .before .before .before .before .before .before .before .before .before .shared-slice-known .given i .fits) (s .pre .ends) (s .pre .atcs-are) (s .pre .stcs-are) in (
       omega arith,
-      part-then (now (a .out)) (a .at) 6 (fieldBytes (4 ∷ 1 ∷ 1 ∷ []) ((2 + items) ∷ 0 ∷ a .atcs ∷ [])) (part f (a .start + 6) items) (atc-length (2 + items) 0 (a .atcs)) refl
-          (c .before .before .before .before .before .before .put-front .ensures) (c .before .before .copy .ensures)
+      part-then (now (a .out)) (a .at) 6 (sectionHead (2 + items) (a .atcs)) (part f (a .start + 6) items) (section-head (2 + items) (a .atcs)) refl
+          (c .before .before .before .before .before .before .put-head .ensures) (c .before .before .copy .ensures)
           ∙ ap (sets (now (a .out)) (a .at)) (sym is),
     )
 
@@ -77,10 +75,10 @@ put-sequences-spec =
     mul-items
     mul-items-2
     add-items
-    add-put-front
-    cast-put-front
-    cast-put-front-2
-    put-front-requires
+    add-put-head
+    cast-put-head
+    cast-put-head-2
+    put-head-requires
     add-copy
     add-copy-2
     copy-requires

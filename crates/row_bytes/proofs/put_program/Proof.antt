@@ -5,7 +5,7 @@ use mathlib.Core.List.{[], _∷_}
 use native.Mathlib.Nat.{add-assoc}
 use denote.Ref.{now}
 use Rattle.format.specs.Bytes.{bytesOf, fieldBytes}
-use Rattle.row_bytes.specs.Kinds.{row3}
+use Rattle.row_values.specs.Kinds.{row3}
 use Rattle.row_bytes.proofs.Fields.{part-then, field-then, field-last, program-fields}
 use borrow.Author.Needs.{needs}
 use Rattle.row_bytes.proofs.put_program.Statement.{statement}

@@ -1,5 +1,5 @@
 -- Each kind is stored by its own function, at its own length.
-use Rattle.row_bytes.proofs.Fields.{atc-length, stc-length, program-length}
+use Rattle.row_values.proofs.Lengths.{atc-length, stc-length, program-length}
 use borrow.Author.Needs.{needs}
 use Rattle.row_bytes.proofs.put_row.Statement.{statement}
 use Rattle.row_bytes.proofs.put_row.Tie as tie

@@ -1,16 +1,16 @@
 -- Each of the three forms has its own length and bytes: the common head, and what the form has behind it.
 use Prim.Native.Nat.{_+_, _*_, _/_, _%_, _≤_}
-use mathlib.Core.Path.{_≡_, refl, sym, ap, _∙_}
+use mathlib.Core.Path.{_≡_, refl, sym}
 use mathlib.Core.List.{_++_}
 use native.Mathlib.Nat.{add-assoc}
 use native.Mathlib.Omega.{arith}
 use denote.Ref.{now}
 use lib.ListN.{length}
-use lib.Seq.{sets}
 use Rattle.format.specs.Bytes.{bytesOf}
 use Rattle.format.specs.Rewriting.{streamBytes}
-use Rattle.row_bytes.specs.Kinds.{row5}
-use Rattle.row_bytes.proofs.Fields.{part-then, field-then, streamHead, head-length, video-bytes, video-length, short-bytes, short-length, tagged-bytes, tagged-length}
+use Rattle.row_values.specs.Kinds.{row5}
+use Rattle.row_values.proofs.Lengths.{video-length, short-length, tagged-length}
+use Rattle.row_bytes.proofs.Fields.{part-then, field-then, streamHead, head-length, video-bytes, short-bytes, tagged-bytes}
 use borrow.Author.Needs.{needs}
 use Rattle.row_bytes.proofs.put_stream.Statement.{statement}
 use Rattle.row_bytes.proofs.put_stream.Tie as tie
@@ -67,8 +67,7 @@ returns c =
     let is = video-bytes (r .cell0) (r .cell1) (r .cell2) (r .cell3) (r .cell4) (t .before .is-video .ensures) (t .if1 .taken) in
     let head = streamHead (r .cell0) 3 (r .cell1) (r .cell2) in (
       rw (video-long t),
-      part-then (now (a .out)) (a .at) 5 head (bytesOf 1 (r .cell3 % 16 * 16)) (head-length (r .cell0) 3 (r .cell1) (r .cell2)) refl (c .before .before .before .before .before .before .before .put-stream-head .ensures) (c .before .before .put-u8 .ensures)
-          ∙ ap (sets (now (a .out)) (a .at)) (sym is),
+      rw is (part-then (now (a .out)) (a .at) 5 head (bytesOf 1 (r .cell3 % 16 * 16)) (head-length (r .cell0) 3 (r .cell1) (r .cell2)) refl (c .before .before .before .before .before .before .before .put-stream-head .ensures) (c .before .before .put-u8 .ensures)),
     )
 
 put-stream-head-requires-2 : tie.Need-put-stream-head-requires-2
@@ -86,7 +85,7 @@ returns-2 c =
     let a = t .before .before .before .before .before .args in
     let r = a .row in
     let is = short-bytes (r .cell0) (r .cell1) (r .cell2) (r .cell3) (r .cell4) (t .before .before .before .is-video .ensures) (t .before .before .if1 .left) (t .if2 .taken) in
-    (rw (short-long t), c .before .before .put-stream-head2 .ensures ∙ ap (sets (now (a .out)) (a .at)) (sym is))
+    (rw (short-long t), rw is (c .before .before .put-stream-head2 .ensures))
 
 put-stream-head-requires-3 : tie.Need-put-stream-head-requires-3
 put-stream-head-requires-3 c κs = omega (arith, tagged-room (c .before))

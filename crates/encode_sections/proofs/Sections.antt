@@ -1,0 +1,103 @@
+-- Whole sections: those of a record, how long they are, and the two parts that are stored.
+use Prim.Native.Nat.{ℕ, _+_, _*_, _-_, _≤_}
+use mathlib.Core.Path.{_≡_, refl, sym, ap, _∙_}
+use mathlib.Core.List.{List, _++_}
+use mathlib.Core.Bool.{true}
+use native.Mathlib.Omega.{arith}
+use lib.ListN.{length}
+use borrow.Author.Tests.{leb-true, eqb-true}
+use Rattle.format.specs.Bytes.{both, flat, total}
+use Rattle.format.specs.ClipRecord.{Clip}
+use Rattle.format.specs.Rewriting.{sequencesBytes, programsBytes}
+use Rattle.format.specs.Tables.{cellsAt, tableRows, rowRoom, stcCells, streamCells, isStated, addUp}
+use Rattle.format.proofs.Rows.{rows-length}
+use Rattle.format.proofs.Sections.{section-length}
+use Rattle.format.proofs.Tests.{both-true}
+use Rattle.queries.specs.Asked.{stated}
+use Rattle.table_rows.specs.OwnRows.{headCells, cellIn, isCounted}
+use Rattle.row_bytes.proofs.Fields.{sectionHead}
+use Rattle.row_values.specs.Kinds.{cellsOf, bytesBy}
+use Rattle.encode_sections.specs.Sections.{headKind, rowKind, countOf, itemsOf, sectionOf, headsIn, ownIn, itemsIn, sectionIn, Counted, Storable}
+use Rattle.encode_sections.specs.declared.Section.{Section}
+use Rattle.encode_sections.proofs.Groups.{groups-length}
+
+-- ---- the sections of a record
+
+-- the sequences
+pub sequences-are : (c : Clip) → sequencesBytes c ≡ sectionOf Section.Sequences (c .atcs) (c .stcs)
+unfolding sequencesBytes
+sequences-are c = refl
+
+-- the programs
+pub programs-are : (c : Clip) → programsBytes c ≡ sectionOf Section.Programs (c .programs) (c .streams)
+unfolding programsBytes
+programs-are c = refl
+
+-- ---- a section in tables
+
+-- a table has as many rows as are asked of it
+rows-stated : (cells : ℕ) (t : List ℕ) (n : ℕ) → length (tableRows cells t n) ≡ n
+unfolding tableRows
+rows-stated cells t n = rows-length (cellsAt t cells) (λ p. p + 4 * cells) 0 n
+
+module _ {section : Section} {heads : List ℕ} {n : ℕ} {rows : List ℕ} {m : ℕ} (c : Counted section heads n rows m) where
+  -- six bytes, the header rows and the rows
+  pub section-is-long : {a b : ℕ} → a ≡ length (flat (bytesBy (headKind section)) (headsIn section heads n)) → b ≡ length (flat (bytesBy (rowKind section)) (ownIn section rows m))
+      → 6 + a + b ≡ length (sectionIn section heads n rows m)
+  section-is-long ea eb =
+      let hs = headsIn section heads n in
+      let rs = ownIn section rows m in
+      let adds : total (countOf section) hs ≡ length rs = c .adds ∙ sym (rows-stated (cellsOf (rowKind section)) rows m) in
+      omega (arith, ea, eb, section-length (length hs) (itemsOf section hs rs), groups-length (bytesBy (headKind section)) (countOf section) (bytesBy (rowKind section)) hs rs adds)
+
+  -- the rows that the header rows count are those that are stated
+  pub items-are : itemsIn section heads n rows ≡ itemsOf section (headsIn section heads n) (ownIn section rows m)
+  items-are = ap (λ (k : ℕ). itemsOf section (headsIn section heads n) (ownIn section rows k)) (c .adds)
+
+-- ---- tables that were counted: the rows are there, and the counts add up
+
+module _ (cell cells : ℕ) (heads : List ℕ) (n : ℕ) (rows : List ℕ) (m : ℕ) (h : isCounted cell cells (stated heads n) (stated rows m) ≡ true) where
+  -- what the tests say
+  counted-parts : (n ≤ rowRoom headCells heads) × (m ≤ rowRoom cells rows) × (total (cellIn cell) (tableRows headCells heads n) ≡ m)
+  unfolding isCounted
+  counted-parts =
+      let tables = both (isStated headCells (stated heads n)) (both (isStated cells (stated rows m)) true) in
+      let whole = both-true tables (addUp (cellIn cell) (tableRows headCells heads n) (tableRows cells rows m)) h in
+      let there = both-true (isStated headCells (stated heads n)) (both (isStated cells (stated rows m)) true) (whole .0) in (
+        leb-true n (rowRoom headCells heads) (there .0),
+        leb-true m (rowRoom cells rows) (both-true (isStated cells (stated rows m)) true (there .1) .0),
+        eqb-true (total (cellIn cell) (tableRows headCells heads n)) (length (tableRows cells rows m)) (whole .1) ∙ rows-stated cells rows m,
+      )
+
+module _ (heads : List ℕ) (n : ℕ) (rows : List ℕ) (m : ℕ) where
+  -- ATCs and STCs: the count is in cell 1
+  pub sequences-counted : isCounted 1 stcCells (stated heads n) (stated rows m) ≡ true → Counted Section.Sequences heads n rows m
+  sequences-counted h =
+      let c = counted-parts 1 stcCells heads n rows m h in
+      record { heads-there = c .0; rows-there = c .1; adds = c .2 }
+
+  -- programs and streams: the count is in cell 2
+  pub programs-counted : isCounted 2 streamCells (stated heads n) (stated rows m) ≡ true → Counted Section.Programs heads n rows m
+  programs-counted h =
+      let c = counted-parts 2 streamCells heads n rows m h in
+      record { heads-there = c .0; rows-there = c .1; adds = c .2 }
+
+-- ---- the two parts that are stored
+
+module _ {section : Section} {heads : List ℕ} {n : ℕ} {rows : List ℕ} {m len : ℕ} {out : List ℕ} {at : ℕ} (s : Storable section heads n rows m len out at) where
+  -- its length: the six bytes, and the items
+  pub items-long : len ≡ 6 + length (itemsIn section heads n rows)
+  items-long =
+      let items = itemsOf section (headsIn section heads n) (ownIn section rows m) in
+      omega (arith, s .is-long, section-length (length (headsIn section heads n)) items, ap length (items-are (s .counted)))
+
+  -- the head with the length of what follows, and the items
+  pub section-parts : sectionHead (len - 4) n ++ itemsIn section heads n rows ≡ sectionIn section heads n rows m
+  section-parts =
+      let items = itemsOf section (headsIn section heads n) (ownIn section rows m) in
+      let size : len - 4 ≡ 2 + length items = omega (arith, items-long, ap length (items-are (s .counted))) in
+      rw (items-are (s .counted), size, rows-stated (cellsOf (headKind section)) heads n)
+
+  -- there is room for both
+  pub parts-room : at + length (sectionHead (len - 4) n ++ itemsIn section heads n rows) ≤ length out
+  parts-room = rw (section-parts, ← s .is-long) (s .room)
