@@ -41,7 +41,10 @@ put-streams-requires c κs =
     let f = now (a .file) in
     let count = c .before .u8-at .ensures .same in
     let is = c .before .before .before .before .before .before .program-row .ensures in
-    (streams-within f (a .p) count (t .pre .0), streams-room f (a .p) count (now (a .out)) (a .at) is (c .before .before .before .before .put-row .ensures) (t .pre .1))
+    let head = c .before .before .before .before .put-row .ensures in
+    let place = head-place f (a .p) count (now (a .out)) (a .at) is head in
+    let room = streams-room f (a .p) count (now (a .out)) (a .at) is head (t .pre .1) in
+    (streams-within f (a .p) count (t .pre .0), omega arith)
 
 same-length : tie.Need-same-length
 same-length c = search needs

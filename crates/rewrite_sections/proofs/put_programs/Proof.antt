@@ -47,11 +47,9 @@ put-items-requires c κs =
     let s = c .before .before .before .before .before .before .before .before in
     let a = s .args in
     let f = now (a .file) in
-    let count = c .before .before .before .before .before .u8-at .ensures .same in (
-      items-within f (a .start) count (s .pre .ends),
-      items-room f (a .start) count (s .pre .size-is) (now (a .out)) (a .at) (sectionHead (a .size - 4) (c .before .before .before .before .before .u8-at .result)) (s .pre .room)
-          (c .before .before .before .put-head .ensures),
-    )
+    let count = c .before .before .before .before .before .u8-at .ensures .same in
+    let room = items-room f (a .start) count (s .pre .size-is) (now (a .out)) (a .at) (sectionHead (a .size - 4) (c .before .before .before .before .before .u8-at .result)) (s .pre .room) (c .before .before .before .put-head .ensures) in
+    (items-within f (a .start) count (s .pre .ends), omega arith)
 
 same-length : tie.Need-same-length
 same-length c = search needs

@@ -44,7 +44,7 @@ add-copy-2 : tie.Need-add-copy-2
 add-copy-2 c = search needs
 
 copy-requires : tie.Need-copy-requires
-copy-requires c κs = let s = c .before .before .before .before .before .before .before in (within s, search needs)
+copy-requires c κs = let s = c .before .before .before .before .before .before .before in (omega (arith, within s), search needs)
 
 add-result : tie.Need-add-result
 add-result c = search needs
