@@ -1,5 +1,5 @@
 -- The sequences and the programs of the new file, told of the bytes of the old one.
-use Prim.Native.Nat.{ℕ, _+_, _*_, _^_, _<_, _≤_}
+use Prim.Native.Nat.{ℕ, _+_, _*_, _≤_}
 use mathlib.Core.Path.{_≡_}
 use mathlib.Core.List.{List}
 use lib.ListN.{length, take, drop}
@@ -19,12 +19,11 @@ part f p n = take n (drop p f)
 unfoldable pub newSequences : List ℕ → ℕ → List ℕ
 newSequences f start = sectionBytes (length (atcsFrom f start)) (groups atcBytes atcStcCount stcBytes (atcsFrom f start) (stcsFrom f start))
 
--- the section ends within the file and has these counts, its length fits four bytes, and the output has room for it
+-- the section ends within the file and has these counts, and the output has room for the new one
 pub record SequencesRoom (f : List ℕ) (start atcs stcs : ℕ) (out : List ℕ) (at : ℕ) : Type 0 where
   pub ends : sequencesEnd f start ≤ length f
   pub atcs-are : atcs ≡ length (atcsFrom f start)
   pub stcs-are : stcs ≡ length (stcsFrom f start)
-  pub short : 6 + 6 * atcs + 14 * stcs < 2 ^ 32
   pub room : at + (6 + 6 * atcs + 14 * stcs) ≤ length out
 
 -- ---- programs
@@ -37,14 +36,8 @@ newItems f p n = gather (newProgram f) (nextProgram f) p n
 unfoldable pub newPrograms : List ℕ → ℕ → List ℕ
 newPrograms f start = sectionBytes (length (programsFrom f start)) (groups programBytes streamCount streamBytes (programsFrom f start) (streamsFrom f start))
 
--- the section ends within the file, and the length of the new one fits four bytes
-pub record ProgramsShort (f : List ℕ) (start : ℕ) : Type 0 where
-  pub ends : programsEnd f start ≤ length f
-  pub short : length (newPrograms f start) < 2 ^ 32
-
--- besides, `size` is that length, and the output has room for it
+-- the section ends within the file, `size` is the length of the new one, and the output has room for it
 pub record ProgramsRoom (f : List ℕ) (start size : ℕ) (out : List ℕ) (at : ℕ) : Type 0 where
   pub ends : programsEnd f start ≤ length f
   pub size-is : size ≡ length (newPrograms f start)
-  pub short : size < 2 ^ 32
   pub room : at + size ≤ length out

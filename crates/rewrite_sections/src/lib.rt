@@ -4,8 +4,8 @@ ghost use Prim.Native.Nat.{_+_, _*_, _^_, _<_, _≤_};
 ghost use lib.ListN.{length};
 ghost use lib.Seq.{sets};
 ghost use Rattle.format.specs.Bytes.{endOf};
-ghost use Rattle.format.specs.Programs.{nextProgram};
-ghost use Rattle.rewrite_sections.specs.Sections.{part, newSequences, SequencesRoom, newItems, newPrograms, ProgramsShort, ProgramsRoom};
+ghost use Rattle.format.specs.Programs.{nextProgram, programsEnd};
+ghost use Rattle.rewrite_sections.specs.Sections.{part, newSequences, SequencesRoom, newItems, newPrograms, ProgramsRoom};
 use numbers::u8_at;
 use rewrite_program::measure_program;
 use rewrite_program::put_program;
@@ -61,7 +61,7 @@ fn measure_items(file: &[u8], p: usize, n: usize, at: usize) -> usize
 
 // How long the new programs are.
 pub fn programs_length(file: &[u8], start: usize) -> usize
-    requires { ⌜ ProgramsShort (now file) start ⌝ }
+    requires { ⌜ programsEnd (now file) start ≤ length (now file) ⌝ }
     ensures { λ r. ⌜ r ≡ length (newPrograms (now (file .entry)) start) ⌝ }
 {
     let num_programs = u8_at(file, start + 5) as usize;

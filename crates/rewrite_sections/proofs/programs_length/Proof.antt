@@ -5,13 +5,14 @@ use native.Mathlib.Omega.{arith}
 use denote.Ref.{now}
 use lib.ListN.{length}
 use Rattle.rewrite_sections.proofs.Groups.{programs-long, items-within, front-within}
+use Rattle.rewrite_sections.proofs.Lengths.{programs-short}
 use borrow.Author.Needs.{needs}
 use Rattle.rewrite_sections.proofs.programs_length.Statement.{statement}
 use Rattle.rewrite_sections.proofs.programs_length.Tie as tie
 
 -- the six bytes end within the file
 front : (c : tie.Start) → c .args .start + 6 ≤ length (now (c .args .file))
-front c = front-within (now (c .args .file)) (c .args .start) refl (c .pre .ends)
+front c = front-within (now (c .args .file)) (c .args .start) refl (c .pre)
 
 add-u8-at : tie.Need-add-u8-at
 add-u8-at c = omega (arith, front (c .before))
@@ -30,7 +31,8 @@ measure-items-requires c κs =
     let s = c .before .before in
     let f = now (s .args .file) in
     let count = c .u8-at .ensures .same in
-    (items-within f (s .args .start) count (s .pre .ends), omega (arith, programs-long f (s .args .start) count, s .pre .short))
+    let short = programs-short f (λ i. c .before .shared-slice-known .given i .fits) (s .args .start) in
+    (items-within f (s .args .start) count (s .pre), omega (arith, programs-long f (s .args .start) count, short))
 
 returns : tie.Need-returns
 returns c =

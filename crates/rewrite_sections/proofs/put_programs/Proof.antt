@@ -6,6 +6,7 @@ use denote.Ref.{now}
 use lib.ListN.{length}
 use Rattle.row_bytes.proofs.Fields.{sectionHead}
 use Rattle.rewrite_sections.proofs.Groups.{programs-long, items-room, programs-put, items-within, front-within}
+use Rattle.rewrite_sections.proofs.Lengths.{programs-short}
 use borrow.Author.Needs.{needs}
 use Rattle.rewrite_sections.proofs.put_programs.Statement.{statement}
 use Rattle.rewrite_sections.proofs.put_programs.Tie as tie
@@ -28,7 +29,9 @@ sub-put-head : tie.Need-sub-put-head
 sub-put-head c = omega (arith, long (c .before .before .before))
 
 cast-put-head : tie.Need-cast-put-head
-cast-put-head c = search needs
+cast-put-head c =
+    let s = c .before .before .before in
+    record { fits = omega (arith, s .pre .size-is, programs-short (now (s .args .file)) (λ i. c .before .before .shared-slice-known .given i .fits) (s .args .start)) }
 
 put-head-requires : tie.Need-put-head-requires
 put-head-requires c κs = omega (arith, long (c .before .before .before .before), c .before .before .before .before .pre .room)

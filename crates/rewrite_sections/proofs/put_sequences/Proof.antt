@@ -1,5 +1,5 @@
 -- The front is stored, and behind it the bytes of the file, which are the items.
-use Prim.Native.Nat.{_+_, _*_, _≤_}
+use Prim.Native.Nat.{_+_, _*_, _^_, _<_, _≤_}
 use mathlib.Core.Path.{refl, sym, ap, _∙_}
 use native.Mathlib.Omega.{arith}
 use denote.Ref.{now}
@@ -8,6 +8,7 @@ use lib.Seq.{sets}
 use Rattle.row_bytes.proofs.Fields.{part-then, sectionHead, section-head}
 use Rattle.rewrite_sections.specs.Sections.{part}
 use Rattle.rewrite_sections.proofs.Groups.{sequences-end, sequences-are}
+use Rattle.rewrite_sections.proofs.Lengths.{sequences-short}
 use borrow.Author.Needs.{needs}
 use Rattle.rewrite_sections.proofs.put_sequences.Statement.{statement}
 use Rattle.rewrite_sections.proofs.put_sequences.Tie as tie
@@ -15,6 +16,12 @@ use Rattle.rewrite_sections.proofs.put_sequences.Tie as tie
 -- the items end within the file
 within : (c : tie.Start) → c .args .start + 6 + (6 * c .args .atcs + 14 * c .args .stcs) ≤ length (now (c .args .file))
 within c = rw (c .pre .atcs-are, c .pre .stcs-are) (omega (arith, sequences-end (now (c .args .file)) (c .args .start), c .pre .ends))
+
+-- the new section is short
+short : (c : tie.After-shared-slice-known) → 6 + 6 * c .before .args .atcs + 14 * c .before .args .stcs < 2 ^ 32
+short c =
+    let s = c .before in
+    rw (s .pre .atcs-are, s .pre .stcs-are) (sequences-short (now (s .args .file)) (λ i. c .shared-slice-known .given i .fits) (s .args .start))
 
 mul-items : tie.Need-mul-items
 mul-items c = search needs
@@ -29,10 +36,10 @@ add-put-head : tie.Need-add-put-head
 add-put-head c = search needs
 
 cast-put-head : tie.Need-cast-put-head
-cast-put-head c = search needs
+cast-put-head c = record { fits = omega (arith, short (c .before)) }
 
 cast-put-head-2 : tie.Need-cast-put-head-2
-cast-put-head-2 c = search needs
+cast-put-head-2 c = record { fits = omega (arith, short (c .before)) }
 
 put-head-requires : tie.Need-put-head-requires
 put-head-requires c κs = search needs
