@@ -109,6 +109,7 @@ pub fn section_length(section: Section, heads: &[u8], n: u32, rows: &[u8], m: u3
 }
 
 // Stores the section of `len` bytes whose n header rows and m rows stand in these tables; answers the place behind it.
+// The length is `section_length`'s answer, so that no row is measured twice; m is what the counts add up to, and only the contract speaks of it.
 pub fn put_section(
     section: Section,
     heads: &[u8],
