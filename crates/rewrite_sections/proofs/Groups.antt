@@ -39,7 +39,7 @@ groups-gather head count bytes headAt rows next h p (suc n) =
 -- ---- sequences
 
 module _ (f : List ℕ) (bytes : IsBytes f) where
-  -- an STC and an ATC are their own bytes
+  -- an STC is stored as its own bytes
   stc-part : (q : ℕ) → nextStc q ≤ length f → stcBytes (stcAt f q) ≡ part f q (nextStc q - q)
   stc-part q h =
       let a : q + 2 + 4 ≡ q + 6 = omega arith in
@@ -47,12 +47,13 @@ module _ (f : List ℕ) (bytes : IsBytes f) where
       let d : q + 14 - q ≡ 14 = omega arith in
       rw d (rw (a, b) at (fields-part f bytes (2 ∷ 4 ∷ 4 ∷ 4 ∷ []) q h))
 
+  -- so are the six bytes of an ATC
   atc-part : (q : ℕ) → q + 6 ≤ length f → atcBytes (atcAt f q) ≡ part f q 6
   atc-part q h =
       let a : q + 4 + 1 ≡ q + 5 = omega arith in
       rw a at (fields-part f bytes (4 ∷ 1 ∷ 1 ∷ []) q h)
 
-  -- so is an ATC with its STCs
+  -- and an ATC with its STCs
   group-part : (q : ℕ) → nextAtc f q ≤ length f → atcBytes (atcAt f q) ++ flat stcBytes (stcsOf f q) ≡ part f q (nextAtc f q - q)
   group-part q h =
       let n = beAt f (q + 4) 1 in
@@ -80,11 +81,12 @@ atcs-end f p (suc n) =
     omega (arith, atcs-end f (nextAtc f p) n, end-steps 14 (p + 6) c, length-append own later, rows-length (stcAt f) nextStc (p + 6) c)
 
 module _ (f : List ℕ) (start : ℕ) where
+  -- where the section ends, by its counts
   pub sequences-end : sequencesEnd f start ≡ start + 6 + (6 * length (atcsFrom f start) + 14 * length (stcsFrom f start))
   unfolding atcsFrom stcsFrom sequencesEnd
   sequences-end = rw (rows-length (atcAt f) (nextAtc f) (start + 6) (beAt f (start + 5) 1)) (atcs-end f (start + 6) (beAt f (start + 5) 1))
 
-  -- the new section: the front, and the bytes of the file
+  -- the new section: its head, and the bytes of the file
   pub sequences-are : IsBytes f → sequencesEnd f start ≤ length f → {atcs stcs : ℕ} → atcs ≡ length (atcsFrom f start) → stcs ≡ length (stcsFrom f start)
       → newSequences f start ≡ sectionHead (2 + (6 * atcs + 14 * stcs)) atcs ++ part f (start + 6) (6 * atcs + 14 * stcs)
   unfolding newSequences
@@ -98,7 +100,7 @@ module _ (f : List ℕ) (start : ℕ) where
 -- ---- programs
 
 module _ (f : List ℕ) (start : ℕ) {n : ℕ} (count : n ≡ beAt f (start + 5) 1) where
-  -- the new section: the front, and the programs with their streams
+  -- the new section: its head, and the programs with their streams
   pub programs-are : newPrograms f start ≡ sectionHead (2 + length (newItems f (start + 6) n)) n ++ newItems f (start + 6) n
   unfolding newPrograms programsFrom streamsFrom
   programs-are =
@@ -112,12 +114,12 @@ module _ (f : List ℕ) (start : ℕ) {n : ℕ} (count : n ≡ beAt f (start + 5
       let items = newItems f (start + 6) n in
       ap length programs-are ∙ length-append (sectionHead (2 + length items) n) items ∙ rw (section-head (2 + length items) n)
 
-  -- once the front is stored, the items have room
-  pub items-room : {size : ℕ} → size ≡ length (newPrograms f start) → (o : List ℕ) (at : ℕ) (front : List ℕ) {o′ : List ℕ} → at + size ≤ length o
-      → o′ ≡ sets o at front → at + 6 + length (newItems f (start + 6) n) ≤ length o′
-  items-room long o at front h e = rw (e, length-sets o at front) (omega (arith, long, programs-long))
+  -- once the head is stored, the items have room
+  pub items-room : {size : ℕ} → size ≡ length (newPrograms f start) → (o : List ℕ) (at : ℕ) (head : List ℕ) {o′ : List ℕ} → at + size ≤ length o
+      → o′ ≡ sets o at head → at + 6 + length (newItems f (start + 6) n) ≤ length o′
+  items-room long o at head h e = rw (e, length-sets o at head) (omega (arith, long, programs-long))
 
-  -- the front is stored, and the items behind it
+  -- the head is stored, and the items behind it
   pub programs-put : {size : ℕ} → size ≡ length (newPrograms f start) → (o : List ℕ) (at : ℕ) {o′ o″ : List ℕ}
       → o′ ≡ sets o at (sectionHead (size - 4) n) → o″ ≡ sets o′ (at + 6) (newItems f (start + 6) n)
       → o″ ≡ sets o at (newPrograms f start)
@@ -128,13 +130,14 @@ module _ (f : List ℕ) (start : ℕ) {n : ℕ} (count : n ≡ beAt f (start + 5
       ∙ ap (λ (k : ℕ). sets o at (sectionHead k n ++ items)) rest
       ∙ ap (sets o at) (sym programs-are)
 
-  -- the items end within the file, and so does the front
+  -- the items end within the file
   pub items-within : programsEnd f start ≤ length f → endOf (nextProgram f) (start + 6) n ≤ length f
   unfolding programsEnd
   items-within h = rw count h
 
-  pub front-within : programsEnd f start ≤ length f → start + 6 ≤ length f
-  front-within h = le-trans (end-ge (nextProgram f) (up-program f) (start + 6) n) (items-within h)
+  -- so does the head
+  pub head-within : programsEnd f start ≤ length f → start + 6 ≤ length f
+  head-within h = le-trans (end-ge (nextProgram f) (up-program f) (start + 6) n) (items-within h)
 
 -- ---- the record of a file
 

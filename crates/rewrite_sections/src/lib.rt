@@ -23,7 +23,7 @@ fn copy(file: &[u8], from: usize, n: usize, out: &mut [u8], at: usize)
     }
 }
 
-// Stores the new sequences from `at` on, behind their front the very bytes of the old ones; answers the place behind.
+// Stores the new sequences from `at` on, behind their head the very bytes of the old ones; answers the place behind.
 pub fn put_sequences(
     file: &[u8],
     start: usize,

@@ -4,27 +4,27 @@ use mathlib.Core.Path.{refl, sym, _∙_}
 use native.Mathlib.Omega.{arith}
 use denote.Ref.{now}
 use lib.ListN.{length}
-use Rattle.rewrite_sections.proofs.Groups.{programs-long, items-within, front-within}
+use Rattle.rewrite_sections.proofs.Groups.{programs-long, items-within, head-within}
 use Rattle.rewrite_sections.proofs.Lengths.{programs-short}
 use borrow.Author.Needs.{needs}
 use Rattle.rewrite_sections.proofs.programs_length.Statement.{statement}
 use Rattle.rewrite_sections.proofs.programs_length.Tie as tie
 
 -- the six bytes end within the file
-front : (c : tie.Start) → c .args .start + 6 ≤ length (now (c .args .file))
-front c = front-within (now (c .args .file)) (c .args .start) refl (c .pre)
+head : (c : tie.Start) → c .args .start + 6 ≤ length (now (c .args .file))
+head c = head-within (now (c .args .file)) (c .args .start) refl (c .pre)
 
 add-u8-at : tie.Need-add-u8-at
-add-u8-at c = omega (arith, front (c .before))
+add-u8-at c = omega (arith, head (c .before))
 
 u8-at-requires : tie.Need-u8-at-requires
-u8-at-requires c κs = omega (arith, front (c .before))
+u8-at-requires c κs = omega (arith, head (c .before))
 
 cast-num-programs : tie.Need-cast-num-programs
 cast-num-programs c = search needs
 
 add-measure-items : tie.Need-add-measure-items
-add-measure-items c = omega (arith, front (c .before .before))
+add-measure-items c = omega (arith, head (c .before .before))
 
 measure-items-requires : tie.Need-measure-items-requires
 measure-items-requires c κs =

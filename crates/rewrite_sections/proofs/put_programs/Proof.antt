@@ -1,29 +1,29 @@
--- The front is stored, and behind it the programs with their streams.
+-- The head is stored, and behind it the programs with their streams.
 use Prim.Native.Nat.{_+_, _-_, _≤_}
 use mathlib.Core.Path.{refl}
 use native.Mathlib.Omega.{arith}
 use denote.Ref.{now}
 use lib.ListN.{length}
 use Rattle.row_bytes.proofs.Fields.{sectionHead}
-use Rattle.rewrite_sections.proofs.Groups.{programs-long, items-room, programs-put, items-within, front-within}
+use Rattle.rewrite_sections.proofs.Groups.{programs-long, items-room, programs-put, items-within, head-within}
 use Rattle.rewrite_sections.proofs.Lengths.{programs-short}
 use borrow.Author.Needs.{needs}
 use Rattle.rewrite_sections.proofs.put_programs.Statement.{statement}
 use Rattle.rewrite_sections.proofs.put_programs.Tie as tie
 
 -- the six bytes end within the file
-front : (c : tie.Start) → c .args .start + 6 ≤ length (now (c .args .file))
-front c = front-within (now (c .args .file)) (c .args .start) refl (c .pre .ends)
+head : (c : tie.Start) → c .args .start + 6 ≤ length (now (c .args .file))
+head c = head-within (now (c .args .file)) (c .args .start) refl (c .pre .ends)
 
 -- there are six at least in the new section
 long : (c : tie.Start) → 6 ≤ c .args .size
 long c = omega (arith, c .pre .size-is, programs-long (now (c .args .file)) (c .args .start) refl)
 
 add-u8-at : tie.Need-add-u8-at
-add-u8-at c = omega (arith, front (c .before .before))
+add-u8-at c = omega (arith, head (c .before .before))
 
 u8-at-requires : tie.Need-u8-at-requires
-u8-at-requires c κs = omega (arith, front (c .before .before))
+u8-at-requires c κs = omega (arith, head (c .before .before))
 
 sub-put-head : tie.Need-sub-put-head
 sub-put-head c = omega (arith, long (c .before .before .before))
@@ -37,7 +37,7 @@ put-head-requires : tie.Need-put-head-requires
 put-head-requires c κs = omega (arith, long (c .before .before .before .before), c .before .before .before .before .pre .room)
 
 add-put-items : tie.Need-add-put-items
-add-put-items c = omega (arith, front (c .before .before .before .before .before .before .before))
+add-put-items c = omega (arith, head (c .before .before .before .before .before .before .before))
 
 cast-put-items : tie.Need-cast-put-items
 cast-put-items c = search needs

@@ -1,4 +1,4 @@
--- The front is stored, and behind it the bytes of the file, which are the items.
+-- The head is stored, and behind it the bytes of the file, which are the items.
 use Prim.Native.Nat.{_+_, _*_, _^_, _<_, _≤_}
 use mathlib.Core.Path.{refl, sym, ap, _∙_}
 use native.Mathlib.Omega.{arith}
