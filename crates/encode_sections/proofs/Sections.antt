@@ -1,21 +1,21 @@
 -- Whole sections: those of a record, how long they are, and the two parts that are stored.
 use Prim.Native.Nat.{ℕ, _+_, _*_, _-_, _≤_}
 use mathlib.Core.Path.{_≡_, refl, sym, ap, _∙_}
-use mathlib.Core.List.{List, [], _∷_, _++_}
+use mathlib.Core.List.{List, _++_}
 use mathlib.Core.Bool.{true}
 use native.Mathlib.Omega.{arith}
-use lib.ListN.{length, length-append}
+use lib.ListN.{length}
 use borrow.Author.Tests.{leb-true, eqb-true}
-use Rattle.format.specs.Bytes.{both, fieldBytes, flat, total}
+use Rattle.format.specs.Bytes.{both, flat, total}
 use Rattle.format.specs.ClipRecord.{Clip}
 use Rattle.format.specs.Rewriting.{sequencesBytes, programsBytes}
 use Rattle.format.specs.Tables.{cellsAt, tableRows, rowRoom, stcCells, streamCells, isStated, addUp}
-use Rattle.format.proofs.Numbers.{bytes-length}
 use Rattle.format.proofs.Rows.{rows-length}
 use Rattle.format.proofs.Sections.{section-length}
 use Rattle.format.proofs.Tests.{both-true}
 use Rattle.queries.specs.Asked.{stated}
 use Rattle.table_rows.specs.OwnRows.{headCells, cellIn, isCounted}
+use Rattle.row_bytes.proofs.Fields.{sectionHead}
 use Rattle.row_values.specs.Kinds.{cellsOf, bytesBy}
 use Rattle.encode_sections.specs.Sections.{headKind, rowKind, countOf, itemsOf, sectionOf, headsIn, ownIn, itemsIn, sectionIn, Counted, Storable}
 use Rattle.encode_sections.specs.declared.Section.{Section}
@@ -83,14 +83,6 @@ module _ (heads : List ℕ) (n : ℕ) (rows : List ℕ) (m : ℕ) where
       record { heads-there = c .0; rows-there = c .1; adds = c .2 }
 
 -- ---- the two parts that are stored
-
--- what a section begins with
-abbrev pub sectionHead : (size n : ℕ) → List ℕ
-sectionHead size n = fieldBytes (4 ∷ 1 ∷ 1 ∷ []) (size ∷ 0 ∷ n ∷ [])
-
--- its six bytes
-pub head-length : (size n : ℕ) → length (sectionHead size n) ≡ 6
-head-length size n = simp (length-append, bytes-length)
 
 module _ {section : Section} {heads : List ℕ} {n : ℕ} {rows : List ℕ} {m len : ℕ} {out : List ℕ} {at : ℕ} (s : Storable section heads n rows m len out at) where
   -- its length: the six bytes, and the items

@@ -1,16 +1,13 @@
 // The sequences and the programs section, written from their tables: how long each is, and its bytes.
 ghost use mathlib.Core.Path.{_≡_};
-ghost use mathlib.Core.List.{[], _∷_};
 ghost use Prim.Native.Nat.{_+_, _*_, _≤_};
 ghost use lib.ListN.{length};
 ghost use lib.Seq.{sets};
-ghost use Rattle.format.specs.Bytes.{fieldBytes};
 ghost use Rattle.row_values.specs.Kinds.{rowOf};
 ghost use Rattle.encode_sections.specs.Sections.{headKind, rowKind, countOf, groupBytes, GroupThere, itemsIn, ItemsThere, sectionIn, Counted, Storable};
 use encode_rows::put_rows;
 use encode_rows::rows_length;
-use numbers::put_u8;
-use numbers::put_u32;
+use row_bytes::put_head;
 use row_bytes::put_row;
 use row_values::Kind;
 use row_values::Row;
@@ -109,16 +106,6 @@ pub fn section_length(section: Section, heads: &[u8], n: u32, rows: &[u8], m: u3
     let head_bytes = rows_length(head_kind(section), heads, n);
     let row_bytes = rows_length(row_kind(section), rows, m);
     6 + head_bytes + row_bytes
-}
-
-// Stores what a section begins with: the length of what follows it, a spare byte, and the count of its header rows.
-fn put_head(size: u32, n: u32, out: &mut [u8], at: usize)
-    requires { ⌜ at + 6 ≤ length (now out) ⌝ }
-    ensures { λ _. ⌜ now (out .exit) ≡ sets (now (out .entry)) at (fieldBytes (4 ∷ 1 ∷ 1 ∷ []) (size ∷ 0 ∷ n ∷ [])) ⌝ }
-{
-    put_u32(out, at, size);
-    put_u8(out, at + 4, 0);
-    put_u8(out, at + 5, n);
 }
 
 // Stores the section of `len` bytes whose n header rows and m rows stand in these tables; answers the place behind it.

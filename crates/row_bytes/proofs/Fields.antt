@@ -1,4 +1,4 @@
--- Fields stored one behind the other, and the bytes of a stream in the parts in which they are stored.
+-- Fields stored one behind the other, what a section begins with, and the bytes of a stream in the parts in which they are stored.
 use Prim.Native.Nat.{ℕ, _+_, _*_, _/_, _%_, _^_}
 use mathlib.Core.Path.{_≡_, sym, ap, _∙_}
 use mathlib.Core.List.{List, [], _∷_, _++_, append-assoc, append-nil}
@@ -29,7 +29,15 @@ field-then l at w v rest place e f = part-then l at w (bytesOf w v) rest (bytes-
 pub field-last : (l : List ℕ) (at w v : ℕ) {l′ : List ℕ} → l′ ≡ sets l at (bytesOf w v) → l′ ≡ sets l at (bytesOf w v ++ [])
 field-last l at w v e = e ∙ rw (append-nil (bytesOf w v))
 
--- ---- what a row's bytes begin with
+-- ---- what a section's and a row's bytes begin with
+
+-- a section's length, a spare byte, its count
+abbrev pub sectionHead : (size n : ℕ) → List ℕ
+sectionHead size n = fieldBytes (4 ∷ 1 ∷ 1 ∷ []) (size ∷ 0 ∷ n ∷ [])
+
+-- its six bytes
+pub section-head : (size n : ℕ) → length (sectionHead size n) ≡ 6
+section-head size n = simp (length-append, bytes-length)
 
 -- the fields of a program before its spare byte
 pub program-fields : (a b c : ℕ) → length (fieldBytes (4 ∷ 2 ∷ 1 ∷ []) (a ∷ b ∷ c ∷ [])) ≡ 7

@@ -5,11 +5,20 @@ ghost use lib.ListN.{length};
 ghost use lib.Seq.{sets};
 ghost use Rattle.format.specs.Programs.{lower, lowered, aspectAt, languageAt, streamAt, nextStream};
 ghost use Rattle.format.specs.Tables.{rowBytes};
-ghost use Rattle.stream_coding_info.specs.Bodies.{BodyByte};
+ghost use Rattle.stream_coding_info.specs.Bodies.{BodyByte, infoRow};
 use cells::put_row5;
 use numbers::u8_at;
 use numbers::u16_at;
 use stream_coding::is_video;
+
+// A stream's PID and what its body says: an aspect of video alone, and a language of all else, 0 for none.
+pub struct StreamCodingInfo {
+    pub pid: u32,
+    pub stream_coding_type: u32,
+    pub format_info_byte: u32,
+    pub aspect_ratio_nibble: u32,
+    pub language_code: u32,
+}
 
 // A letter from A to Z as lower case, every other number as it is.
 fn lower(b: u32) -> u32
@@ -66,10 +75,10 @@ fn language(file: &[u8], p: usize, size: usize, video: bool) -> u32
     lower_language(u8_at(file, p + 2) * 65536 + u16_at(file, p + 3))
 }
 
-// The row of the stream at p, from byte `at` of the table. Nothing is read past the body's end.
-pub fn put_stream(file: &[u8], p: usize, table: &mut [u8], at: usize)
-    requires { ⌜ (nextStream (now file) p ≤ length (now file)) × (at + 20 ≤ length (now table)) ⌝ }
-    ensures { λ _. ⌜ now (table .exit) ≡ sets (now (table .entry)) at (rowBytes (streamAt (now (file .entry)) p)) ⌝ }
+// The stream at p. Nothing is read past the body's end.
+pub fn stream_at(file: &[u8], p: usize) -> StreamCodingInfo
+    requires { ⌜ nextStream (now file) p ≤ length (now file) ⌝ }
+    ensures { λ r. ⌜ infoRow r ≡ streamAt (now (file .entry)) p ⌝ }
 {
     let pid = u16_at(file, p);
     let size = u8_at(file, p + 2) as usize;
@@ -79,5 +88,28 @@ pub fn put_stream(file: &[u8], p: usize, table: &mut [u8], at: usize)
     let video = is_video(coding);
     let ratio = aspect(file, body, size, video);
     let tag = language(file, body, size, video);
-    put_row5(table, at, pid, coding, format, ratio, tag);
+    StreamCodingInfo {
+        pid,
+        stream_coding_type: coding,
+        format_info_byte: format,
+        aspect_ratio_nibble: ratio,
+        language_code: tag,
+    }
+}
+
+// The row of the stream at p, from byte `at` of the table.
+pub fn put_stream(file: &[u8], p: usize, table: &mut [u8], at: usize)
+    requires { ⌜ (nextStream (now file) p ≤ length (now file)) × (at + 20 ≤ length (now table)) ⌝ }
+    ensures { λ _. ⌜ now (table .exit) ≡ sets (now (table .entry)) at (rowBytes (streamAt (now (file .entry)) p)) ⌝ }
+{
+    let s = stream_at(file, p);
+    put_row5(
+        table,
+        at,
+        s.pid,
+        s.stream_coding_type,
+        s.format_info_byte,
+        s.aspect_ratio_nibble,
+        s.language_code,
+    );
 }

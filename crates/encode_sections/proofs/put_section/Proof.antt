@@ -5,9 +5,10 @@ use mathlib.Core.List.{List}
 use native.Mathlib.Omega.{arith}
 use denote.Ref.{now}
 use lib.ListN.{length}
+use Rattle.row_bytes.proofs.Fields.{sectionHead, section-head}
 use Rattle.row_bytes.proofs.Storing.{first-room, second-room, both-stored}
 use Rattle.encode_sections.specs.Sections.{itemsIn}
-use Rattle.encode_sections.proofs.Sections.{sectionHead, head-length, items-long, section-parts, parts-room}
+use Rattle.encode_sections.proofs.Sections.{items-long, section-parts, parts-room}
 use borrow.Author.Needs.{needs}
 use Rattle.encode_sections.proofs.put_section.Statement.{statement}
 use Rattle.encode_sections.proofs.put_section.Tie as tie
@@ -21,7 +22,7 @@ items-part s = let a = s .args in itemsIn (a .section) (now (a .heads)) (a .n) (
 
 -- where these begin
 behind-head : (s : tie.Start) → s .args .at + 6 ≡ s .args .at + length (head-part s)
-behind-head s = ap (λ (w : ℕ). s .args .at + w) (sym (head-length (s .args .len - 4) (s .args .n)))
+behind-head s = ap (λ (w : ℕ). s .args .at + w) (sym (section-head (s .args .len - 4) (s .args .n)))
 
 sub-put-head : tie.Need-sub-put-head
 sub-put-head c = omega (arith, items-long (c .before .before .before .pre))
