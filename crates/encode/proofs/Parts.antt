@@ -1,5 +1,5 @@
 -- The bytes of a written file, section by section.
-use Prim.Native.Nat.{ℕ, _+_, _≤_}
+use Prim.Native.Nat.{ℕ, _+_, _^_, _<_, _≤_}
 use mathlib.Core.Path.{_≡_, refl, sym, ap, _∙_}
 use mathlib.Core.List.{List, _++_}
 use native.Mathlib.Omega.{arith}
@@ -7,6 +7,8 @@ use lib.ListN.{length, length-append}
 use lib.Seq.{sets}
 use Rattle.format.specs.ClipRecord.{Clip}
 use Rattle.format.specs.Rewriting.{headBytes, sequencesBytes, programsBytes, cpiBytes, marksBytes, encode}
+use Rattle.format.proofs.Good.{GoodClip}
+use Rattle.format.proofs.Lengths.{sequences-bound, programs-bound, cpi-bound}
 use Rattle.format.proofs.Stores.{sets-append}
 use Rattle.encode_head.specs.Heads.{headOf}
 use Rattle.encode_head.proofs.Laws.{head-is, head-length, marks-length}
@@ -74,3 +76,26 @@ placed-stored c at l e₁ e₂ e₃ e₄ e₅ =
 -- bytes stored, under another name
 pub stored-as : (l : List ℕ) (at : ℕ) {l′ part same : List ℕ} → l′ ≡ sets l at part → part ≡ same → l′ ≡ sets l at same
 stored-as l at e is = e ∙ ap (sets l at) is
+
+-- ---- the places
+
+-- the places are in order, the last is a number of 32 bits, and there is room behind it
+pub record InOrder (programs cpi marks bytes : ℕ) : Type 0 where
+  pub head : 220 ≤ programs
+  pub sequences : programs ≤ cpi
+  pub programs-end : cpi ≤ marks
+  pub narrow : marks < 2 ^ 32
+  pub room : marks + 6 ≤ bytes
+
+pub placed-order : (c : Clip) {programs cpi marks bytes : ℕ} → marksPlace c + 6 ≤ 402515706 → Placed c programs cpi marks bytes → InOrder programs cpi marks bytes
+placed-order c short at = record {
+  head = omega (arith, at .programs-at, place-programs c);
+  sequences = omega (arith, at .programs-at, at .cpi-at, place-cpi c);
+  programs-end = omega (arith, at .cpi-at, at .marks-at, place-marks c);
+  narrow = omega (arith, at .marks-at, short);
+  room = at .room;
+}
+
+-- a good record's file is short
+pub good-short : (c : Clip) → GoodClip 65535 c → marksPlace c + 6 ≤ 402515706
+good-short c good = omega (arith, sequences-bound c good, programs-bound c good, cpi-bound c good, place-programs c, place-cpi c, place-marks c)

@@ -14,7 +14,6 @@ use Rattle.format.specs.Rewriting.{sequencesBytes, programsBytes, cpiBytes, cpi
 use Rattle.format.specs.Refusals.{mapFits, entryFits, scalarsFit, cellsFit, runsFit, countsAdd, allStated, writeRefusal, everyMap}
 use Rattle.format.proofs.Tests.{both-true, split-both, true-both, passed, left-fails, right-fails}
 use Rattle.format.proofs.Maker.{good-made}
-use Rattle.format.proofs.Lengths.{sequences-bound, programs-bound, cpi-bound}
 use Rattle.queries.specs.Asked.{noScalars, tablesWith}
 use Rattle.table_rows.specs.OwnRows.{isCounted}
 use Rattle.row_limits.specs.declared.Kind.{Kind}
@@ -28,7 +27,7 @@ use Rattle.encode_cpi.specs.declared.Length.{Length}
 use Rattle.encode_cpi.specs.Cpi as cpi
 use Rattle.encode.specs.Writing.{refusalIn, pairsCounted, scalarWidths, programsPlace, cpiPlace, marksPlace, Placed, Ready}
 use Rattle.encode.proofs.Tests.{refusal-is}
-use Rattle.encode.proofs.Parts.{place-programs, place-cpi, place-marks}
+use Rattle.encode.proofs.Parts.{place-programs, place-cpi, place-marks, InOrder, placed-order, good-short}
 
 -- ---- a record that can be written passes every test
 
@@ -52,28 +51,11 @@ none-refused l p = refusal-is l ∙ rw (p .counted, p .fit, p .runs-fit)
 pub marks-bound : (l : ClipTables) → refusalIn l ≡ 0 → marksPlace (clipIn l) + 6 ≤ 402515706
 marks-bound l h =
     let c = clipIn l in
-    let good = good-made c (passed (allStated l) 21 (writeRefusal c) h .1) in
-    omega (arith, sequences-bound c good, programs-bound c good, cpi-bound c good, place-programs c, place-cpi c, place-marks c)
+    good-short c (good-made c (passed (allStated l) 21 (writeRefusal c) h .1))
 
 -- the places are in order, and the last is a number of 32 bits
-pub record InOrder (programs cpi marks bytes : ℕ) : Type 0 where
-  pub head : 220 ≤ programs
-  pub sequences : programs ≤ cpi
-  pub programs-end : cpi ≤ marks
-  pub narrow : marks < 2 ^ 32
-  pub room : marks + 6 ≤ bytes
-
 pub in-order : (l : ClipTables) {programs cpi marks bytes : ℕ} → Ready l programs cpi marks bytes → InOrder programs cpi marks bytes
-in-order l r =
-    let c = clipIn l in
-    let at = r .placed in
-    record {
-      head = omega (arith, at .programs-at, place-programs c);
-      sequences = omega (arith, at .programs-at, at .cpi-at, place-cpi c);
-      programs-end = omega (arith, at .cpi-at, at .marks-at, place-marks c);
-      narrow = omega (arith, at .marks-at, marks-bound l (r .writable));
-      room = at .room;
-    }
+in-order l r = placed-order (clipIn l) (marks-bound l (r .writable)) (r .placed)
 
 -- stores keep the output's length, and so what is ready
 pub ready-kept : (l : ClipTables) {programs cpi marks bytes bytes′ : ℕ} → bytes′ ≡ bytes → Ready l programs cpi marks bytes → Ready l programs cpi marks bytes′

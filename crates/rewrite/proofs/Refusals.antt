@@ -1,0 +1,124 @@
+-- The refusal of a file, from what was measured of it, and what its absence says.
+use Prim.Native.Nat.{ℕ, _+_, _*_, _≤_}
+use mathlib.Core.Path.{_≡_, refl, sym, ap, _∙_}
+use mathlib.Core.List.{List}
+use mathlib.Core.Bool.{Bool, true, false}
+use native.Mathlib.Omega.{arith}
+use lib.ListN.{length}
+use lib.Dec.{eqb}
+use borrow.Author.Tests.{eqb-true, eq-eqb}
+use Rattle.format.specs.Bytes.{IsBytes, pick, unless}
+use Rattle.format.specs.ClipRecord.{cpiStart}
+use Rattle.format.specs.EntryPoints.{mapsFrom, entriesFrom}
+use Rattle.format.specs.Reading.{clipOf}
+use Rattle.format.specs.Rewriting.{cpiBytes, encode}
+use Rattle.format.specs.Refusals.{refusalOf, runsFit}
+use Rattle.format.proofs.Read.{narrow, good-clip}
+use Rattle.clip_sections.specs.Clips.{sectionsOf}
+use Rattle.clip_sections.specs.declared.sections.Sections.{Sections}
+use Rattle.encode_cpi.specs.declared.Length.{Length}
+use Rattle.encode_cpi.specs.Cpi.{cpiLengthOf}
+use Rattle.rewrite_cpi.proofs.Lengths.{length-said, length-refused}
+use Rattle.encode.specs.Writing.{programsPlace, cpiPlace, marksPlace, Placed}
+use Rattle.encode.proofs.Parts.{good-short, encode-length}
+use Rattle.rewrite.specs.declared.measure.Planned.{Planned}
+use Rattle.rewrite.specs.Rewrite.{rewriteRefusal, plannedOf, Ready, LengthAnswer, refused, bytes, lengthAnswer}
+
+-- ---- choices by a test
+
+-- of counts and a refusal, the refusal is told where the test fails
+told-refused : (b : Bool) (a s p t m e r : ℕ) {n : ℕ} → pick b (Sections.Counts a s p t m e) (Sections.Refused r) ≡ Sections.Refused n → (b ≡ false) × (r ≡ n)
+told-refused false a s p t m e r h = (refl, cc)
+told-refused true a s p t m e r h = let z : _≡_ {A = ℕ} 0 1 = cc in absurd (omega arith)
+
+-- of a plan and a refusal likewise, and the plan where it passes
+plan-refused : (b : Bool) (a s m p q k r : ℕ) {n : ℕ} → pick b (Planned.Places a s m p q k) (Planned.Refused r) ≡ Planned.Refused n → (b ≡ false) × (r ≡ n)
+plan-refused false a s m p q k r h = (refl, cc)
+plan-refused true a s m p q k r h = let z : _≡_ {A = ℕ} 0 1 = cc in absurd (omega arith)
+
+plan-told : (b : Bool) (a s m p q k r : ℕ) {a′ s′ m′ p′ q′ k′ : ℕ} → pick b (Planned.Places a s m p q k) (Planned.Refused r) ≡ Planned.Places a′ s′ m′ p′ q′ k′
+    → (b ≡ true) × ((a′ ≡ a) × ((s′ ≡ s) × ((m′ ≡ m) × ((p′ ≡ p) × ((q′ ≡ q) × (k′ ≡ k))))))
+plan-told true a s m p q k r h = (refl, (cc, (cc, (cc, (cc, (cc, cc))))))
+plan-told false a s m p q k r h = let z : _≡_ {A = ℕ} 0 1 = cc in absurd (omega arith)
+
+-- no refusal of either kind
+neither : (c : Bool) (r : ℕ) → eqb r 0 ≡ c → (b : Bool) → pick c (unless b 31 0) r ≡ 0 → (r ≡ 0) × (b ≡ true)
+neither true r e true h = (eqb-true r 0 e, refl)
+neither true r e false h = absurd (omega (arith, h))
+neither false r e b h =
+    let t : eqb r 0 ≡ true = eq-eqb r 0 h in
+    let z : _≡_ {A = ℕ} 0 1 = cc in
+    absurd (omega arith)
+
+module _ (f : List ℕ) where
+  -- ---- a refusal
+
+  plan-is : (n : ℕ) → eqb n 0 ≡ false → rewriteRefusal f ≡ n → Planned.Refused n ≡ plannedOf f
+  unfolding plannedOf
+  plan-is n h e = rw (e, h)
+
+  -- that of reading
+  pub reading-refuses : {n : ℕ} → sectionsOf f ≡ Sections.Refused n → Planned.Refused n ≡ plannedOf f
+  unfolding sectionsOf
+  reading-refuses {n} h =
+      let c = clipOf f in
+      let told = told-refused (eqb (refusalOf f) 0) (length (c .atcs)) (length (c .stcs)) (length (c .programs)) (length (c .streams)) (length (c .maps)) (length (c .entries)) (refusalOf f) h in
+      let is : rewriteRefusal f ≡ n = rw (told .0) (told .1) in
+      plan-is n (rw (told .1) at (told .0)) is
+
+  -- the runs of a map, for the answer of the CPI's length
+  pub runs-refuse : {start : ℕ} {r : Length} → refusalOf f ≡ 0 → start ≡ cpiStart f → r ≡ cpiLengthOf (mapsFrom f start) (entriesFrom f start) → r ≡ Length.TooManyRuns
+      → Planned.Refused 31 ≡ plannedOf f
+  unfolding clipOf runsFit
+  runs-refuse e here is told =
+      let fails : runsFit (clipOf f) ≡ false = length-refused (mapsFrom f (cpiStart f)) (entriesFrom f (cpiStart f)) (sym (rw here at is) ∙ told) in
+      plan-is 31 refl (rw (e, fails))
+
+  -- ---- none
+
+  pub runs-pass : {start n : ℕ} {r : Length} → start ≡ cpiStart f → r ≡ cpiLengthOf (mapsFrom f start) (entriesFrom f start) → r ≡ Length.Bytes n
+      → (runsFit (clipOf f) ≡ true) × (n ≡ length (cpiBytes (clipOf f)))
+  unfolding clipOf runsFit cpiBytes
+  runs-pass {start} {n} here is told = length-said (mapsFrom f (cpiStart f)) (entriesFrom f (cpiStart f)) n (sym (rw here at is) ∙ told)
+
+  pub none : refusalOf f ≡ 0 → runsFit (clipOf f) ≡ true → rewriteRefusal f ≡ 0
+  none e h = rw (e, h)
+
+  pub passed : rewriteRefusal f ≡ 0 → (refusalOf f ≡ 0) × (runsFit (clipOf f) ≡ true)
+  passed h = neither (eqb (refusalOf f) 0) (refusalOf f) refl (runsFit (clipOf f)) h
+
+  -- the new file is short
+  pub marks-short : IsBytes f → rewriteRefusal f ≡ 0 → marksPlace (clipOf f) + 6 ≤ 402515706
+  marks-short b h = good-short (clipOf f) (narrow (clipOf f) (good-clip f b) (passed h .1))
+
+  -- ---- what the plan says
+
+  module _ {m : Planned} (is : m ≡ plannedOf f) where
+    pub refusal-told : {n : ℕ} → m ≡ Planned.Refused n → (eqb (rewriteRefusal f) 0 ≡ false) × (rewriteRefusal f ≡ n)
+    unfolding plannedOf
+    refusal-told told =
+        let c = clipOf f in
+        plan-refused (eqb (rewriteRefusal f) 0) (length (c .atcs)) (length (c .stcs)) (length (c .maps)) (programsPlace c) (cpiPlace c) (marksPlace c) (rewriteRefusal f) (sym is ∙ told)
+
+    pub ready-told : {a s k p q n : ℕ} (size : ℕ) → m ≡ Planned.Places a s k p q n → n + 6 ≤ size → Ready f a s k p q n size
+    unfolding plannedOf
+    ready-told size told h =
+        let c = clipOf f in
+        let all = plan-told (eqb (rewriteRefusal f) 0) (length (c .atcs)) (length (c .stcs)) (length (c .maps)) (programsPlace c) (cpiPlace c) (marksPlace c) (rewriteRefusal f) (sym is ∙ told) in
+        record {
+          rewritable = eqb-true (rewriteRefusal f) 0 (all .0);
+          atcs-are = all .1 .0;
+          stcs-are = all .1 .1 .0;
+          maps-are = all .1 .1 .1 .0;
+          placed = record { programs-at = all .1 .1 .1 .1 .0; cpi-at = all .1 .1 .1 .1 .1 .0; marks-at = all .1 .1 .1 .1 .1 .1; room = h };
+        }
+
+  -- ---- the length alone
+
+  pub length-refuses : {n : ℕ} → (eqb (rewriteRefusal f) 0 ≡ false) × (rewriteRefusal f ≡ n) → refused n ≡ lengthAnswer f
+  unfolding lengthAnswer
+  length-refuses h = rw (h .0, h .1)
+
+  pub length-tells : {marks : ℕ} → rewriteRefusal f ≡ 0 → marks ≡ marksPlace (clipOf f) → bytes (marks + 6) ≡ lengthAnswer f
+  unfolding lengthAnswer
+  length-tells e m = rw (e, encode-length (clipOf f), m)
