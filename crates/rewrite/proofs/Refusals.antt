@@ -91,6 +91,12 @@ module _ (f : List ℕ) where
   pub marks-short : IsBytes f → rewriteRefusal f ≡ 0 → marksPlace (clipOf f) + 6 ≤ 402515706
   marks-short b h = good-short (clipOf f) (narrow (clipOf f) (good-clip f b) (passed h .1))
 
+  -- the counts and places
+  pub planned-by : {a s m p q k : ℕ} → rewriteRefusal f ≡ 0 → a ≡ length (clipOf f .atcs) → s ≡ length (clipOf f .stcs) → m ≡ length (clipOf f .maps)
+      → p ≡ programsPlace (clipOf f) → q ≡ cpiPlace (clipOf f) → k ≡ marksPlace (clipOf f) → Planned.Places a s m p q k ≡ plannedOf f
+  unfolding plannedOf
+  planned-by e a s m p q k = rw (e, a, s, m, p, q, k)
+
   -- ---- what the plan says
 
   module _ {m : Planned} (is : m ≡ plannedOf f) where

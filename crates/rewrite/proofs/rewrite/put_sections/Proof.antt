@@ -1,91 +1,161 @@
+-- The sections one behind the other; each store keeps the output's length.
+use Prim.Native.Nat.{_+_}
+use mathlib.Core.Path.{_≡_, refl, sym, ap, _∙_}
+use native.Mathlib.Omega.{arith}
+use denote.Ref.{now}
+use lib.ListN.{length}
+use Rattle.format.specs.Bytes.{IsBytes}
+use Rattle.format.specs.Reading.{clipOf}
+use Rattle.clip_information.specs.Infos.{clipInfoOf}
+use Rattle.clip_information.specs.Read.{scalarsBy}
+use Rattle.clip_sections.proofs.PrepareLaws.{accepted-bounds}
+use Rattle.encode.proofs.Parts.{placed-stored, stored-as}
+use Rattle.rewrite.proofs.Rooms.{accepted, in-order, sequences-room, programs-room, cpi-room, sequences-in, programs-in, cpi-in}
 use borrow.Author.Needs.{needs}
 use Rattle.rewrite.proofs.rewrite.put_sections.Statement.{statement}
 use Rattle.rewrite.proofs.rewrite.put_sections.Tie as tie
-use Rattle.rewrite.proofs.rewrite.put_sections.Reads as reads
-use Rattle.rewrite.proofs.rewrite.put_sections.Lts as lts
-use Rattle.clip_information.proofs.info.clip_info.Reads as clip-info-reads
-use Rattle.encode_head.proofs.put_head.Reads as put-head-reads
-use Rattle.encode_head.proofs.put_marks.Reads as put-marks-reads
-use Rattle.numbers.proofs.u32_at.Reads as u32-at-reads
-use Rattle.rewrite_cpi.proofs.put_cpi.Reads as put-cpi-reads
-use Rattle.rewrite_sections.proofs.put_programs.Reads as put-programs-reads
-use Rattle.rewrite_sections.proofs.put_sequences.Reads as put-sequences-reads
 
--- src/rewrite.rt:59:9
 clip-info-requires : tie.Need-clip-info-requires
-clip-info-requires c κs = ?
+clip-info-requires c κs =
+    let s = c .before .before in
+    let f = now (s .args .file) in
+    let r = s .pre in
+    let b : IsBytes f = λ i. c .before .shared-slice-known .given i .fits in
+    accepted-bounds f (accepted f b r) .1
 
--- src/rewrite.rt:60:9
 cast-put-head : tie.Need-cast-put-head
-cast-put-head c = ?
+cast-put-head c =
+    let s = c .before .before .before in
+    let f = now (s .args .file) in
+    let r = s .pre in
+    let b : IsBytes f = λ i. c .before .before .shared-slice-known .given i .fits in
+    let o = in-order f b r in
+    record { fits = omega (arith, o .narrow, o .programs-end, o .sequences) }
 
--- src/rewrite.rt:61:9
 cast-put-head-2 : tie.Need-cast-put-head-2
-cast-put-head-2 c = ?
+cast-put-head-2 c =
+    let s = c .before .before .before in
+    let f = now (s .args .file) in
+    let r = s .pre in
+    let b : IsBytes f = λ i. c .before .before .shared-slice-known .given i .fits in
+    let o = in-order f b r in
+    record { fits = omega (arith, o .narrow, o .programs-end, o .sequences) }
 
--- src/rewrite.rt:62:9
 cast-put-head-3 : tie.Need-cast-put-head-3
-cast-put-head-3 c = ?
+cast-put-head-3 c =
+    let s = c .before .before .before in
+    let f = now (s .args .file) in
+    let r = s .pre in
+    let b : IsBytes f = λ i. c .before .before .shared-slice-known .given i .fits in
+    let o = in-order f b r in
+    record { fits = omega (arith, o .narrow, o .programs-end, o .sequences) }
 
--- src/rewrite.rt:58:5
 put-head-requires : tie.Need-put-head-requires
-put-head-requires c κs = ?
+put-head-requires c κs =
+    let s = c .before .before .before .before in
+    let f = now (s .args .file) in
+    let r = s .pre in
+    let b : IsBytes f = λ i. c .before .before .before .shared-slice-known .given i .fits in
+    let o = in-order f b r in
+    omega (arith, o .head, o .sequences, o .programs-end, o .room)
 
--- src/rewrite.rt:65:25
 u32-at-requires : tie.Need-u32-at-requires
-u32-at-requires c κs = ?
+u32-at-requires c κs =
+    let s = c .before .before .before .before .before .before .before in
+    let f = now (s .args .file) in
+    let r = s .pre in
+    let b : IsBytes f = λ i. c .before .before .before .before .before .before .shared-slice-known .given i .fits in
+    omega (arith, accepted-bounds f (accepted f b r) .1)
 
--- src/rewrite.rt:65:25
 cast-put-sequences : tie.Need-cast-put-sequences
 cast-put-sequences c = search needs
 
--- src/rewrite.rt:65:5
 put-sequences-requires : tie.Need-put-sequences-requires
-put-sequences-requires c κs = ?
+put-sequences-requires c κs =
+    let s = c .before .before .before .before .before .before .before .before .before in
+    let f = now (s .args .file) in
+    let r = s .pre in
+    let b : IsBytes f = λ i. c .before .before .before .before .before .before .before .before .shared-slice-known .given i .fits in
+    sequences-room f b r _ (c .before .u32-at .ensures .same) (c .before .before .before .before .put-head .kept .1 .1 .1 .1 .0)
 
--- src/rewrite.rt:68:9
 u32-at-requires-2 : tie.Need-u32-at-requires-2
-u32-at-requires-2 c κs = ?
+u32-at-requires-2 c κs =
+    let s = c .before .before .before .before .before .before .before .before .before .before .before .before in
+    let f = now (s .args .file) in
+    let r = s .pre in
+    let b : IsBytes f = λ i. c .before .before .before .before .before .before .before .before .before .before .before .shared-slice-known .given i .fits in
+    omega (arith, accepted-bounds f (accepted f b r) .1)
 
--- src/rewrite.rt:68:9
 cast-put-programs : tie.Need-cast-put-programs
 cast-put-programs c = search needs
 
--- src/rewrite.rt:69:9
 sub-put-programs : tie.Need-sub-put-programs
-sub-put-programs c = ?
+sub-put-programs c =
+    let s = c .before .before .before .before .before .before .before .before .before .before .before .before .before in
+    let f = now (s .args .file) in
+    let r = s .pre in
+    let b : IsBytes f = λ i. c .before .before .before .before .before .before .before .before .before .before .before .before .shared-slice-known .given i .fits in
+    in-order f b r .sequences
 
--- src/rewrite.rt:66:5
 put-programs-requires : tie.Need-put-programs-requires
-put-programs-requires c κs = ?
+put-programs-requires c κs =
+    let s = c .before .before .before .before .before .before .before .before .before .before .before .before .before .before in
+    let f = now (s .args .file) in
+    let r = s .pre in
+    let b : IsBytes f = λ i. c .before .before .before .before .before .before .before .before .before .before .before .before .before .shared-slice-known .given i .fits in
+    programs-room f b r _ (c .before .u32-at2 .ensures .same) (c .before .before .before .before .put-sequences .kept .1 .1 .1 .1 .0 ∙ c .before .before .before .before .before .before .before .before .before .put-head .kept .1 .1 .1 .1 .0)
 
--- src/rewrite.rt:75:9
 u32-at-requires-3 : tie.Need-u32-at-requires-3
-u32-at-requires-3 c κs = ?
+u32-at-requires-3 c κs =
+    let s = c .before .before .before .before .before .before .before .before .before .before .before .before .before .before .before .before .before in
+    let f = now (s .args .file) in
+    let r = s .pre in
+    let b : IsBytes f = λ i. c .before .before .before .before .before .before .before .before .before .before .before .before .before .before .before .before .shared-slice-known .given i .fits in
+    omega (arith, accepted-bounds f (accepted f b r) .1)
 
--- src/rewrite.rt:75:9
 cast-put-cpi : tie.Need-cast-put-cpi
 cast-put-cpi c = search needs
 
--- src/rewrite.rt:77:9
 sub-put-cpi : tie.Need-sub-put-cpi
-sub-put-cpi c = ?
+sub-put-cpi c =
+    let s = c .before .before .before .before .before .before .before .before .before .before .before .before .before .before .before .before .before .before in
+    let f = now (s .args .file) in
+    let r = s .pre in
+    let b : IsBytes f = λ i. c .before .before .before .before .before .before .before .before .before .before .before .before .before .before .before .before .before .shared-slice-known .given i .fits in
+    in-order f b r .programs-end
 
--- src/rewrite.rt:73:5
 put-cpi-requires : tie.Need-put-cpi-requires
-put-cpi-requires c κs = ?
+put-cpi-requires c κs =
+    let s = c .before .before .before .before .before .before .before .before .before .before .before .before .before .before .before .before .before .before .before in
+    let f = now (s .args .file) in
+    let r = s .pre in
+    let b : IsBytes f = λ i. c .before .before .before .before .before .before .before .before .before .before .before .before .before .before .before .before .before .before .shared-slice-known .given i .fits in
+    cpi-room f b r _ (c .before .u32-at3 .ensures .same) (c .before .before .before .before .put-programs .kept .1 .1 .1 .0 ∙ c .before .before .before .before .before .before .before .before .before .put-sequences .kept .1 .1 .1 .1 .0 ∙ c .before .before .before .before .before .before .before .before .before .before .before .before .before .before .put-head .kept .1 .1 .1 .1 .0)
 
--- src/rewrite.rt:81:5
 put-marks-requires : tie.Need-put-marks-requires
-put-marks-requires c κs = ?
+put-marks-requires c κs =
+    let s = c .before .before .before .before .before .before .before .before .before .before .before .before .before .before .before .before .before .before .before .before .before .before .before in
+    let f = now (s .args .file) in
+    let r = s .pre in
+    let b : IsBytes f = λ i. c .before .before .before .before .before .before .before .before .before .before .before .before .before .before .before .before .before .before .before .before .before .before .shared-slice-known .given i .fits in
+    let same = c .before .before .before .put-cpi .kept .1 .1 .1 .1 .0 ∙ c .before .before .before .before .before .before .before .before .put-programs .kept .1 .1 .1 .0 ∙ c .before .before .before .before .before .before .before .before .before .before .before .before .before .put-sequences .kept .1 .1 .1 .1 .0 ∙ c .before .before .before .before .before .before .before .before .before .before .before .before .before .before .before .before .before .before .put-head .kept .1 .1 .1 .1 .0 in
+    omega (arith, same, in-order f b r .room)
 
--- src/rewrite.rt:45:1
 same-length : tie.Need-same-length
 same-length c = search needs
 
--- src/rewrite.rt:45:1
 returns : tie.Need-returns
-returns c = ?
+unfolding clipOf
+returns c =
+    let s = c .before .before .before .before .before .before .before .before .before .before .before .before .before .before .before .before .before .before .before .before .before .before .before .before .before .before in
+    let f = now (s .args .file) in
+    let r = s .pre in
+    let b : IsBytes f = λ i. c .before .before .before .before .before .before .before .before .before .before .before .before .before .before .before .before .before .before .before .before .before .before .before .before .before .shared-slice-known .given i .fits in
+    let q = c .before .before .before .before .before .before .before .before .before .before .before .before .before .before .before .before .before .before .u32-at .ensures .same in
+    let p = c .before .before .before .before .before .before .before .before .before .before .before .before .before .u32-at2 .ensures .same in
+    let m = c .before .before .before .before .before .before .before .before .u32-at3 .ensures .same in
+    placed-stored (clipOf f) (r .placed) (now (s .args .out)) (rw (c .before .before .before .before .before .before .before .before .before .before .before .before .before .before .before .before .before .before .before .before .before .before .before .clip-info .ensures) at (c .before .before .before .before .before .before .before .before .before .before .before .before .before .before .before .before .before .before .before .before .before .put-head .ensures)) (stored-as _ 220 (c .before .before .before .before .before .before .before .before .before .before .before .before .before .before .before .before .put-sequences .ensures .1) (sequences-in f q))
+    (stored-as _ (s .args .programs-at) (c .before .before .before .before .before .before .before .before .before .before .before .put-programs .ensures .1) (programs-in f p)) (stored-as _ (s .args .cpi-at) (c .before .before .before .before .before .before .put-cpi .ensures .1) (cpi-in f m)) (c .before .before .put-marks .ensures)
 
 pub put-sections-spec : {M : Type 1} → statement M
 put-sections-spec =

@@ -1,46 +1,73 @@
+-- The plan's refusal, an output that is too short, or the whole new file stored.
+use Prim.Native.Nat.{_+_}
+use mathlib.Core.Path.{refl}
+use native.Mathlib.Omega.{arith}
+use denote.Ref.{now}
+use lib.ListN.{length}
+use Rattle.format.specs.Reading.{clipOf}
+use Rattle.encode.proofs.Answers.{answer-refused, answer-short, answer-written, output-written}
+use Rattle.rewrite.specs.Rewrite.{rewriteRefusal, rewriteAnswer}
+use Rattle.rewrite.proofs.Refusals.{refusal-told, ready-told, marks-short}
 use borrow.Author.Needs.{needs}
 use Rattle.rewrite.proofs.rewrite.rewrite.Statement.{statement}
 use Rattle.rewrite.proofs.rewrite.rewrite.Tie as tie
-use Rattle.rewrite.proofs.rewrite.rewrite.Reads as reads
-use Rattle.rewrite.proofs.rewrite.rewrite.Lts as lts
-use Rattle.rewrite.proofs.measure.plan.Reads as plan-reads
-use Rattle.rewrite.proofs.rewrite.put_sections.Reads as put-sections-reads
 
--- src/rewrite.rt:89:11
 plan-requires : tie.Need-plan-requires
 plan-requires c κs = search needs
 
--- src/rewrite.rt:90:26
 enum-known-n : tie.Need-enum-known-n
 enum-known-n c = search needs
 
--- src/rewrite.rt:92:13
 enum-known-atcs : tie.Need-enum-known-atcs
 enum-known-atcs c = search needs
 
--- src/rewrite.rt:99:23
 add-len : tie.Need-add-len
-add-len c = ?
+add-len c =
+    let a = c .before .before .before .before .before .before .args in
+    let f = now (a .file) in
+    let g = c .before .atcs .given in
+    let is = c .before .before .before .plan .ensures in
+    let r = ready-told f is (g .0 .1 .1 .1 .1 .1 .0 + 6) (g .1) (omega arith) in
+    record { fits = omega (arith, r .placed .marks-at, marks-short f (λ i. c .before .before .before .before .before .shared-slice-known .given i .fits) (r .rewritable)) }
 
--- src/rewrite.rt:101:17
 returns : tie.Need-returns
-returns c = ?
+unfolding rewriteAnswer
+returns c =
+    let a = c .before .before .before .before .before .before .before .args in
+    let f = now (a .file) in
+    let g = c .before .before .atcs .given in
+    let is = c .before .before .before .before .plan .ensures in
+    let r = ready-told f is (g .0 .1 .1 .1 .1 .1 .0 + 6) (g .1) (omega arith) in
+    (answer-short (rewriteRefusal f) (clipOf f) (now (a .out)) (r .rewritable) (r .placed .marks-at) (c .if1 .taken), refl)
 
--- src/rewrite.rt:103:13
 put-sections-requires : tie.Need-put-sections-requires
-put-sections-requires c κs = ?
+put-sections-requires c κs =
+    let a = c .before .before .before .before .before .before .before .before .args in
+    let f = now (a .file) in
+    let g = c .before .before .before .atcs .given in
+    let is = c .before .before .before .before .before .plan .ensures in
+    ready-told f is (length (now (a .out))) (g .1) (c .before .if1 .left)
 
--- src/rewrite.rt:85:1
 returns-2 : tie.Need-returns-2
-returns-2 c = ?
+unfolding rewriteAnswer
+returns-2 c =
+    let a = c .before .before .before .before .before .before .args in
+    let f = now (a .file) in
+    (answer-refused (rewriteRefusal f) (clipOf f) (now (a .out)) (refusal-told f (c .before .before .before .plan .ensures) (c .before .n .given .1)), refl)
 
--- src/rewrite.rt:85:1
 same-length : tie.Need-same-length
 same-length c = search needs
 
--- src/rewrite.rt:85:1
 returns-3 : tie.Need-returns-3
-returns-3 c = ?
+unfolding rewriteAnswer
+returns-3 c =
+    let a = c .before .before .before .before .before .before .before .before .before .before .before .args in
+    let f = now (a .file) in
+    let g = c .before .before .before .before .before .before .atcs .given in
+    let is = c .before .before .before .before .before .before .before .before .plan .ensures in
+    let room = c .before .before .before .before .if1 .left in
+    let r = ready-told f is (length (now (a .out))) (g .1) room in
+    (answer-written (rewriteRefusal f) (clipOf f) (now (a .out)) (r .rewritable) (r .placed .marks-at) room, output-written (rewriteRefusal f) (clipOf f) (now (a .out)) (r .placed .marks-at) room (c .before .before .put-sections .ensures))
 
 pub rewrite-spec : {M : Type 1} → statement M
 rewrite-spec =
