@@ -1,13 +1,20 @@
-// Writing a record that tables hold.
+// Writing a record that tables hold, and rewriting a file.
 ghost use mathlib.Core.Path.{_≡_};
-ghost use Rattle.format.specs.Refusals.{writeAnswer, writeNumbers, outputAfter};
+ghost use Rattle.format.specs.Reading.{clipOf};
+ghost use Rattle.format.specs.Refusals.{writeAnswer, writeNumbers, outputBy, outputAfter};
+ghost use Rattle.format.specs.Rewriting.{encode};
 ghost use Rattle.clip_information.specs.Read.{scalarsBy};
 ghost use Rattle.queries.specs.Asked.{stated, tablesWith};
-ghost use Rattle.clpi_writing.specs.Numbers.{writingNumbers};
+ghost use Rattle.rewrite.specs.Rewrite.{rewriteAnswer, lengthAnswer, lengthNumbers};
+ghost use Rattle.clpi_writing.specs.Numbers.{writingNumbers, newLengthNumbers};
 use clip_information::info::ClipInfo;
+use clpi_writing::ClpiLength;
 use clpi_writing::ClpiWriting;
+use clpi_writing::length_of;
 use clpi_writing::writing_of;
 use encode::write::write;
+use rewrite::rewrite::rewrite;
+use rewrite::rewrite::rewritten_length;
 
 // Writes the record of six tables with their stated rows into the output; a refusal leaves it as it was.
 #[no_mangle]
@@ -46,4 +53,21 @@ pub extern "C" fn clpi_write(
         entry_rows,
         output,
     ))
+}
+
+// Rewrites a file into the output; a refusal leaves it as it was.
+#[no_mangle]
+pub extern "C" fn clpi_rewrite(file: &[u8], output: &mut [u8]) -> ClpiWriting
+    ensures { λ r. ⌜ writingNumbers r ≡ writeNumbers (rewriteAnswer (now (file .entry)) (now (output .entry))) ⌝ }
+    ensures { λ _. ⌜ now (output .exit) ≡ outputBy (rewriteAnswer (now (file .entry)) (now (output .entry))) (encode (clipOf (now (file .entry)))) (now (output .entry)) ⌝ }
+{
+    writing_of(rewrite(file, output))
+}
+
+// How long the new file of a file is.
+#[no_mangle]
+pub extern "C" fn clpi_rewritten_length(file: &[u8]) -> ClpiLength
+    ensures { λ r. ⌜ newLengthNumbers r ≡ lengthNumbers (lengthAnswer (now (file .entry))) ⌝ }
+{
+    length_of(rewritten_length(file))
 }

@@ -1,5 +1,5 @@
 -- The refusal of a file, from what was measured of it, and what its absence says.
-use Prim.Native.Nat.{ℕ, _+_, _*_, _≤_}
+use Prim.Native.Nat.{ℕ, _+_, _*_, _^_, _<_, _≤_}
 use mathlib.Core.Path.{_≡_, refl, sym, ap, _∙_}
 use mathlib.Core.List.{List}
 use mathlib.Core.Bool.{Bool, true, false}
@@ -12,17 +12,18 @@ use Rattle.format.specs.ClipRecord.{cpiStart}
 use Rattle.format.specs.EntryPoints.{mapsFrom, entriesFrom}
 use Rattle.format.specs.Reading.{clipOf}
 use Rattle.format.specs.Rewriting.{cpiBytes, encode}
-use Rattle.format.specs.Refusals.{refusalOf, runsFit}
+use Rattle.format.specs.Refusals.{refusalOf, runsFit, WriteAnswer}
 use Rattle.format.proofs.Read.{narrow, good-clip}
 use Rattle.clip_sections.specs.Clips.{sectionsOf}
 use Rattle.clip_sections.specs.declared.sections.Sections.{Sections}
 use Rattle.encode_cpi.specs.declared.Length.{Length}
 use Rattle.encode_cpi.specs.Cpi.{cpiLengthOf}
 use Rattle.rewrite_cpi.proofs.Lengths.{length-said, length-refused}
-use Rattle.encode.specs.Writing.{programsPlace, cpiPlace, marksPlace, Placed}
+use Rattle.encode.specs.Writing.{programsPlace, cpiPlace, marksPlace, Placed, bytesIn}
 use Rattle.encode.proofs.Parts.{good-short, encode-length}
+use Rattle.encode.proofs.Answers.{bytes-narrow}
 use Rattle.rewrite.specs.declared.measure.Planned.{Planned}
-use Rattle.rewrite.specs.Rewrite.{rewriteRefusal, plannedOf, Ready, LengthAnswer, refused, bytes, lengthAnswer}
+use Rattle.rewrite.specs.Rewrite.{rewriteRefusal, plannedOf, Ready, LengthAnswer, refused, bytes, lengthAnswer, lengthIn, rewriteAnswer}
 
 -- ---- choices by a test
 
@@ -128,3 +129,24 @@ module _ (f : List ℕ) where
   pub length-tells : {marks : ℕ} → rewriteRefusal f ≡ 0 → marks ≡ marksPlace (clipOf f) → bytes (marks + 6) ≡ lengthAnswer f
   unfolding lengthAnswer
   length-tells e m = rw (e, encode-length (clipOf f), m)
+
+  -- ---- lengths of 32 bits
+
+  length-narrow-by : (b : Bool) (n r : ℕ) → (b ≡ true → n < 2 ^ 32) → lengthIn (pick b (bytes n) (refused r)) < 2 ^ 32
+  length-narrow-by true n r h = h refl
+  length-narrow-by false n r h = omega arith
+
+  -- the new file's length
+  new-narrow : IsBytes f → rewriteRefusal f ≡ 0 → length (encode (clipOf f)) < 2 ^ 32
+  new-narrow b e = omega (arith, encode-length (clipOf f), marks-short b e)
+
+  -- and so the length that is told
+  pub length-narrow : IsBytes f → {x : LengthAnswer} → x ≡ lengthAnswer f → lengthIn x < 2 ^ 32
+  unfolding lengthAnswer
+  length-narrow b is =
+      rw is (length-narrow-by (eqb (rewriteRefusal f) 0) (length (encode (clipOf f))) (rewriteRefusal f) (λ e. new-narrow b (eqb-true (rewriteRefusal f) 0 e)))
+
+  -- written or needed
+  pub answer-narrow : IsBytes f → (out : List ℕ) {x : WriteAnswer} → x ≡ rewriteAnswer f out → bytesIn x < 2 ^ 32
+  unfolding rewriteAnswer
+  answer-narrow b out is = rw is (bytes-narrow (rewriteRefusal f) (clipOf f) out (new-narrow b))

@@ -38,6 +38,11 @@ abbrev pub lengthNumbers : LengthAnswer → List ℕ
 lengthNumbers (refused n) = n ∷ 0 ∷ []
 lengthNumbers (bytes n) = 0 ∷ n ∷ []
 
+-- the length that an answer tells; none beside a refusal
+abbrev pub lengthIn : LengthAnswer → ℕ
+lengthIn (refused n) = 0
+lengthIn (bytes n) = n
+
 -- the refusal, or the counts and places
 unfoldable pub plannedOf : List ℕ → Planned
 plannedOf f =
