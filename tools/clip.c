@@ -72,7 +72,8 @@ static int in_the_way(const char *path)
     return WRONG_USE;
 }
 
-/* The draft, for a signal that ends the program to take away. */
+/* The signals that end the program, and the draft that they take away then. */
+static const int ends[] = {SIGINT, SIGTERM, SIGHUP};
 static const char *volatile unfinished;
 
 static void interrupted(int number)
@@ -83,13 +84,25 @@ static void interrupted(int number)
     raise(number);
 }
 
-/* Lets signals take the draft away, and a limit on a file's size be told as a failed write. */
-static void handle_signals(void)
+/* Lets them do so, unless the caller ignores them. A limit on a file's size, or nobody to read what is printed, ends
+ * nothing: writing then fails. */
+static void catch_signals(void)
 {
-    signal(SIGINT, interrupted);
-    signal(SIGTERM, interrupted);
-    signal(SIGHUP, interrupted);
+    for (size_t i = 0; i < sizeof ends / sizeof *ends; i++)
+        if (signal(ends[i], interrupted) == SIG_IGN)
+            signal(ends[i], SIG_IGN);
     signal(SIGXFSZ, SIG_IGN);
+    signal(SIGPIPE, SIG_IGN);
+}
+
+/* Holds them back, or lets them come. */
+static void hold_signals(int how)
+{
+    sigset_t set;
+    sigemptyset(&set);
+    for (size_t i = 0; i < sizeof ends / sizeof *ends; i++)
+        sigaddset(&set, ends[i]);
+    sigprocmask(how, &set, NULL);
 }
 
 /* Makes the new file's bytes; the caller frees them. */
@@ -129,22 +142,35 @@ static int checked(const struct new_file *f, const uint8_t *old, size_t bytes, c
     return status;
 }
 
+/* Gives the draft NEW's name; a signal comes too late for that. */
+static int placed(struct new_file *f)
+{
+    hold_signals(SIG_BLOCK);
+    if (place_file(f))
+        return DONE;
+    return errno == EEXIST ? in_the_way(f->path) : failed(f->path);
+}
+
 /* Writes the new file beside its place, checks it, and gives it its name. */
 static int put_new(const char *path, const uint8_t *old, size_t bytes, const uint8_t *output, size_t output_bytes)
 {
     struct new_file f;
-    int status, started = start_file(&f, path);
+    int status, started;
+    hold_signals(SIG_BLOCK);
+    started = start_file(&f, path);
     unfinished = f.draft;
+    hold_signals(SIG_UNBLOCK);
     if (!started || !write_file(&f, output, output_bytes))
         status = failed(path);
-    else if ((status = checked(&f, old, bytes, output, output_bytes)) == DONE && !place_file(&f))
-        status = errno == EEXIST ? in_the_way(path) : failed(path);
+    else if ((status = checked(&f, old, bytes, output, output_bytes)) == DONE)
+        status = placed(&f);
+    hold_signals(SIG_BLOCK);
     unfinished = NULL;
     end_file(&f);
     return status;
 }
 
-/* clip rewrite OLD NEW */
+/* clip rewrite OLD NEW. Once NEW is there all is done, whether or not the line that says so can be printed. */
 static int rewrite(const char *old_path, const char *new_path)
 {
     uint8_t *old, *output = NULL;
@@ -191,7 +217,7 @@ static int minutes(const char *path, uint64_t at)
 int main(int argc, char **argv)
 {
     uint64_t at;
-    handle_signals();
+    catch_signals();
     if (argc == 4 && strcmp(argv[1], "rewrite") == 0)
         return rewrite(argv[2], argv[3]);
     if (argc == 4 && strcmp(argv[1], "minutes") == 0 && number(argv[3], &at))

@@ -67,13 +67,15 @@ int __wrap_fsync(int fd)
     return __real_fsync(fd);
 }
 
-/* A folder without links; a file that gets NEW's name in the last moment. */
+/* A folder without links; a program that is ended in the last moment; a file that gets NEW's name then. */
 int __wrap_link(const char *from, const char *to)
 {
     if (is("no links")) {
         errno = EPERM;
         return -1;
     }
+    if (is("ended too late"))
+        raise(SIGTERM);
     if (is("another was faster"))
         __real_link("another", to);
     return __real_link(from, to);
