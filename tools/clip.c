@@ -76,6 +76,7 @@ static int in_the_way(const char *path)
 static const int ends[] = {SIGINT, SIGTERM, SIGHUP};
 static const char *volatile unfinished;
 
+/* Takes the draft away, and ends as the signal would have. */
 static void interrupted(int number)
 {
     if (unfinished)
