@@ -1,9 +1,12 @@
-/* What the examples share: a file loaded whole, and read into tables that grow to what they need. */
+/* What the examples and the tool share: a file loaded whole, read into tables that grow to what they need, and compared
+ * with another by its record. */
 #ifndef CLIP_FILE_H
 #define CLIP_FILE_H
 
+#include <errno.h>
 #include <stdio.h>
 #include <stdlib.h>
+#include <string.h>
 
 #include "clpi.h"
 
@@ -59,12 +62,13 @@ static void free_tables(struct clpi_tables *t)
     free(t->list_streams);
 }
 
-/* Reads the whole of a file, at most one byte over what is accepted. */
+/* Reads the whole of a file, at most one byte over what is accepted; NULL, and errno says why, where that fails. */
 static uint8_t *load(const char *path, size_t *bytes)
 {
     FILE *f = fopen(path, "rb");
     uint8_t *file = NULL;
     size_t room = 65536, got = 0;
+    int why;
     if (!f)
         return NULL;
     for (;;) {
@@ -82,9 +86,55 @@ static uint8_t *load(const char *path, size_t *bytes)
         }
         room = room > CLPI_MOST_BYTES / 2 ? (size_t)CLPI_MOST_BYTES + 1 : room * 2;
     }
+    why = errno;
     free(file);
     fclose(f);
+    errno = why;
     return NULL;
+}
+
+/* A decimal number of 64 bits; tells whether the word is one. */
+static inline int number(const char *word, uint64_t *value)
+{
+    char *end;
+    errno = 0;
+    *value = strtoull(word, &end, 10);
+    return *word >= '0' && *word <= '9' && !*end && !errno;
+}
+
+/* Tells whether two tables have equal rows, and as many. */
+static inline int same_rows(const void *a, uint32_t a_rows, const void *b, uint32_t b_rows, size_t row_bytes)
+{
+    return a_rows == b_rows && (a_rows == 0 || memcmp(a, b, a_rows * row_bytes) == 0);
+}
+
+/* Tells whether two readings were accepted and have the same record apart from the mark count and the extensions:
+ * equal scalars, and equal rows of tables 1 to 6. */
+static inline int same_record(
+    const struct clpi_reading *a, const struct clpi_tables *s, const struct clpi_reading *b, const struct clpi_tables *t)
+{
+    return !a->refusal && !b->refusal && a->version == b->version && a->clip_stream_type == b->clip_stream_type &&
+           a->application_type == b->application_type && a->ts_recording_rate == b->ts_recording_rate &&
+           a->number_of_source_packets == b->number_of_source_packets && a->validity_flags == b->validity_flags &&
+           a->format_id == b->format_id && same_rows(s->atcs, a->atcs, t->atcs, b->atcs, sizeof *s->atcs) &&
+           same_rows(s->stcs, a->stcs, t->stcs, b->stcs, sizeof *s->stcs) &&
+           same_rows(s->programs, a->programs, t->programs, b->programs, sizeof *s->programs) &&
+           same_rows(s->streams, a->streams, t->streams, b->streams, sizeof *s->streams) &&
+           same_rows(s->maps, a->maps, t->maps, b->maps, sizeof *s->maps) &&
+           same_rows(s->entries, a->entries, t->entries, b->entries, sizeof *s->entries);
+}
+
+/* Reads two clips and tells whether they have the same record. `refusal` is that of the first one that isn't read. */
+static inline int same_clip(
+    const uint8_t *a, size_t a_bytes, const uint8_t *b, size_t b_bytes, uint32_t *refusal)
+{
+    struct clpi_tables s = {0}, t = {0};
+    struct clpi_reading p = read_clip(a, a_bytes, &s), q = read_clip(b, b_bytes, &t);
+    int same = same_record(&p, &s, &q, &t);
+    *refusal = p.refusal ? p.refusal : q.refusal;
+    free_tables(&s);
+    free_tables(&t);
+    return same;
 }
 
 #endif

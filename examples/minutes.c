@@ -1,22 +1,12 @@
 /* Prints the minutes remaining in a clip at a time in 90 kHz ticks: the front figure.
  *
  *     cc -I include examples/minutes.c target/staticlib/libclpi.a -o minutes && ./minutes samples/one_map.clpi 0 */
-#include <errno.h>
 #include <inttypes.h>
 #include <stdio.h>
 #include <stdlib.h>
 
 #include "clip_file.h"
 #include "clpi.h"
-
-/* A decimal number of 64 bits; tells whether the word is one. */
-static int number(const char *word, uint64_t *value)
-{
-    char *end;
-    errno = 0;
-    *value = strtoull(word, &end, 10);
-    return *word >= '0' && *word <= '9' && !*end && !errno;
-}
 
 int main(int argc, char **argv)
 {

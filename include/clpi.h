@@ -1,17 +1,19 @@
-/* clpi.h: Blu-ray clip information (CLPI) files, read into tables that the caller lends.
+/* clpi.h: Blu-ray clip information (CLPI) files, read into tables that the caller lends, and written from them.
  *
  * Link with libclpi.a (`rt staticlib clpi`; x86-64, 64-bit size_t). Every call takes every input, allocates nothing,
  * keeps nothing, calls nothing, needs less than 1 KB of stack, and ends. What it answers and what it stores is
  * proved equal to the format's definitions; what is not proved is the caller's side of this page:
  *
  *  - a pointer points to as many bytes as its length says, at any alignment; with length 0 it may be NULL;
- *  - the tables lent to one call overlap neither one another nor the file, and nothing else uses them meanwhile;
- *  - the file's bytes do not change while a call runs. It reads them twice, to measure and to fill: where another
- *    thread, a device or a mapped file changes them in between, memory behind a table may be overwritten.
+ *  - the tables lent to one call overlap neither one another nor the file, the output overlaps neither the tables
+ *    nor the file, and nothing else uses them meanwhile;
+ *  - the bytes of the file, and of tables that are written from, do not change while a call runs. It reads them
+ *    twice, to measure and to fill: where another thread, a device or a mapped file changes them in between, memory
+ *    behind a table or the output may be overwritten.
  *
  * A table is an array of the structs below, lent as bytes. The array may have any length, and what stands beyond
- * its last whole row is left alone. A refusal leaves every table as it was; on success the rows stand at each
- * table's front, and beyond them is what was there before. */
+ * its last whole row is left alone. A refusal leaves every table and every output as it was; on success the rows
+ * stand at each table's front and the new file at the output's, and beyond them is what was there before. */
 #ifndef CLPI_H
 #define CLPI_H
 
@@ -43,7 +45,7 @@ enum clpi_refusal {
     CLPI_FILE_TOO_LONG = 20,  /* over CLPI_MOST_BYTES */
     CLPI_TABLE_SHORT = 21,    /* a table is too short: `table` and `rows_needed` tell which, and how long it must be */
     CLPI_ROWS = 22,           /* a row number, stated rows or a row's data that isn't there */
-    CLPI_OUTPUT_SHORT = 23,   /* an output is too short (writing) */
+    CLPI_OUTPUT_SHORT = 23,   /* the output is too short: `bytes_needed` tells how long it must be (writing) */
     /* the record's maker (writing) */
     CLPI_CELLS = 30, /* a count or a cell that its field in the file can't hold */
     CLPI_RUNS = 31   /* a map with over 65,535 runs */
@@ -51,6 +53,9 @@ enum clpi_refusal {
 
 /* the longest file that is read */
 #define CLPI_MOST_BYTES 536870912u
+
+/* the longest file that is written: an output of so many bytes is never too short */
+#define CLPI_MOST_REWRITTEN_BYTES 402515706u
 
 /* the most rows that an accepted file can need, table by table; 8 and 9 are as 3 and 4 */
 #define CLPI_MOST_ATCS 255u
@@ -200,6 +205,98 @@ static inline struct clpi_reading clpi_read_tables(const uint8_t *file, size_t f
         (uint8_t *)t->list_programs, t->list_programs_room * sizeof *t->list_programs,
         (uint8_t *)t->list_streams, t->list_streams_room * sizeof *t->list_streams);
 }
+
+/* ---- writing and rewriting
+ *
+ * Writing puts the file of a record at the output's front: letters CLPI, then clip, sequences, programs, CPI and empty
+ * marks, one behind the other. It tests, in this order:
+ *
+ *  - CLPI_ROWS: more rows are stated of a table than are lent, or the counts of a table (`stc_count`, `stream_count`,
+ *    `entry_count`) don't add up to the rows stated of the table counted;
+ *  - CLPI_CELLS: over 255 ATCs, STCs of one ATC, programs, streams of one program, or maps; over 262,143 entries of a
+ *    map; a time that is no multiple of 512, an I-end over 7, an entry's type that is not its map's; an aspect on a
+ *    stream that is no video, a language on one that is; any other number that is too large for its field;
+ *  - CLPI_RUNS: a map has over 65,535 runs. A run is a longest stretch of entries with equal time / 524288 and equal
+ *    packet / 131072;
+ *  - CLPI_OUTPUT_SHORT: the new file is longer than the output.
+ *
+ * All tests come before the first byte is stored. Neither the mark count nor tables 7 to 9 are looked at: the marks of
+ * the new file are empty, and it has no extensions. A language made by hand with capitals is written as it is. */
+
+/* The scalars of a record, as a reading has them. The stream type, the application type and the validity flags have a
+ * byte each in the file: CLPI_CELLS where one is over 255. */
+struct clpi_clip_info {
+    uint32_t version; /* four bytes, the first one highest */
+    uint32_t clip_stream_type;
+    uint32_t application_type;
+    uint32_t ts_recording_rate; /* bytes a second */
+    uint32_t number_of_source_packets;
+    uint32_t validity_flags;
+    uint32_t format_id; /* four bytes, the first one highest */
+};
+
+/* What writing and rewriting answer. Other numbers are 0. */
+struct clpi_writing {
+    uint32_t refusal;       /* enum clpi_refusal */
+    uint32_t bytes_needed;  /* 23: how long the output must be */
+    uint32_t bytes_written; /* where `refusal` is 0 */
+};
+
+/* Writes a record. Each of tables 1 to 6 is given by its first byte, its length in bytes and the rows stated to be in
+ * it. To learn how long the output must be, call it with none (NULL, 0): the answer is 23 with `bytes_needed`, as no
+ * file is empty. */
+struct clpi_writing clpi_write(
+    struct clpi_clip_info info,
+    const uint8_t *atcs, size_t atcs_bytes, uint32_t atc_rows,
+    const uint8_t *stcs, size_t stcs_bytes, uint32_t stc_rows,
+    const uint8_t *programs, size_t programs_bytes, uint32_t program_rows,
+    const uint8_t *streams, size_t streams_bytes, uint32_t stream_rows,
+    const uint8_t *maps, size_t maps_bytes, uint32_t map_rows,
+    const uint8_t *entries, size_t entries_bytes, uint32_t entry_rows,
+    uint8_t *output, size_t output_bytes);
+
+/* The same call on the record that a reading has put into the tables. A reading that was refused has put nothing
+ * there: its refusal is handed on, and nothing is written. */
+static inline struct clpi_writing clpi_write_tables(
+    const struct clpi_reading *r, const struct clpi_tables *t, uint8_t *output, size_t output_bytes)
+{
+    struct clpi_clip_info info;
+    if (r->refusal) {
+        struct clpi_writing refused = {0, 0, 0};
+        refused.refusal = r->refusal;
+        return refused;
+    }
+    info.version = r->version;
+    info.clip_stream_type = r->clip_stream_type;
+    info.application_type = r->application_type;
+    info.ts_recording_rate = r->ts_recording_rate;
+    info.number_of_source_packets = r->number_of_source_packets;
+    info.validity_flags = r->validity_flags;
+    info.format_id = r->format_id;
+    return clpi_write(
+        info,
+        (const uint8_t *)t->atcs, t->atcs_room * sizeof *t->atcs, r->atcs,
+        (const uint8_t *)t->stcs, t->stcs_room * sizeof *t->stcs, r->stcs,
+        (const uint8_t *)t->programs, t->programs_room * sizeof *t->programs, r->programs,
+        (const uint8_t *)t->streams, t->streams_room * sizeof *t->streams, r->streams,
+        (const uint8_t *)t->maps, t->maps_room * sizeof *t->maps, r->maps,
+        (const uint8_t *)t->entries, t->entries_room * sizeof *t->entries, r->entries,
+        output, output_bytes);
+}
+
+/* Rewrites a file, straight from its bytes: reads it and writes its record, with no tables lent. It tests what reading
+ * tests (20, then 1 to 8; never 21), then CLPI_RUNS, then CLPI_OUTPUT_SHORT. The new file reads to the same record
+ * apart from the mark count and the extensions, every question on it has the same answer, and rewriting it again
+ * changes no byte. */
+struct clpi_writing clpi_rewrite(const uint8_t *file, size_t file_bytes, uint8_t *output, size_t output_bytes);
+
+/* How long the new file is, at most CLPI_MOST_REWRITTEN_BYTES; it may be longer than the old one. `bytes` is 0 where
+ * the file is refused: as by rewriting, but never by 23. */
+struct clpi_length {
+    uint32_t refusal; /* enum clpi_refusal */
+    uint32_t bytes;
+};
+struct clpi_length clpi_rewritten_length(const uint8_t *file, size_t file_bytes);
 
 /* ---- an extension and its data */
 

@@ -1,0 +1,82 @@
+/* Faults for the test of the tool: linked in with --wrap, each stands before a call and fails it if FAULT names it. */
+#define _POSIX_C_SOURCE 200809L
+#include <errno.h>
+#include <signal.h>
+#include <stdlib.h>
+#include <string.h>
+#include <sys/stat.h>
+#include <unistd.h>
+
+#include "clpi.h"
+
+struct clpi_writing __real_clpi_rewrite(const uint8_t *file, size_t file_bytes, uint8_t *output, size_t output_bytes);
+struct clpi_writing __wrap_clpi_rewrite(const uint8_t *file, size_t file_bytes, uint8_t *output, size_t output_bytes);
+ssize_t __real_write(int fd, const void *bytes, size_t count);
+ssize_t __wrap_write(int fd, const void *bytes, size_t count);
+int __real_fsync(int fd);
+int __wrap_fsync(int fd);
+int __real_link(const char *from, const char *to);
+int __wrap_link(const char *from, const char *to);
+
+/* Tells whether a fault is the one asked for. */
+static int is(const char *fault)
+{
+    const char *asked = getenv("FAULT");
+    return asked && strcmp(asked, fault) == 0;
+}
+
+/* A new file with another rate, or one that is no clip file. */
+struct clpi_writing __wrap_clpi_rewrite(const uint8_t *file, size_t file_bytes, uint8_t *output, size_t output_bytes)
+{
+    struct clpi_writing w = __real_clpi_rewrite(file, file_bytes, output, output_bytes);
+    if (w.refusal == CLPI_OK && is("another record"))
+        output[55] ^= 1;
+    if (w.refusal == CLPI_OK && is("no clip file"))
+        output[0] ^= 1;
+    return w;
+}
+
+/* A byte that reaches the medium changed; a medium that takes seven bytes at a time and is interrupted in between. */
+ssize_t __wrap_write(int fd, const void *bytes, size_t count)
+{
+    static int calls;
+    if (is("another byte")) {
+        unsigned char first = *(const unsigned char *)bytes ^ 1;
+        return __real_write(fd, &first, 1);
+    }
+    if (!is("small writes"))
+        return __real_write(fd, bytes, count);
+    if (calls++ % 2) {
+        errno = EINTR;
+        return -1;
+    }
+    return __real_write(fd, bytes, count < 7 ? count : 7);
+}
+
+/* A file or a folder that doesn't reach the medium; a program that is ended while it waits. */
+int __wrap_fsync(int fd)
+{
+    struct stat s;
+    int folder = fstat(fd, &s) == 0 && S_ISDIR(s.st_mode);
+    if (is("ended while waiting"))
+        raise(SIGTERM);
+    if (is(folder ? "folder not kept" : "file not kept")) {
+        errno = EIO;
+        return -1;
+    }
+    return __real_fsync(fd);
+}
+
+/* A folder without links; a program that is ended in the last moment; a file that gets NEW's name then. */
+int __wrap_link(const char *from, const char *to)
+{
+    if (is("no links")) {
+        errno = EPERM;
+        return -1;
+    }
+    if (is("ended too late"))
+        raise(SIGTERM);
+    if (is("another was faster"))
+        __real_link("another", to);
+    return __real_link(from, to);
+}
