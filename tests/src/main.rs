@@ -8,6 +8,7 @@ mod compare;
 mod expected;
 mod guarded;
 mod large;
+mod libbluray;
 mod limits;
 mod made;
 mod make;
@@ -37,6 +38,7 @@ const USAGE: &str = "usage: compare compare FIRST COUNT   the files and tables o
        compare mutants COUNT         wrong readers, answerers and writers must be caught by one of the first COUNT seeds
        compare limits                writing at each limit and one over it, each by its name
        compare large                 the longest file and the longest tables (needs 6 GB)
+       compare libbluray COUNT       libbluray, where it is installed, reads the new files of the first COUNT seeds
        compare sample FOLDER COUNT   COUNT files of each class with the Rust's answers, for crates/replay
        compare show SEED             one file's bytes and what each reader says of it";
 
@@ -49,6 +51,7 @@ fn main() -> ExitCode {
         (Some("mutants"), 2, Some(count), None) => mutants::mutants(count),
         (Some("limits"), 1, None, None) => limits::limits(),
         (Some("large"), 1, None, None) => large::large(),
+        (Some("libbluray"), 2, Some(count), None) => libbluray::libbluray(count),
         (Some("sample"), 3, None, Some(count)) => sample::sample(&words[1], count),
         (Some("show"), 2, Some(seed), None) => run::show(seed),
         _ => {
