@@ -152,7 +152,7 @@ impl Comparison {
         self.extension_data(file, &clip.extension.entries, reader)?;
         self.each_short(file, reader)?;
         self.some_short(file, reader)?;
-        if self.writings.new.is_empty() { Ok(()) } else { self.read_back(&clip, reader, writer) }
+        if self.writings.new.is_empty() { Ok(()) } else { self.read_back(&clip, reader, answerer, writer) }
     }
 
     /// Takes the starts of table 7 from the plain reader, once the file has the Rust's data there.
@@ -221,21 +221,25 @@ impl Comparison {
         self.must_be_filled().map_err(|why| format!("after writing: {why}"))
     }
 
-    /// The new file must read to the same record, without marks and extensions, by the Rust and by the reader, and
-    /// rewriting it must change no byte.
+    /// The new file must read to the same record, without marks and extensions, by the Rust and by the reader; the
+    /// questions are asked of each eighth; and rewriting it must change no byte.
     fn read_back(
         &mut self,
         clip: &ClipInformation,
         reader: &mut impl Reader,
+        answerer: &mut impl Answerer,
         writer: &mut impl Writer,
     ) -> Result<(), Difference> {
-        self.writings.same_for_the_rust(clip)?;
+        let again = self.writings.same_for_the_rust(clip)?;
         let new = std::mem::take(&mut self.writings.new);
         let scalars = self.expected.scalars;
         let kept: [Vec<u32>; 3] = std::array::from_fn(|k| std::mem::take(&mut self.expected.tables[EXTENSIONS + k]));
         (self.expected.scalars.marks, self.expected.scalars.has_list) = (0, false);
         let lengths = self.longer(self.expected.all_rows(), 1);
-        let read = self.must_read(&new, lengths, reader);
+        let mut read = self.must_read(&new, lengths, reader);
+        if self.random.one_in(8) {
+            read = read.and_then(|()| self.ask(&again, lengths, answerer));
+        }
         self.expected.scalars = scalars;
         for (table, cells) in (EXTENSIONS..=LIST_STREAMS).zip(kept) {
             self.expected.tables[table] = cells;

@@ -144,9 +144,8 @@ fn programs(clip: &Clip, record: &Record) -> Result<(), Difference> {
     must(programs == record.tables[PROGRAMS] && cells.next().is_none(), || "the programs".into())
 }
 
-/// Whether a stream is the one of these cells, in what libbluray reads of its coding type at the place where it is written:
-/// not the language of graphics (0x90, 0x91, 0xA0), which it reads a byte earlier, nor one that isn't given, for which it
-/// reads what stands behind the body.
+/// Whether a stream is the one of these cells, in what libbluray reads of its coding type. The language of graphics (0x90,
+/// 0x91, 0xA0) it reads a byte earlier, from the format on; for one that isn't given it reads what stands behind the body.
 fn is_same_stream(given: &ProgStream, wanted: &[u32]) -> bool {
     let &[pid, kind, format, aspect, language] = wanted else { return false };
     let halves = (u32::from(given.format), u32::from(given.rate)) == (format >> 4, format & 15);
@@ -156,6 +155,7 @@ fn is_same_stream(given: &ProgStream, wanted: &[u32]) -> bool {
         0x02 | 0x1B | 0x20 | 0x24 | 0xEA => halves && u32::from(given.aspect) == aspect,
         0x03 | 0x04 | 0x80..=0x86 | 0xA1 | 0xA2 => halves && same_language,
         0x92 => u32::from(given.char_code) == format && same_language,
+        0x90 | 0x91 | 0xA0 => language == 0 || text(&given.lang) == text(&[format as u8, letters[1], letters[2]]),
         0x01 => halves,
         _ => true,
     };

@@ -124,8 +124,8 @@ impl Writings {
         self.must_give(random, |output| writer.rewrite(file, output)).map_err(|why| format!("rewriting: {why}"))
     }
 
-    /// The Rust reads the new file to the same record, with no marks and no extensions.
-    pub fn same_for_the_rust(&self, clip: &ClipInformation) -> Result<(), Difference> {
+    /// The Rust reads the new file to the same record, with no marks and no extensions; what it reads.
+    pub fn same_for_the_rust(&self, clip: &ClipInformation) -> Result<ClipInformation, Difference> {
         let again = ClipInformation::parse(&self.new).map_err(|why| format!("the Rust refuses the new file: {why}"))?;
         let same = again.version == clip.version
             && again.clip_info == clip.clip_info
@@ -134,7 +134,8 @@ impl Writings {
             && again.cpi == clip.cpi;
         must(same, || "the Rust reads the new file to another record".into())?;
         let extensions = !again.extension.entries.is_empty() || again.extension.program_info_ss.is_some();
-        must(again.clip_mark.num_marks == 0 && !extensions, || "the new file has marks or extensions".into())
+        must(again.clip_mark.num_marks == 0 && !extensions, || "the new file has marks or extensions".into())?;
+        Ok(again)
     }
 
     /// An output that suffices gets the new file at its front; one that is short by a byte, or by any number, is told the
