@@ -38,44 +38,16 @@ pub fn small() -> Made {
     };
     let language = |letters: &[u8; 3]| u32::from_be_bytes([0, letters[0], letters[1], letters[2]]);
     let mut made = Made { info, ..Made::default() };
-    made.cells[ATCS] = vec![0, 1, 0, 500, 0, 3, 700_000, 2, 1];
-    made.cells[STCS] = vec![0x1001, 0, 900, 90_000, 0x1001, 700_000, 0, 45, 0x1002, 800_000, 45, 450_000];
-    made.cells[PROGRAMS] = vec![0, 0x0100, 2, 9, 0x0101, 0, 700_000, 0x0102, 3];
-    made.cells[STREAMS] = vec![
-        0x1011,
-        0x1B,
-        0x62,
-        3,
-        0, //
-        0x1100,
-        0x81,
-        0x61,
-        0,
-        language(b"eng"), //
-        0x1200,
-        0x90,
-        0,
-        0,
-        language(b"deu"), //
-        0x1101,
-        0x83,
-        0x31,
-        0,
-        0, //
-        0x1012,
-        0x24,
-        0x81,
-        3,
-        0,
-    ];
-    made.cells[MAPS] = vec![0x1011, 1, 3, 0x1012, 6, 0, 0x1013, 8, 2];
-    made.cells[ENTRIES] = vec![
-        0, 1, 512, 7, 1, //
-        1, 2, 524_288, 7, 1, //
-        0, 3, 524_800, 131_079, 1, //
-        1, 4, 1024, 0, 8, //
-        0, 5, 2048, 99, 8,
-    ];
+    made.cells[ATCS] = [[0, 1, 0], [500, 0, 3], [700_000, 2, 1]].concat();
+    let first = [0x1001, 0, 900, 90_000];
+    made.cells[STCS] = [first, [0x1001, 700_000, 0, 45], [0x1002, 800_000, 45, 450_000]].concat();
+    made.cells[PROGRAMS] = [[0, 0x0100, 2], [9, 0x0101, 0], [700_000, 0x0102, 3]].concat();
+    let video = [[0x1011, 0x1B, 0x62, 3, 0], [0x1012, 0x24, 0x81, 3, 0]];
+    let audio = [[0x1100, 0x81, 0x61, 0, language(b"eng")], [0x1101, 0x83, 0x31, 0, 0]];
+    made.cells[STREAMS] = [video[0], audio[0], [0x1200, 0x90, 0, 0, language(b"deu")], audio[1], video[1]].concat();
+    made.cells[MAPS] = [[0x1011, 1, 3], [0x1012, 6, 0], [0x1013, 8, 2]].concat();
+    let three_runs = [[0, 1, 512, 7, 1], [1, 2, 524_288, 7, 1], [0, 3, 524_800, 131_079, 1]];
+    made.cells[ENTRIES] = [three_runs.concat(), [[1, 4, 1024, 0, 8], [0, 5, 2048, 99, 8]].concat()].concat();
     made
 }
 
