@@ -37,7 +37,7 @@ use std::process::ExitCode;
 const USAGE: &str = "usage: compare compare FIRST COUNT   the files and tables of COUNT seeds from FIRST on
        compare mutants COUNT         wrong readers, answerers and writers must be caught by one of the first COUNT seeds
        compare limits                writing at each limit and one over it, each by its name
-       compare large                 the longest file and the longest tables (needs 6 GB)
+       compare large                 the longest file, tables and new file (needs 8 GB)
        compare libbluray COUNT       libbluray, where it is installed, reads the new files of the first COUNT seeds
        compare sample FOLDER COUNT   COUNT files of each class with the Rust's answers, for crates/replay
        compare show SEED             one file's bytes and what each reader says of it";

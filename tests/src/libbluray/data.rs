@@ -142,6 +142,9 @@ unsafe extern "C" {
     fn dlsym(library: *mut c_void, name: *const c_char) -> *mut c_void;
 }
 
+/// The version whose structs these are.
+const VERSION: [c_int; 3] = [1, 3, 4];
+
 /// libbluray's two calls.
 #[derive(Clone, Copy)]
 pub struct Library {
@@ -150,7 +153,7 @@ pub struct Library {
 }
 
 impl Library {
-    /// The library, or none where it isn't installed.
+    /// The library, or none where it isn't installed or has another version, whose structs may be others.
     pub fn find() -> Option<Self> {
         let find = |library: *mut c_void, name: &CStr| {
             // SAFETY: the library is open and the name ends in a zero byte.
@@ -162,9 +165,17 @@ impl Library {
         if library.is_null() {
             return None;
         }
+        let version = find(library, c"bd_get_version")?;
         let (read, free) = (find(library, c"bd_read_clpi")?, find(library, c"bd_free_clpi")?);
-        // SAFETY: bluray.h declares these two calls with these types.
-        unsafe { Some(Library { read: std::mem::transmute(read), free: std::mem::transmute(free) }) }
+        let mut numbers = [0; 3];
+        let [major, minor, micro] = &mut numbers;
+        // SAFETY: bluray.h declares these calls with these types.
+        let calls = unsafe {
+            let version: unsafe extern "C" fn(&mut c_int, &mut c_int, &mut c_int) = std::mem::transmute(version);
+            version(major, minor, micro);
+            Library { read: std::mem::transmute(read), free: std::mem::transmute(free) }
+        };
+        (numbers == VERSION).then_some(calls)
     }
 
     /// Reads a file and looks at what it was read to; none where it is refused.
