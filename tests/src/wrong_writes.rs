@@ -81,7 +81,7 @@ pub enum WrongWrite {
     OutputBeforeRuns,
     // 22
     StatedNotTested(usize),
-    LentForStated(usize),
+    RoomForStated(usize),
     CountsMayFallShort(usize),
     CountsMayExceed(usize),
     CountsIn32Bits(usize),
@@ -198,7 +198,7 @@ pub fn by_hand() -> Vec<(WrongWrite, String)> {
     ];
     for table in 0..6 {
         rules.push((StatedNotTested(table), format!("more rows stated than lent of table {}", table + 1)));
-        rules.push((LentForStated(table), format!("the rows lent taken for those stated of table {}", table + 1)));
+        rules.push((RoomForStated(table), format!("the rows lent taken for those stated of table {}", table + 1)));
         rules.push((FirstRowTested(table), format!("the cells of table {}'s first row tested alone", table + 1)));
     }
     for heads in [ATCS, PROGRAMS, MAPS] {

@@ -15,7 +15,7 @@ fn put(out: &mut Vec<u8>, width: usize, value: u64) {
 /// The rows of a table: those stated, as far as they are lent.
 pub fn rows(lent: &Lent, table: usize, wrong: WrongWrite) -> usize {
     let there = lent.lent_rows(table);
-    if wrong == LentForStated(table) { there } else { there.min(lent.tables[table].rows as usize) }
+    if wrong == RoomForStated(table) { there } else { there.min(lent.tables[table].rows as usize) }
 }
 
 /// Each head's own rows, as far as they are there.

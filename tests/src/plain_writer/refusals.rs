@@ -49,7 +49,7 @@ fn adds_up(lent: &Lent, wrong: WrongWrite) -> bool {
         let sum = lent.sum(counted, rows(lent, heads, wrong));
         let sum = if wrong == CountsIn32Bits(heads) { sum & 0xFFFF_FFFF } else { sum };
         let rows =
-            if wrong == LentForStated(table) { lent.lent_rows(table) as u64 } else { lent.tables[table].rows.into() };
+            if wrong == RoomForStated(table) { lent.lent_rows(table) as u64 } else { lent.tables[table].rows.into() };
         sum == rows || wrong == CountsMayFallShort(heads) && sum < rows || wrong == CountsMayExceed(heads) && sum > rows
     })
 }
