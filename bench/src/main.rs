@@ -1,7 +1,8 @@
 //! Reading measured side by side in one process: this library, the Rust, libbluray, and copies of the bytes that are read and stored.
-//! Then lookups of entries by their times.
+//! Then writing and rewriting, and lookups of entries by their times.
 mod file;
 mod lookups;
+mod writing;
 
 use oracle::bdmv::clpi::ClipInformation;
 use std::ffi::{c_char, c_void, CString};
@@ -98,10 +99,13 @@ fn measure(name: &str, maps: usize, rows: usize, rounds: usize, turns: usize) {
     println!("  memcpy       {d:8.2} ns an entry for the file's bytes, {e:.2} for the table's");
 }
 
-/// A map with as many entries as two hours have seconds, and the largest maps that a file can have; each read, then one map of each asked for times.
+/// A map with as many entries as two hours have seconds, and the largest maps that a file can have; each read, then written and rewritten,
+/// then one map of each asked for times.
 fn main() {
     measure("film", 1, 7_200, 15, 50);
     measure("large file", 4, 262_143, 9, 2);
+    writing::measure("film", 1, 7_200, file::SECONDS, 15, 50);
+    writing::measure("large file", 4, 262_143, file::SECONDS, 9, 2);
     lookups::measure("film", 7_200, file::SECONDS);
     lookups::measure("largest map", 262_143, file::CLOSE);
 }

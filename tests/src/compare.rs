@@ -1,4 +1,5 @@
-//! The comparison of one file: a reader against the Rust, its refusals against the plain reader of the rules.
+//! The comparison of one file: a reader, an answerer and a writer against the Rust, refusals against the plain reader of the
+//! rules.
 
 use crate::answers::{Answerer, Lent, Table};
 use crate::expected;
@@ -7,8 +8,10 @@ use crate::mutation::Mutation;
 use crate::ours::{Part, Reader, Reading};
 use crate::questions::Questions;
 use crate::random::Random;
-use crate::record::{CELLS, EXTENSIONS, MOST_BYTES, Record, row_bytes};
+use crate::record::{CELLS, EXTENSIONS, LIST_STREAMS, MOST_BYTES, Record, row_bytes};
 use crate::tables::Tables;
+use crate::writer::{Info, Writer};
+use crate::writing::{Counts, Writings, lower_languages};
 use oracle::bdmv::clpi::ClipInformation;
 use oracle::bdmv::extension::ExtensionDataEntry;
 use std::panic::{AssertUnwindSafe, catch_unwind};
@@ -22,6 +25,7 @@ pub struct Comparison {
     expected: Record,
     model: Record,
     questions: Questions,
+    writings: Writings,
     random: Random,
 }
 
@@ -38,14 +42,28 @@ pub fn must(holds: bool, difference: impl FnOnce() -> Difference) -> Result<(), 
     if holds { Ok(()) } else { Err(difference()) }
 }
 
+/// The tables as a reader has filled them, of these lengths in bytes, with the rows of the record stated.
+fn filled<'a>(tables: &'a Tables, record: &Record, lengths: [usize; 9], null: bool) -> Lent<'a> {
+    Lent {
+        rate: record.scalars.ts_recording_rate,
+        packets: record.scalars.number_of_source_packets,
+        tables: std::array::from_fn(|table| Table {
+            bytes: tables.written(table, lengths[table]),
+            rows: record.rows(table) as u32,
+        }),
+        null,
+    }
+}
+
 impl Comparison {
     /// A comparison with empty buffers.
     pub fn new() -> Self {
         Comparison {
-            tables: Tables::new(),
+            tables: Tables::default(),
             expected: Record::default(),
             model: Record::default(),
             questions: Questions::default(),
+            writings: Writings::default(),
             random: Random::new(0),
         }
     }
@@ -60,45 +78,63 @@ impl Comparison {
         self.questions
     }
 
-    /// Compares a reader on one file and an answerer on its tables; the refusal's number, or 0, where there is no
-    /// difference.
+    /// What was compared of writing.
+    pub fn writings(&self) -> Counts {
+        self.writings.counts
+    }
+
+    /// The length of the new file of the last file that was accepted; 0 where it can't be written.
+    pub fn new_bytes(&self) -> usize {
+        self.writings.new.len()
+    }
+
+    /// Compares a reader on one file, an answerer on its tables, and a writer on both; the refusal's number, or 0, where
+    /// there is no difference.
     pub fn compare(
         &mut self,
         file: &[u8],
         seed: u64,
         reader: &mut impl Reader,
         answerer: &mut impl Answerer,
+        writer: &mut impl Writer,
     ) -> Result<u32, Difference> {
         self.random = Random::new(!seed);
         let refusal = model::read(file, Mutation::Right, &mut self.model);
         let rust = if file.len() > MOST_BYTES { None } else { by_the_rust(file)? };
         match rust {
             Some(_) if refusal != 0 => Err(format!("the Rust accepts, the plain reader refuses by {refusal}")),
-            Some(clip) => self.accepted(file, &clip, reader, answerer).map(|()| 0),
+            Some(clip) => self.accepted(file, clip, reader, answerer, writer).map(|()| 0),
             None if refusal == 0 => Err("the Rust refuses, the plain reader accepts".into()),
-            None => self.refused(file, refusal, reader).map(|()| refusal),
+            None => self.refused(file, refusal, reader, writer).map(|()| refusal),
         }
     }
 
     /// A file that is refused: the number alone is told, with long tables and with none, and nothing changes.
-    fn refused(&mut self, file: &[u8], refusal: u32, reader: &mut impl Reader) -> Result<(), Difference> {
+    fn refused(
+        &mut self,
+        file: &[u8],
+        refusal: u32,
+        reader: &mut impl Reader,
+        writer: &mut impl Writer,
+    ) -> Result<(), Difference> {
         let long = self.longer([3; 9], 0);
         for lengths in [long, [0; 9]] {
             self.must_refuse(file, lengths, Reading::refused(refusal), reader)?;
         }
-        Ok(())
+        self.writings.refused(file, refusal, &mut self.random, writer)
     }
 
-    /// A file that is accepted: every number and cell, the questions, the rows of each table too few, and the
-    /// extensions' data.
+    /// A file that is accepted: every number and cell, the questions, the new file, the rows of each table too few, and
+    /// the extensions' data.
     fn accepted(
         &mut self,
         file: &[u8],
-        clip: &ClipInformation,
+        mut clip: ClipInformation,
         reader: &mut impl Reader,
         answerer: &mut impl Answerer,
+        writer: &mut impl Writer,
     ) -> Result<(), Difference> {
-        expected::record_of(clip, &mut self.expected);
+        expected::record_of(&clip, &mut self.expected);
         self.join_starts(file, &clip.extension.entries)?;
         for table in 0..9 {
             must(self.model.tables[table] == self.expected.tables[table], || {
@@ -110,10 +146,13 @@ impl Comparison {
         })?;
         let surplus = self.longer(self.expected.all_rows(), 3);
         self.must_read(file, surplus, reader)?;
-        self.ask(clip, surplus, answerer)?;
+        self.ask(&clip, surplus, answerer)?;
+        lower_languages(&mut clip);
+        self.write(file, &clip, surplus, writer)?;
         self.extension_data(file, &clip.extension.entries, reader)?;
         self.each_short(file, reader)?;
-        self.some_short(file, reader)
+        self.some_short(file, reader)?;
+        if self.writings.new.is_empty() { Ok(()) } else { self.read_back(&clip, reader, answerer, writer) }
     }
 
     /// Takes the starts of table 7 from the plain reader, once the file has the Rust's data there.
@@ -163,17 +202,51 @@ impl Comparison {
         lengths: [usize; 9],
         answerer: &mut impl Answerer,
     ) -> Result<(), Difference> {
-        let lent = Lent {
-            rate: self.expected.scalars.ts_recording_rate,
-            packets: self.expected.scalars.number_of_source_packets,
-            tables: std::array::from_fn(|table| Table {
-                bytes: self.tables.written(table, lengths[table]),
-                rows: self.expected.rows(table) as u32,
-            }),
-            null: self.random.one_in(2),
-        };
+        let lent = filled(&self.tables, &self.expected, lengths, self.random.one_in(2));
         self.questions.compare(&lent, Some(clip), &mut self.random, answerer)?;
         self.must_be_filled().map_err(|why| format!("after the questions: {why}"))
+    }
+
+    /// Writes the record of the tables as they were filled, which must not change them, and rewrites the file.
+    fn write(
+        &mut self,
+        file: &[u8],
+        clip: &ClipInformation,
+        lengths: [usize; 9],
+        writer: &mut impl Writer,
+    ) -> Result<(), Difference> {
+        let lent = filled(&self.tables, &self.expected, lengths, self.random.one_in(2));
+        let info = Info::of(&self.expected.scalars);
+        self.writings.accepted(file, clip, info, &lent, &mut self.random, writer)?;
+        self.must_be_filled().map_err(|why| format!("after writing: {why}"))
+    }
+
+    /// The new file must read to the same record, without marks and extensions, by the Rust and by the reader; the
+    /// questions are asked of each eighth; and rewriting it must change no byte.
+    fn read_back(
+        &mut self,
+        clip: &ClipInformation,
+        reader: &mut impl Reader,
+        answerer: &mut impl Answerer,
+        writer: &mut impl Writer,
+    ) -> Result<(), Difference> {
+        let again = self.writings.same_for_the_rust(clip)?;
+        let new = std::mem::take(&mut self.writings.new);
+        let scalars = self.expected.scalars;
+        let kept: [Vec<u32>; 3] = std::array::from_fn(|k| std::mem::take(&mut self.expected.tables[EXTENSIONS + k]));
+        (self.expected.scalars.marks, self.expected.scalars.has_list) = (0, false);
+        let lengths = self.longer(self.expected.all_rows(), 1);
+        let mut read = self.must_read(&new, lengths, reader);
+        if self.random.one_in(8) {
+            read = read.and_then(|()| self.ask(&again, lengths, answerer));
+        }
+        self.expected.scalars = scalars;
+        for (table, cells) in (EXTENSIONS..=LIST_STREAMS).zip(kept) {
+            self.expected.tables[table] = cells;
+        }
+        read.map_err(|why| format!("the new file: {why}"))?;
+        self.writings.new.clone_from(&new);
+        self.writings.must_rewrite(&new, &mut self.random, writer).map_err(|why| format!("the new file: {why}"))
     }
 
     /// Compares the cells of a table with the Rust's.

@@ -3,31 +3,42 @@
 mod answers;
 mod by_hand;
 mod calls;
+mod canary;
 mod compare;
 mod expected;
 mod guarded;
 mod large;
+mod libbluray;
+mod limits;
+mod made;
 mod make;
 mod model;
 mod mutants;
 mod mutation;
 mod ours;
 mod plain_answers;
+mod plain_writer;
 mod questions;
 mod random;
 mod record;
+mod records;
 mod run;
 mod rust_answers;
 mod sample;
 mod tables;
+mod writer;
+mod writing;
 mod wrong;
 mod wrong_answers;
+mod wrong_writes;
 
 use std::process::ExitCode;
 
 const USAGE: &str = "usage: compare compare FIRST COUNT   the files and tables of COUNT seeds from FIRST on
-       compare mutants COUNT         wrong readers and answerers must be caught by one of the first COUNT seeds
-       compare large                 the longest file and the longest tables (needs 6 GB)
+       compare mutants COUNT         wrong readers, answerers and writers must be caught by one of the first COUNT seeds
+       compare limits                writing at each limit and one over it, each by its name
+       compare large                 the longest file, tables and new file (needs 8 GB)
+       compare libbluray COUNT       libbluray, where it is installed, reads the new files of the first COUNT seeds
        compare sample FOLDER COUNT   COUNT files of each class with the Rust's answers, for crates/replay
        compare show SEED             one file's bytes and what each reader says of it";
 
@@ -38,7 +49,9 @@ fn main() -> ExitCode {
     let alike = match (words.first().map(String::as_str), words.len(), number(1), number(2)) {
         (Some("compare"), 3, Some(first), Some(count)) => run::compare(first, count),
         (Some("mutants"), 2, Some(count), None) => mutants::mutants(count),
+        (Some("limits"), 1, None, None) => limits::limits(),
         (Some("large"), 1, None, None) => large::large(),
+        (Some("libbluray"), 2, Some(count), None) => libbluray::libbluray(count),
         (Some("sample"), 3, None, Some(count)) => sample::sample(&words[1], count),
         (Some("show"), 2, Some(seed), None) => run::show(seed),
         _ => {

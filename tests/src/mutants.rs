@@ -1,19 +1,57 @@
-//! The command `mutants`: readers and answerers with one wrong rule, which the made files and tables must catch.
+//! The command `mutants`: readers, answerers and writers with one wrong rule, which the made files, tables and records must
+//! catch.
 
 use crate::answers::Question;
 use crate::by_hand::ByHand;
 use crate::compare::Comparison;
+use crate::limits::Limits;
 use crate::make::{CLASSES, Maker};
 use crate::mutation::{Mutation, WRONG};
 use crate::plain_answers::Plain;
+use crate::plain_writer;
+use crate::records::Records;
 use crate::wrong::Wrong;
 use crate::wrong_answers::{NOT_BY_FILES, WRONG_ANSWERS, WrongAnswer, questions_of};
+use crate::wrong_writes::{BY_FILES, NOT_BY_RECORDS, WrongWrite, by_hand as by_limits};
 
-/// The first seed below `count` whose file catches a reader or an answerer.
-fn by_file(mutation: Mutation, mut answerer: Plain, count: u64) -> Option<u64> {
+/// The first seed below `count` whose file catches a reader, an answerer or a writer.
+fn by_file(mutation: Mutation, mut answerer: Plain, wrong: WrongWrite, count: u64) -> Option<u64> {
     let (mut maker, mut comparison) = (Maker::new(), Comparison::new());
-    let mut reader = Wrong::new(mutation);
-    (0..count).find(|&seed| comparison.compare(maker.make(seed), seed, &mut reader, &mut answerer).is_err())
+    let (mut reader, mut writer) = (Wrong::new(mutation), plain_writer::Plain::new(wrong));
+    (0..count)
+        .find(|&seed| comparison.compare(maker.make(seed), seed, &mut reader, &mut answerer, &mut writer).is_err())
+}
+
+/// The first seed below `count` whose record made by hand catches a writer.
+fn by_record(wrong: WrongWrite, count: u64) -> Option<u64> {
+    let (mut records, mut writer) = (Records::new(), plain_writer::Plain::new(wrong));
+    let mut reader = Wrong::new(Mutation::Right);
+    (0..count).find(|&seed| records.compare(seed, &mut reader, &mut writer).is_err())
+}
+
+/// The name of the first limit that catches a writer.
+fn by_limit(wrong: WrongWrite) -> Option<String> {
+    let writer = plain_writer::Plain::new(wrong);
+    Limits { reader: Wrong::new(Mutation::Right), answerer: Plain::right(), writer }.first().map(|(name, _)| name)
+}
+
+/// How many wrong writers there are, and how many aren't caught: by a file and a record made by hand, those that these can
+/// catch, the others by a limit with a name.
+fn writers_not_caught(count: u64) -> [usize; 2] {
+    let mut missed = 0;
+    for (wrong, words) in BY_FILES {
+        let file = by_file(Mutation::Right, Plain::right(), *wrong, count);
+        let record = if NOT_BY_RECORDS.contains(wrong) { Some(0) } else { by_record(*wrong, count) };
+        println!("{}, {}: {words}", told(file), if record.is_some() { "a record too" } else { "no record" });
+        missed += usize::from(file.is_none() || record.is_none());
+    }
+    let others = by_limits();
+    for (wrong, words) in &others {
+        let name = by_limit(*wrong);
+        println!("{}: {words}", name.as_ref().map_or("not caught".into(), |name| format!("\"{name}\" catches")));
+        missed += usize::from(name.is_none());
+    }
+    [BY_FILES.len() + others.len(), missed]
 }
 
 /// The first seed below `count` whose tables made by hand catch an answerer.
@@ -32,7 +70,7 @@ fn told(seed: Option<u64>) -> String {
 
 /// Whether a reader with this rule wrong is caught.
 fn reader_caught(mutation: Mutation, words: &str, count: u64) -> bool {
-    let seed = by_file(mutation, Plain::right(), count);
+    let seed = by_file(mutation, Plain::right(), WrongWrite::Right, count);
     println!("{}: {words}", told(seed));
     seed.is_some()
 }
@@ -41,7 +79,8 @@ fn reader_caught(mutation: Mutation, words: &str, count: u64) -> bool {
 /// has a rule wrong in one question; none where it isn't caught.
 fn answerer_caught(answer: WrongAnswer, question: Question, count: u64) -> Option<(u64, u64)> {
     let wrong = || Plain::wrong(answer, question);
-    let file = if NOT_BY_FILES.contains(&answer) { Some(0) } else { by_file(Mutation::Right, wrong(), count) };
+    let by_file = || by_file(Mutation::Right, wrong(), WrongWrite::Right, count);
+    let file = if NOT_BY_FILES.contains(&answer) { Some(0) } else { by_file() };
     let hand = by_hand(wrong(), count);
     if file.is_none() || hand.is_none() {
         println!("NOT CAUGHT {question:?}: {answer:?}: by a file {file:?}, by hand {hand:?}");
@@ -60,7 +99,7 @@ fn rule_caught(answer: WrongAnswer, words: &str, questions: &[Question], count: 
     caught.len()
 }
 
-/// Runs every wrong reader and answerer until it is caught, and the right ones over all seeds, which must not be.
+/// Runs every wrong reader, answerer and writer until it is caught, and the right ones over all seeds, which must not be.
 pub fn mutants(count: u64) -> bool {
     let readers = WRONG.iter().filter(|(mutation, words)| !reader_caught(*mutation, words, count)).count();
     let (mut answerers, mut caught) = (0, 0);
@@ -69,15 +108,20 @@ pub fn mutants(count: u64) -> bool {
         answerers += questions.len();
         caught += rule_caught(*answer, words, &questions, count);
     }
-    let right = by_file(Mutation::Right, Plain::right(), count).or(by_hand(Plain::right(), count));
-    if let Some(seed) = right {
-        println!("seed {seed} accuses the reader and the answerer with no wrong rule");
+    let [writers, missed] = writers_not_caught(count);
+    let right = by_file(Mutation::Right, Plain::right(), WrongWrite::Right, count)
+        .or(by_hand(Plain::right(), count))
+        .or(by_record(WrongWrite::Right, count))
+        .map(|seed| format!("seed {seed}"))
+        .or(by_limit(WrongWrite::Right));
+    if let Some(name) = &right {
+        println!("{name} accuses the reader, the answerer or the writer with no wrong rule");
     }
     println!(
-        "{} wrong readers, {readers} not caught; {answerers} wrong answerers, {} not caught; the right ones {}",
+        "{} wrong readers, {readers} not caught; {answerers} wrong answerers, {} not caught; {writers} wrong writers, {missed} not caught; the right ones {}",
         WRONG.len(),
         answerers - caught,
         if right.is_none() { "are not accused" } else { "are accused" }
     );
-    readers == 0 && caught == answerers && right.is_none()
+    readers == 0 && caught == answerers && missed == 0 && right.is_none()
 }

@@ -9,6 +9,8 @@ use crate::mutation::Mutation;
 use crate::ours::{Library, Reader};
 use crate::questions::Questions;
 use crate::record::Record;
+use crate::records::Records;
+use crate::writing::Counts;
 use oracle::bdmv::clpi::ClipInformation;
 use std::ops::Range;
 use std::thread;
@@ -23,6 +25,9 @@ struct Tally {
     refusals: [u64; 32],
     of_files: Questions,
     by_hand: Questions,
+    /// New files of files, and of records made by hand.
+    new_files: Counts,
+    new_records: Counts,
     differences: u64,
     told: Vec<String>,
 }
@@ -32,18 +37,23 @@ impl Tally {
     fn new() -> Self {
         let questions = Questions::default();
         let (of_files, by_hand) = (questions, questions);
-        Tally { files: [[0; 2]; CLASSES.len()], refusals: [0; 32], of_files, by_hand, differences: 0, told: Vec::new() }
+        let (new_files, new_records) = (Counts::default(), Counts::default());
+        let (files, refusals) = ([[0; 2]; CLASSES.len()], [0; 32]);
+        Tally { files, refusals, of_files, by_hand, new_files, new_records, differences: 0, told: Vec::new() }
     }
 
-    /// Compares the files and the tables made by hand of some seeds.
+    /// Compares the files, the tables and the records made by hand of some seeds.
     fn of(seeds: Range<u64>) -> Self {
         let (mut maker, mut guarded, mut comparison) = (Maker::new(), Guarded::new(1 << 16), Comparison::new());
-        let (mut by_hand, mut tally) = (ByHand::new(), Tally::new());
+        let (mut by_hand, mut records, mut tally) = (ByHand::new(), Records::new(), Tally::new());
         for seed in seeds {
             let class = (seed % CLASSES.len() as u64) as usize;
             tally.files[class][0] += 1;
-            let file = comparison.compare(guarded.hold(maker.make(seed)), seed, &mut Library, &mut Library);
-            match file.and_then(|refusal| by_hand.compare(seed, &mut Library).map(|()| refusal)) {
+            let file = guarded.hold(maker.make(seed));
+            let file = comparison.compare(file, seed, &mut Library, &mut Library, &mut Library);
+            let by_hand =
+                by_hand.compare(seed, &mut Library).and_then(|()| records.compare(seed, &mut Library, &mut Library));
+            match file.and_then(|refusal| by_hand.map(|()| refusal)) {
                 Ok(0) => tally.files[class][1] += 1,
                 Ok(refusal) => tally.refusals[refusal as usize] += 1,
                 Err(difference) => {
@@ -56,6 +66,7 @@ impl Tally {
         }
         tally.of_files = comparison.questions();
         tally.by_hand = by_hand.questions;
+        (tally.new_files, tally.new_records) = (comparison.writings(), records.counts());
         tally
     }
 
@@ -66,13 +77,15 @@ impl Tally {
         sums.zip(counts).for_each(|(sum, count)| *sum += count);
         self.of_files += other.of_files;
         self.by_hand += other.by_hand;
+        self.new_files += other.new_files;
+        self.new_records += other.new_records;
         self.differences += other.differences;
         self.told.extend(other.told);
     }
 }
 
-/// Compares the files and the tables made by hand of `count` seeds, a part of them on each processor; tells the files of
-/// each class, the refusals, the questions, and the differences.
+/// Compares the files, the tables and the records made by hand of `count` seeds, a part of them on each processor; tells
+/// the files of each class, the refusals, the questions, the new files, and the differences.
 pub fn compare(first: u64, count: u64) -> bool {
     let parts = thread::available_parallelism().map_or(1, |parts| parts.get() as u64);
     let border = |part: u64| first + count * part / parts;
@@ -92,7 +105,12 @@ pub fn compare(first: u64, count: u64) -> bool {
     }
     tell("the files' tables", tally.of_files);
     tell("tables made by hand", tally.by_hand);
-    println!("{count} files and {count} sets of tables made by hand compared, {} differences", tally.differences);
+    tell_writings("files written and rewritten", tally.new_files);
+    tell_writings("records made by hand written", tally.new_records);
+    println!(
+        "{count} files, {count} sets of tables and {count} records made by hand compared, {} differences",
+        tally.differences
+    );
     tally.differences == 0
 }
 
@@ -103,6 +121,12 @@ fn tell(what: &str, questions: Questions) {
     if of_the_rust > 0 {
         println!("  the Rust's answers beside them: {of_the_rust}, of entry lookups {lookups_of_the_rust}");
     }
+}
+
+/// Tells how many new files were compared.
+fn tell_writings(what: &str, counts: Counts) {
+    let Counts { files, bytes, refused } = counts;
+    println!("{what}: {files} times, {bytes} bytes as the Rust's, {refused} refused");
 }
 
 /// Prints a file's bytes, and what the Rust, the plain reader and the library say of it.
@@ -125,9 +149,10 @@ pub fn show(seed: u64) -> bool {
     let mut buffers: [Vec<u8>; 9] = std::array::from_fn(|_| vec![0; 2 << 20]);
     let reading = Library.read(file, buffers.each_mut().map(|buffer| &mut buffer[..]));
     println!("the library: {reading:?}");
-    let file = Comparison::new().compare(file, seed, &mut Library, &mut Library).map(|_| ());
+    let file = Comparison::new().compare(file, seed, &mut Library, &mut Library, &mut Library).map(|_| ());
     let by_hand = ByHand::new().compare(seed, &mut Library);
-    let differences: Vec<String> = [file, by_hand].into_iter().filter_map(Result::err).collect();
+    let record = Records::new().compare(seed, &mut Library, &mut Library);
+    let differences: Vec<String> = [file, by_hand, record].into_iter().filter_map(Result::err).collect();
     differences.iter().for_each(|difference| println!("{difference}"));
     differences.is_empty()
 }

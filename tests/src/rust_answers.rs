@@ -151,8 +151,7 @@ fn own_rows(mut counts: impl Iterator<Item = usize>, head: u32) -> Option<Answer
     counts.next().map(|count| Answer::of_rows(first, count))
 }
 
-/// Puts the rows of tables made by hand into the Rust's record. The cells that questions look at must fit the Rust's
-/// fields.
+/// Puts the rows of tables made by hand into the Rust's record. The cells that are looked at must fit the Rust's fields.
 pub fn hold(lent: &Lent, clip: &mut ClipInformation) {
     clip.clip_info.ts_recording_rate = lent.rate;
     clip.clip_info.number_of_source_packets = lent.packets;
@@ -200,8 +199,12 @@ fn stc(lent: &Lent, row: usize) -> StcSequence {
 
 /// A stream of the Rust.
 fn stream(lent: &Lent, row: usize) -> StreamCodingInfo {
-    let [pid, kind] = [0, 1].map(|column| lent.cell(STREAMS, row, column));
+    let [pid, kind, format, aspect, language] = [0, 1, 2, 3, 4].map(|column| lent.cell(STREAMS, row, column));
+    let [_, letters @ ..] = language.to_be_bytes();
     StreamCodingInfo::new(pid as u16, kind as u8)
+        .with_format_info_byte(format as u8)
+        .with_aspect_ratio_nibble(aspect as u8)
+        .with_language_code(letters)
 }
 
 /// An entry of the Rust.

@@ -2,7 +2,7 @@
 
 use super::Maker;
 use super::parts::{coarse_row, fine_row, packed_counts};
-use super::sections::{CPI, EXTENSIONS};
+use super::sections::{CPI, EXTENSIONS, PROGRAMS, SEQUENCES};
 use crate::random::Random;
 use crate::record::MOST_BYTES;
 
@@ -71,6 +71,12 @@ impl Maker {
         self.file.clear();
         self.random = Random::new(2);
         self.clip(b"spm");
+        self.shared_maps(|m, _| m.random.below(0x4000), u64::MAX);
+        &self.file
+    }
+
+    /// 255 maps over the same rows, with a coarse time for each coarse row and the bits that fine rows may have.
+    fn shared_maps(&mut self, time: impl Fn(&mut Maker, u64) -> u64, fine: u64) {
         self.cpi = self.begin(CPI);
         self.put(4, 0);
         self.put(4, 0x0001_00FF);
@@ -81,11 +87,58 @@ impl Maker {
         }
         self.put(4, 4 + 8 * MOST_COARSE);
         for k in 0..MOST_COARSE {
-            let (time, packet) = (self.random.below(0x4000), self.any(4));
+            let (time, packet) = (time(self, k), self.any(4));
             self.put(8, coarse_row(4 * k, time, packet));
         }
-        self.noise(4 * MOST_FINE as usize);
+        for _ in 0..MOST_FINE {
+            let row = self.any(4) & fine;
+            self.put(4, row);
+        }
         self.end_cpi();
+    }
+
+    /// One map with so many runs: two under each coarse row, by the bit that coarse and fine times share.
+    pub fn of_runs(&mut self, runs: u64) -> &[u8] {
+        self.file.clear();
+        self.random = Random::new(4);
+        self.clip(b"spm");
+        self.cpi = self.begin(CPI);
+        let coarse = runs.div_ceil(2);
+        self.put(4, 0);
+        self.put(4, 0x0001_0001);
+        self.put(2, 0x1011);
+        self.put(6, packed_counts(0, 1, coarse, runs));
+        self.put(4, 2 + 12);
+        self.put(4, 4 + 8 * coarse);
+        for k in 0..coarse {
+            self.put(8, coarse_row(2 * k, 2 * k % 0x4000, 7));
+        }
+        for k in 0..runs {
+            self.put(4, fine_row(0, 1, (k % 2) << 10, k % 0x2_0000));
+        }
+        self.end_cpi();
+        &self.file
+    }
+
+    /// The file with the longest new file: 255 of everything that is counted in a byte, a language on each stream, and 255
+    /// maps that share the most entries in the most runs that can be written.
+    pub fn longest_new(&mut self) -> &[u8] {
+        self.file.clear();
+        self.random = Random::new(5);
+        self.clip(b"m");
+        self.most_sequences();
+        self.begin(PROGRAMS);
+        self.put(6, 255);
+        for _ in 0..255 {
+            self.noise(6);
+            self.put(2, 0xFF00);
+            for k in 0..255 {
+                self.put(2, 0x1100 + k);
+                self.put(3, 0x05_8161);
+                self.file.extend_from_slice(b"Eng");
+            }
+        }
+        self.shared_maps(|_, k| k % 0x2000, !(1 << 27));
         &self.file
     }
 
@@ -94,14 +147,8 @@ impl Maker {
         self.file.clear();
         self.random = Random::new(3);
         self.clip(b"m");
-        self.begin(8);
-        self.put(6, 255);
-        for _ in 0..255 {
-            self.noise(4);
-            self.put(2, 0xFF00);
-            self.noise(255 * 14);
-        }
-        self.begin(12);
+        self.most_sequences();
+        self.begin(PROGRAMS);
         self.most_programs();
         self.cpi(255, 2, 2, 2);
         let block = self.extension_front(255);
@@ -112,6 +159,17 @@ impl Maker {
         }
         self.end_extensions(block);
         &self.file
+    }
+
+    /// 255 ATCs of 255 STCs.
+    fn most_sequences(&mut self) {
+        self.begin(SEQUENCES);
+        self.put(6, 255);
+        for _ in 0..255 {
+            self.noise(4);
+            self.put(2, 0xFF00);
+            self.noise(255 * 14);
+        }
     }
 
     /// 255 programs of 255 streams.

@@ -1,0 +1,135 @@
+//! Why a record can't be written: 22, 30, 31 and, where the order is wrong, 23.
+
+use super::bytes::{rows, runs};
+use crate::answers::{Counted, Lent, OF_ATCS, OF_MAPS, OF_PROGRAMS};
+use crate::record::{ATCS, CELLS, ENTRIES, MAPS, PROGRAMS, STREAMS};
+use crate::writer::{Info, TABLES};
+use crate::wrong_writes::WrongWrite::{self, *};
+
+/// The greatest cell of each column, table by table.
+const GREATEST: [&[u32]; TABLES] = [
+    &[u32::MAX, 255, 255],
+    &[65_535, u32::MAX, u32::MAX, u32::MAX],
+    &[u32::MAX, 65_535, 255],
+    &[65_535, 255, 255, 15, 0xFF_FFFF],
+    &[65_535, 15, 262_143],
+    &[1, 7, u32::MAX, u32::MAX, 15],
+];
+
+/// The first refusal in the order 22, 30, 31, or 0. The output's length is asked for where the order is wrong.
+pub fn refusal(info: &Info, lent: &Lent, is_short: impl Fn() -> bool, wrong: WrongWrite) -> u32 {
+    let order: &[u32] = match wrong {
+        CellsBeforeRows => &[30, 22, 31],
+        RunsBeforeRows => &[31, 22, 30],
+        OutputBeforeRows => &[23, 22, 30, 31],
+        RunsBeforeCells => &[22, 31, 30],
+        OutputBeforeCells => &[22, 23, 30, 31],
+        OutputBeforeRuns => &[22, 30, 23, 31],
+        _ => &[22, 30, 31],
+    };
+    let holds = |number: u32| match number {
+        22 => stated(lent, wrong) && adds_up(lent, wrong),
+        23 => !is_short(),
+        30 => cells_fit(info, lent, wrong),
+        _ => runs_fit(lent, wrong),
+    };
+    order.iter().copied().find(|number| !holds(*number)).unwrap_or(0)
+}
+
+/// Whether no more rows are stated than lent.
+fn stated(lent: &Lent, wrong: WrongWrite) -> bool {
+    (0..TABLES)
+        .all(|table| lent.tables[table].rows as usize <= lent.lent_rows(table) || wrong == StatedNotTested(table))
+}
+
+/// Whether the counts of each table of counts add up to the rows stated of the table counted.
+fn adds_up(lent: &Lent, wrong: WrongWrite) -> bool {
+    [OF_ATCS, OF_PROGRAMS, OF_MAPS].into_iter().all(|counted: Counted| {
+        let Counted { heads, rows: table, .. } = counted;
+        let sum = lent.sum(counted, rows(lent, heads, wrong));
+        let sum = if wrong == CountsIn32Bits(heads) { sum & 0xFFFF_FFFF } else { sum };
+        let rows =
+            if wrong == RoomForStated(table) { lent.lent_rows(table) as u64 } else { lent.tables[table].rows.into() };
+        sum == rows || wrong == CountsMayFallShort(heads) && sum < rows || wrong == CountsMayExceed(heads) && sum > rows
+    })
+}
+
+/// Whether every number, count and cell fits its field in the file.
+fn cells_fit(info: &Info, lent: &Lent, wrong: WrongWrite) -> bool {
+    let number = |place: usize, number: u32| {
+        number < 255 || number == 255 && wrong != NumberEdgeRefused(place) || wrong == NumberNotTested(place)
+    };
+    let count = |table: usize| {
+        let rows = rows(lent, table, wrong);
+        rows < 255 || rows == 255 && wrong != RowsEdgeRefused(table) || wrong == RowsNotTested(table)
+    };
+    number(1, info.clip_stream_type)
+        && number(2, info.application_type)
+        && number(5, info.validity_flags)
+        && [ATCS, PROGRAMS, MAPS].into_iter().all(count)
+        && (0..TABLES).all(|table| rows_fit(lent, table, wrong))
+        && entry_types_fit(lent, wrong)
+}
+
+/// Whether every row of a table fits.
+fn rows_fit(lent: &Lent, table: usize, wrong: WrongWrite) -> bool {
+    let all = rows(lent, table, wrong);
+    let tested = if wrong == FirstRowTested(table) { all.min(1) } else { all };
+    (0..tested).all(|row| {
+        (0..CELLS[table]).all(|column| {
+            let (cell, greatest) = (lent.cell(table, row, column), GREATEST[table][column]);
+            let refused = cell > greatest && wrong != CellNotTested(table, column)
+                || cell == greatest && wrong == CellEdgeRefused(table, column);
+            !refused
+        }) && row_fits(lent, table, row, wrong)
+    })
+}
+
+/// Whether a row's cells go with one another: no language on video, no aspect on anything else, a time in steps of 512.
+fn row_fits(lent: &Lent, table: usize, row: usize, wrong: WrongWrite) -> bool {
+    let cell = |column: usize| lent.cell(table, row, column);
+    match table {
+        STREAMS if is_video(cell(1)) => cell(4) == 0 || wrong == LanguageOnVideoAccepted,
+        STREAMS => cell(3) == 0 || wrong == AspectOnAudioAccepted,
+        ENTRIES => cell(2) % 512 == 0 || wrong == TimeNotTested,
+        _ => true,
+    }
+}
+
+/// Whether every entry's type is its map's.
+fn entry_types_fit(lent: &Lent, wrong: WrongWrite) -> bool {
+    let mut first = 0;
+    let maps = rows(lent, MAPS, wrong);
+    let all = rows(lent, ENTRIES, wrong);
+    let tested = if wrong == FirstMapTested { maps.min(1) } else { maps };
+    (0..tested).all(|map| {
+        let own = own_rows(lent, map, &mut first, all);
+        let mut entries = if wrong == FirstRowTested(ENTRIES) { own.start..own.end.min(own.start + 1) } else { own };
+        entries.all(|row| lent.cell(ENTRIES, row, 4) == lent.cell(MAPS, map, 1) || wrong == TypeNotTested)
+    })
+}
+
+/// Whether no map has over 65,535 runs.
+fn runs_fit(lent: &Lent, wrong: WrongWrite) -> bool {
+    let (mut first, mut together) = (0, 0);
+    let maps = rows(lent, MAPS, wrong);
+    let all = rows(lent, ENTRIES, wrong);
+    let most = if wrong == RunsEdgeRefused { 65_534 } else { 65_535 };
+    let tested = if wrong == RunsOfFirstMap { maps.min(1) } else { maps };
+    (0..tested).all(|map| {
+        let runs = runs(lent, own_rows(lent, map, &mut first, all), wrong).len();
+        together = if wrong == RunsOfAllMaps { together + runs } else { runs };
+        together <= most || wrong == RunsNotTested
+    })
+}
+
+/// The entries of a map, as far as they are there; the next map's start behind them.
+fn own_rows(lent: &Lent, map: usize, first: &mut usize, all: usize) -> std::ops::Range<usize> {
+    let end = all.min(*first + lent.cell(MAPS, map, 2) as usize);
+    std::mem::replace(first, end)..end
+}
+
+/// Whether a coding type is video.
+pub fn is_video(coding_type: u32) -> bool {
+    matches!(coding_type, 0x02 | 0x1B | 0x20 | 0x24 | 0xEA)
+}
