@@ -1,0 +1,4 @@
+-- The calls that read and write keep what demand 3 says.
+pub mod Promises
+pub mod NewFile
+pub mod Rewriting

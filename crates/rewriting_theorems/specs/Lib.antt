@@ -1,0 +1,2 @@
+-- Demand 3 for the calls that read and write.
+pub mod Rewriting
