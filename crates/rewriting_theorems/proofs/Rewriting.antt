@@ -1,14 +1,15 @@
 -- Demand 3 for the calls, proved: by what their contracts claim, and by what the definitions keep.
 use Prim.Native.Nat.{ℕ, _≤_}
 use mathlib.Core.Path.{_≡_, refl, sym, ap, subst, _∙_}
-use mathlib.Core.List.{List}
+use mathlib.Core.List.{List, _++_}
 use native.Mathlib.Omega.{arith}
-use lib.ListN.{length}
+use lib.ListN.{length, take, drop}
 use lib.Seq.{take-append-seam}
 use Rattle.format.specs.Reading.{recordOf}
-use Rattle.format.specs.Tables.{Nine, ClipTables, HoldsClip}
-use Rattle.format.specs.Refusals.{ReadAnswer, refused, tooShort, accepted, Stated, statedOf, readAnswer, tablesAfter, writeAnswer, outputAfter}
-use Rattle.clip_information.specs.Read.{answerOf as readAnswerOf}
+use Rattle.format.specs.Tables.{Nine, ClipTables, HoldsClip, Room}
+use Rattle.format.specs.Refusals.{ReadAnswer, refused, tooShort, accepted, Stated, statedOf, tablesOf, readAnswer, tablesAfter, writeAnswer, outputAfter}
+use Rattle.format.proofs.Counts.{tables-few}
+use Rattle.encode.specs.Writing.{bytesIn}
 use Rattle.theorems.specs.Rewriting.{Rewritable, rewritten, handOver, handedOver, Succeeds, RewritingKeeps}
 use Rattle.theorems.proofs.Rewriting.{rewriting-keeps}
 use Rattle.query_theorems.proofs.Alike.{calls-alike}
@@ -21,6 +22,10 @@ abbrev statedIn : Stated → ReadAnswer → Stated
 statedIn s (refused n) = s
 statedIn s (tooShort k n) = s
 statedIn s (accepted t) = t
+
+-- the front of an output, as long as what was put there
+front : (new beyond : List ℕ) {n : ℕ} {out : List ℕ} → n ≡ length new → out ≡ new ++ beyond → take n out ≡ new
+front new beyond long is = rw (long, is) (take-append-seam new beyond)
 
 module _ {f : List ℕ} (h : Rewritable f) (x : ReadCall f) where
   -- the definitions' part, for an output of any sufficient length
@@ -56,7 +61,7 @@ module _ {f : List ℕ} (h : Rewritable f) (x : ReadCall f) where
         let s = succeeds (outputLent (w .call)) (w .room) in
         let answer = write-answer (w .call) ∙ ap (λ (l : ClipTables). writeAnswer l (outputLent (w .call))) given ∙ s .writes in
         let output = output-left (w .call) ∙ ap (λ (l : ClipTables). outputAfter l (outputLent (w .call))) given ∙ s .output in
-        record { answer = answer; output = output; new = rw (answer, output) (take-append-seam (rewritten f) _) }
+        record { answer = answer; output = output; new = front (rewritten f) (drop (length (rewritten f)) (outputLent (w .call))) (ap bytesIn answer) output }
 
 module _ {f : List ℕ} (h : Rewritable f) {x : ReadCall f} (w : WriteCall x) where
   -- the new file is the definition's
@@ -70,6 +75,10 @@ module _ {f : List ℕ} (h : Rewritable f) {x : ReadCall f} (w : WriteCall x) wh
   -- which writing does not change
   stable : rewritten (newFile (w .call)) ≡ newFile (w .call)
   stable = rw is-new (rewriting-keeps f h .stable)
+
+  -- nor do its rows need more room
+  tables-again : (tables : Nine (List ℕ)) → Room (tablesOf f) tables → Room (tablesOf (newFile (w .call))) tables
+  tables-again tables room = rw is-new (room-again f h tables room)
 
   module _ (y : ReadCall (newFile (w .call))) where
     -- the new file read
@@ -96,8 +105,10 @@ pub calls-keep : (f : List ℕ) → Rewritable f → CallsKeep f
 calls-keep f h = record {
   reads = reads h;
   writes = writes h;
-  room = room-again f h;
+  counts = tables-few f (h .bytes);
   reads-again = λ x w. reads-again h w;
+  tables-again = λ x w. tables-again h w;
+  output-again = λ x w out long. rw (stable h w, is-new h w) long;
   alike = calls-alike f h;
   equal-bytes = λ f₂ h₂ x w x₂ w₂ e. rewriting-keeps f h .equal-bytes f₂ h₂ (sym (is-new h w) ∙ e ∙ is-new h₂ w₂);
   equal-records = λ f₂ h₂ x w x₂ w₂ e. is-new h w ∙ rewriting-keeps f h .equal-records f₂ h₂ e ∙ sym (is-new h₂ w₂);

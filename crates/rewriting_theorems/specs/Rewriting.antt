@@ -10,6 +10,7 @@ use denote.Ref.{now}
 use Rattle.format.specs.Reading.{recordOf}
 use Rattle.format.specs.Tables.{Nine, ClipTables, HoldsClip, Room}
 use Rattle.format.specs.Refusals.{Stated, statedOf, tablesOf, tablesAfter, accepted, written}
+use Rattle.format.proofs.Counts.{AtMost}
 use Rattle.queries.specs.Asked.{stated, tablesWith}
 use Rattle.clip_information.specs.Read.{scalarsBy, nineTables, answerOf as readAnswerOf}
 use Rattle.clip_information.proofs.read.read.Reads as read
@@ -158,10 +159,15 @@ pub record CallsKeep (f : List ℕ) : Type 0 where
   -- 1. where the buffers suffice, reading and then writing succeed
   pub reads : (x : ReadCall f) → Reads x
   pub writes : (x : ReadCall f) (w : WriteCall x) → Writes w
-  -- 2. and 3. the new file is accepted, and its tables hold the same rows, with the same scalars; tables with room for the old file have room for it
-  pub room : (tables : Nine (List ℕ)) → Room (tablesOf f) tables → Room (tablesOf (rewritten f)) tables
+  -- the counts that `read` states are numbers of 32 bits, as `write` takes them
+  pub counts : AtMost 66846465 (tablesOf f)
+  -- 2. and 3. the new file is accepted, and reads to the same scalars and the same rows
   pub reads-again : (x : ReadCall f) (w : WriteCall x) (y : ReadCall (newFile (w .call))) → ReadsAgain w y
-  -- 4. every call of a question, on the tables of the first reading and on those of the second, answers alike: `holds` says what they hold
+  -- buffers that suffice for the old file suffice for the new one
+  pub tables-again : (x : ReadCall f) (w : WriteCall x) (tables : Nine (List ℕ)) → Room (tablesOf f) tables → Room (tablesOf (newFile (w .call))) tables
+  pub output-again : (x : ReadCall f) (w : WriteCall x) (out : List ℕ) → length (rewritten f) ≤ length out → length (rewritten (newFile (w .call))) ≤ length out
+  -- 4. every question, asked of the tables that the first reading filled and of those that the second filled, answers alike: of each of its calls,
+  -- by name, this says so for any tables that hold the old rows and any that hold the new ones, and `holds` above says that these do
   pub alike : Alike f
   -- 5. two such files get equal bytes from their calls of `write` exactly when their records, without marks and extensions, are equal
   pub equal-bytes : (f₂ : List ℕ) → Rewritable f₂ → (x : ReadCall f) (w : WriteCall x) (x₂ : ReadCall f₂) (w₂ : WriteCall x₂)
