@@ -6,15 +6,15 @@ use Rattle.clip_information.proofs.read.read.Reads as read
 use Rattle.encode.specs.Writing.{answerOf as writeAnswerOf}
 use Rattle.encode.proofs.write.write.Reads as write
 use Rattle.query_theorems.specs.Calls.{Call}
-use Rattle.rewriting_theorems.specs.Rewriting.{fileOf, tablesLent, tablesLeft, givenTo, outputLent, outputLeft}
+use Rattle.rewriting_theorems.specs.Rewriting.{fileOf, tablesGiven, tablesLeft, givenTo, outputGiven, outputLeft}
 
 module _ (x : Call read.Post) where
   -- the answer of reading
-  pub read-answer : readAnswerOf (x .result) ≡ readAnswer (fileOf x) (tablesLent x)
+  pub read-answer : readAnswerOf (x .result) ≡ readAnswer (fileOf x) (tablesGiven x)
   read-answer = x .allowed .0
 
   -- and the nine tables behind it
-  pub tables-left : tablesLeft x ≡ tablesAfter (fileOf x) (tablesLent x)
+  pub tables-left : tablesLeft x ≡ tablesAfter (fileOf x) (tablesGiven x)
   unfolding tablesAfter
   tables-left =
       let e = x .allowed .1 in
@@ -33,10 +33,10 @@ module _ (x : Call read.Post) where
 
 module _ (w : Call write.Post) where
   -- the answer of writing
-  pub write-answer : writeAnswerOf (w .result) ≡ writeAnswer (givenTo w) (outputLent w)
+  pub write-answer : writeAnswerOf (w .result) ≡ writeAnswer (givenTo w) (outputGiven w)
   write-answer = w .allowed .0
 
   -- and the output behind it
-  pub output-left : outputLeft w ≡ outputAfter (givenTo w) (outputLent w)
+  pub output-left : outputLeft w ≡ outputAfter (givenTo w) (outputGiven w)
   unfolding outputAfter
   output-left = rw (← write-answer) (w .allowed .1)

@@ -13,8 +13,9 @@ use Rattle.encode.specs.Writing.{bytesIn}
 use Rattle.theorems.specs.Rewriting.{Rewritable, rewritten, handOver, handedOver, Succeeds, RewritingKeeps}
 use Rattle.theorems.proofs.Rewriting.{rewriting-keeps}
 use Rattle.query_theorems.proofs.Alike.{calls-alike}
-use Rattle.rewriting_theorems.specs.Rewriting.{tablesLent, tablesLeft, givenTo, outputLent, newFile, ReadCall, WriteCall, kept, Reads, Writes, ReadsAgain, WritesAgain, CallsKeep}
+use Rattle.rewriting_theorems.specs.Rewriting.{tablesGiven, tablesLeft, givenTo, outputGiven, newFile, ReadCall, WriteCall, kept, Reads, Writes, ReadsAgain, WritesAgain, CallsKeep}
 use Rattle.rewriting_theorems.proofs.Promises.{read-answer, tables-left, write-answer, output-left}
+use Rattle.rewriting_theorems.proofs.Asked.{asked-alike}
 use Rattle.rewriting_theorems.proofs.NewFile.{stated-again, room-again}
 
 -- an acceptance tells what it states
@@ -29,12 +30,12 @@ front new beyond long is = rw (long, is) (take-append-seam new beyond)
 
 module _ {f : List ℕ} (h : Rewritable f) (x : ReadCall f) where
   -- the definitions' part, for an output of any sufficient length
-  succeeds : (out : List ℕ) → length (rewritten f) ≤ length out → Succeeds f (tablesLent (x .call)) out
-  succeeds out long = rewriting-keeps f h .succeeds (tablesLent (x .call)) out (x .room) long
+  succeeds : (out : List ℕ) → length (rewritten f) ≤ length out → Succeeds f (tablesGiven (x .call)) out
+  succeeds out long = rewriting-keeps f h .succeeds (tablesGiven (x .call)) out (x .room) long
 
   -- the tables, as the definition leaves them
-  left : tablesLeft (x .call) ≡ tablesAfter f (tablesLent (x .call))
-  left = tables-left (x .call) ∙ ap (λ (b : List ℕ). tablesAfter b (tablesLent (x .call))) (x .file)
+  left : tablesLeft (x .call) ≡ tablesAfter f (tablesGiven (x .call))
+  left = tables-left (x .call) ∙ ap (λ (b : List ℕ). tablesAfter b (tablesGiven (x .call))) (x .file)
 
   -- a call of `read`
   reads : Reads x
@@ -42,14 +43,14 @@ module _ {f : List ℕ} (h : Rewritable f) (x : ReadCall f) where
   reads =
       let s = succeeds (rewritten f) (omega arith) in
       record {
-        answer = read-answer (x .call) ∙ ap (λ (b : List ℕ). readAnswer b (tablesLent (x .call))) (x .file) ∙ s .reads;
+        answer = read-answer (x .call) ∙ ap (λ (b : List ℕ). readAnswer b (tablesGiven (x .call))) (x .file) ∙ s .reads;
         tables = left;
         holds = subst (λ (t : Nine (List ℕ)). HoldsClip (handOver (statedOf f) t) (recordOf f .clip)) (sym left) (s .holds);
       }
 
   module _ (w : WriteCall x) where
     -- what `write` is given is what the definition hands over
-    given : givenTo (w .call) ≡ handedOver f (tablesLent (x .call))
+    given : givenTo (w .call) ≡ handedOver f (tablesGiven (x .call))
     unfolding handedOver
     given =
         let told : w .told ≡ statedOf f = ap (statedIn (statedOf f)) (sym (w .answered) ∙ reads .answer) in
@@ -58,10 +59,10 @@ module _ {f : List ℕ} (h : Rewritable f) (x : ReadCall f) where
     -- a call of `write`
     writes : Writes w
     writes =
-        let s = succeeds (outputLent (w .call)) (w .room) in
-        let answer = write-answer (w .call) ∙ ap (λ (l : ClipTables). writeAnswer l (outputLent (w .call))) given ∙ s .writes in
-        let output = output-left (w .call) ∙ ap (λ (l : ClipTables). outputAfter l (outputLent (w .call))) given ∙ s .output in
-        record { answer = answer; output = output; new = front (rewritten f) (drop (length (rewritten f)) (outputLent (w .call))) (ap bytesIn answer) output }
+        let s = succeeds (outputGiven (w .call)) (w .room) in
+        let answer = write-answer (w .call) ∙ ap (λ (l : ClipTables). writeAnswer l (outputGiven (w .call))) given ∙ s .writes in
+        let output = output-left (w .call) ∙ ap (λ (l : ClipTables). outputAfter l (outputGiven (w .call))) given ∙ s .output in
+        record { answer = answer; output = output; new = front (rewritten f) (drop (length (rewritten f)) (outputGiven (w .call))) (ap bytesIn answer) output }
 
 module _ {f : List ℕ} (h : Rewritable f) {x : ReadCall f} (w : WriteCall x) where
   -- the new file is the definition's
@@ -110,6 +111,7 @@ calls-keep f h = record {
   tables-again = λ x w. tables-again h w;
   output-again = λ x w out long. rw (stable h w, is-new h w) long;
   alike = calls-alike f h;
+  asked = λ x w y. asked-alike (calls-alike f h) (reads h x .holds) (reads-again h w y .holds);
   equal-bytes = λ f₂ h₂ x w x₂ w₂ e. rewriting-keeps f h .equal-bytes f₂ h₂ (sym (is-new h w) ∙ e ∙ is-new h₂ w₂);
   equal-records = λ f₂ h₂ x w x₂ w₂ e. is-new h w ∙ rewriting-keeps f h .equal-records f₂ h₂ e ∙ sym (is-new h₂ w₂);
   again = λ x w. again h w;

@@ -19,6 +19,7 @@ use Rattle.encode.proofs.write.write.Reads as write
 use Rattle.theorems.specs.Rewriting.{Rewritable, rewritten, handOver}
 use Rattle.query_theorems.specs.Calls.{Call}
 use Rattle.query_theorems.specs.Alike.{Alike}
+use Rattle.rewriting_theorems.specs.Asked.{AskedAlike}
 
 -- ---- a call of `read`
 
@@ -27,8 +28,8 @@ abbrev pub fileOf : Call read.Post → List ℕ
 fileOf x = now (x .arguments .0)
 
 -- the nine tables as they are lent
-abbrev pub tablesLent : Call read.Post → Nine (List ℕ)
-tablesLent x =
+abbrev pub tablesGiven : Call read.Post → Nine (List ℕ)
+tablesGiven x =
     nineTables
     (now (x .arguments .1 .0))
     (now (x .arguments .1 .1 .0))
@@ -69,8 +70,8 @@ givenTo w =
     (stated (now (w .arguments .1 .1 .1 .1 .1 .1 .1 .1 .1 .1 .1 .0)) (w .arguments .1 .1 .1 .1 .1 .1 .1 .1 .1 .1 .1 .1 .0))
 
 -- the output as it is lent
-abbrev pub outputLent : Call write.Post → List ℕ
-outputLent w = now (w .arguments .1 .1 .1 .1 .1 .1 .1 .1 .1 .1 .1 .1 .1 .0)
+abbrev pub outputGiven : Call write.Post → List ℕ
+outputGiven w = now (w .arguments .1 .1 .1 .1 .1 .1 .1 .1 .1 .1 .1 .1 .1 .0)
 
 -- and as the call leaves it
 abbrev pub outputLeft : Call write.Post → List ℕ
@@ -86,7 +87,7 @@ newFile w = take (bytesIn (writeAnswerOf (w .result))) (outputLeft w)
 pub record ReadCall (f : List ℕ) : Type 0 where
   pub call : Call read.Post
   pub file : fileOf call ≡ f
-  pub room : Room (tablesOf f) (tablesLent call)
+  pub room : Room (tablesOf f) (tablesGiven call)
 
 -- A call of `write` on what that call gave back: the scalars and the row counts of its answer, and the very tables that it filled;
 -- and on an output with room for the new file, which may be longer and hold anything.
@@ -95,7 +96,7 @@ pub record WriteCall {f : List ℕ} (x : ReadCall f) : Type 0 where
   pub told : Stated
   pub answered : readAnswerOf (x .call .result) ≡ accepted told
   pub given : givenTo call ≡ handOver told (tablesLeft (x .call))
-  pub room : length (rewritten f) ≤ length (outputLent call)
+  pub room : length (rewritten f) ≤ length (outputGiven call)
 
 -- ---- what they give
 
@@ -123,7 +124,7 @@ pub record Reads {f : List ℕ} (x : ReadCall f) : Type 0 where
   -- it accepts, with the scalars and the counts of the record
   pub answer : readAnswerOf (x .call .result) ≡ accepted (statedOf f)
   -- the nine tables have the rows at their fronts, and beyond them what they held
-  pub tables : tablesLeft (x .call) ≡ tablesAfter f (tablesLent (x .call))
+  pub tables : tablesLeft (x .call) ≡ tablesAfter f (tablesGiven (x .call))
   -- the tables that writing and questions are lent hold the file's record
   pub holds : HoldsClip (handOver (statedOf f) (tablesLeft (x .call))) (recordOf f .clip)
 
@@ -132,7 +133,7 @@ pub record Writes {f : List ℕ} {x : ReadCall f} (w : WriteCall x) : Type 0 whe
   -- it refuses nothing and tells the new file's length
   pub answer : writeAnswerOf (w .call .result) ≡ written (length (rewritten f))
   -- the new file is at the output's front, and beyond it is what the output held
-  pub output : outputLeft (w .call) ≡ rewritten f ++ drop (length (rewritten f)) (outputLent (w .call))
+  pub output : outputLeft (w .call) ≡ rewritten f ++ drop (length (rewritten f)) (outputGiven (w .call))
   -- so the front that the answer tells is the new file, and no more
   pub new : newFile (w .call) ≡ rewritten f
 
@@ -150,7 +151,7 @@ pub record WritesAgain {f : List ℕ} {x : ReadCall f} (w : WriteCall x) (y : Re
   -- it tells the same length
   pub answer : writeAnswerOf (v .call .result) ≡ writeAnswerOf (w .call .result)
   -- and puts the same bytes at its output's front: rewriting the new file changes no byte
-  pub output : outputLeft (v .call) ≡ newFile (w .call) ++ drop (length (newFile (w .call))) (outputLent (v .call))
+  pub output : outputLeft (v .call) ≡ newFile (w .call) ++ drop (length (newFile (w .call))) (outputGiven (v .call))
   pub new : newFile (v .call) ≡ newFile (w .call)
 
 -- ---- the promise
@@ -166,9 +167,11 @@ pub record CallsKeep (f : List ℕ) : Type 0 where
   -- buffers that suffice for the old file suffice for the new one
   pub tables-again : (x : ReadCall f) (w : WriteCall x) (tables : Nine (List ℕ)) → Room (tablesOf f) tables → Room (tablesOf (newFile (w .call))) tables
   pub output-again : (x : ReadCall f) (w : WriteCall x) (out : List ℕ) → length (rewritten f) ≤ length out → length (rewritten (newFile (w .call))) ≤ length out
-  -- 4. every question, asked of the tables that the first reading filled and of those that the second filled, answers alike: of each of its calls,
-  -- by name, this says so for any tables that hold the old rows and any that hold the new ones, and `holds` above says that these do
+  -- 4. every question, whatever tables it is lent that hold the old rows and the new ones, answers alike
   pub alike : Alike f
+  -- so it does from the very tables that the first reading filled and those that the second filled
+  pub asked : (x : ReadCall f) (w : WriteCall x) (y : ReadCall (newFile (w .call)))
+      → AskedAlike (handOver (statedOf f) (tablesLeft (x .call))) (handOver (kept (statedOf f)) (tablesLeft (y .call)))
   -- 5. two such files get equal bytes from their calls of `write` exactly when their records, without marks and extensions, are equal
   pub equal-bytes : (f₂ : List ℕ) → Rewritable f₂ → (x : ReadCall f) (w : WriteCall x) (x₂ : ReadCall f₂) (w₂ : WriteCall x₂)
       → newFile (w .call) ≡ newFile (w₂ .call) → recordOf f .clip ≡ recordOf f₂ .clip
