@@ -1,10 +1,10 @@
 -- The new file, as reading states it.
 use Prim.Native.Nat.{ℕ, _≤_}
-use mathlib.Core.Path.{_≡_, refl, sym, ap, _∙_}
+use mathlib.Core.Path.{_≡_, sym, ap, _∙_}
 use mathlib.Core.List.{List}
 use native.Mathlib.Omega.{arith}
 use lib.ListN.{length, length-map}
-use Rattle.format.specs.ClipRecord.{Record, Extension, extensionsStart}
+use Rattle.format.specs.ClipRecord.{Record, extensionsStart}
 use Rattle.format.specs.Extensions.{extensionRows, extensionOf, extensionsFrom}
 use Rattle.format.specs.Reading.{recordOf}
 use Rattle.format.specs.Tables.{Nine, Room}

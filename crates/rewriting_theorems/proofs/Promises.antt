@@ -1,5 +1,5 @@
 -- What the contracts of `read` and `write` claim, in the words of the promise.
-use mathlib.Core.Path.{_≡_, sym}
+use mathlib.Core.Path.{_≡_}
 use Rattle.format.specs.Refusals.{readAnswer, tablesAfter, writeAnswer, outputAfter}
 use Rattle.clip_information.specs.Read.{answerOf as readAnswerOf}
 use Rattle.clip_information.proofs.read.read.Reads as read

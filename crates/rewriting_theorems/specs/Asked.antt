@@ -1,5 +1,6 @@
 -- Every question, asked of tables that were filled before: the calls are named one by one, and `Post` is what the call's `ensures` claims.
--- `CallsAlike` says of any tables what this says of these.
+-- `CallsAlike` says it of any tables that hold a record's rows; this says it of two given sets of tables, so that no row need be spoken of.
+-- As there, `extension_queries::entry` is not among them: it asks about the extensions, and rewriting does not keep those.
 use mathlib.Core.Path.{_≡_}
 use Rattle.format.specs.Tables.{Table, ClipTables}
 use Rattle.sequence_queries.proofs.first_stc_sequence.Reads as first_stc_sequence

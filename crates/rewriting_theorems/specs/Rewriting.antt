@@ -152,31 +152,37 @@ pub record WritesAgain {f : List ℕ} {x : ReadCall f} (w : WriteCall x) (y : Re
   pub answer : writeAnswerOf (v .call .result) ≡ writeAnswerOf (w .call .result)
   -- and puts the same bytes at its output's front: rewriting the new file changes no byte
   pub output : outputLeft (v .call) ≡ newFile (w .call) ++ drop (length (newFile (w .call))) (outputGiven (v .call))
+  -- so what the first writing gave is given again
   pub new : newFile (v .call) ≡ newFile (w .call)
 
 -- ---- the promise
 
+-- of a file that is accepted and has no map of over 65,535 runs (`Rewritable`)
 pub record CallsKeep (f : List ℕ) : Type 0 where
-  -- 1. where the buffers suffice, reading and then writing succeed
+  -- 1. where the tables suffice, reading succeeds
   pub reads : (x : ReadCall f) → Reads x
+  -- where the output suffices too, writing succeeds
   pub writes : (x : ReadCall f) (w : WriteCall x) → Writes w
   -- the counts that `read` states are numbers of 32 bits, as `write` takes them
   pub counts : AtMost 66846465 (tablesOf f)
   -- 2. and 3. the new file is accepted, and reads to the same scalars and the same rows
   pub reads-again : (x : ReadCall f) (w : WriteCall x) (y : ReadCall (newFile (w .call))) → ReadsAgain w y
-  -- buffers that suffice for the old file suffice for the new one
+  -- tables that suffice for the old file suffice for the new one
   pub tables-again : (x : ReadCall f) (w : WriteCall x) (tables : Nine (List ℕ)) → Room (tablesOf f) tables → Room (tablesOf (newFile (w .call))) tables
+  -- and so does an output
   pub output-again : (x : ReadCall f) (w : WriteCall x) (out : List ℕ) → length (rewritten f) ≤ length out → length (rewritten (newFile (w .call))) ≤ length out
   -- 4. every question, whatever tables it is lent that hold the old rows and the new ones, answers alike
   pub alike : Alike f
   -- so it does from the very tables that the first reading filled and those that the second filled
   pub asked : (x : ReadCall f) (w : WriteCall x) (y : ReadCall (newFile (w .call)))
       → AskedAlike (handOver (statedOf f) (tablesLeft (x .call))) (handOver (kept (statedOf f)) (tablesLeft (y .call)))
-  -- 5. two such files get equal bytes from their calls of `write` exactly when their records, without marks and extensions, are equal
+  -- 5. two such files get equal bytes from their calls of `write` exactly when their records, without marks and extensions, are equal: only then
   pub equal-bytes : (f₂ : List ℕ) → Rewritable f₂ → (x : ReadCall f) (w : WriteCall x) (x₂ : ReadCall f₂) (w₂ : WriteCall x₂)
       → newFile (w .call) ≡ newFile (w₂ .call) → recordOf f .clip ≡ recordOf f₂ .clip
+  -- and then always
   pub equal-records : (f₂ : List ℕ) → Rewritable f₂ → (x : ReadCall f) (w : WriteCall x) (x₂ : ReadCall f₂) (w₂ : WriteCall x₂)
       → recordOf f .clip ≡ recordOf f₂ .clip → newFile (w .call) ≡ newFile (w₂ .call)
-  -- 6. the new file is such a file too, and writing what was read of it changes no byte
+  -- 6. the new file is such a file too
   pub again : (x : ReadCall f) (w : WriteCall x) → Rewritable (newFile (w .call))
+  -- and writing what was read of it changes no byte
   pub writes-again : (x : ReadCall f) (w : WriteCall x) (y : ReadCall (newFile (w .call))) (v : WriteCall y) → WritesAgain w y v
