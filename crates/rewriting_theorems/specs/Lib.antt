@@ -1,0 +1,3 @@
+-- Demand 3 for the calls that read and write.
+pub mod Asked
+pub mod Rewriting
