@@ -3,3 +3,4 @@ pub mod Promises
 pub mod Asked
 pub mod NewFile
 pub mod Rewriting
+pub mod OneGo
