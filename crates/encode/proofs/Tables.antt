@@ -171,8 +171,8 @@ module _ (s : Scalars) (atcs stcs programs streams maps entries : Table) where
   unfolding clipIn
   programs-long is = is ∙ ap length (sym (programs-are (clipIn handed)))
 
-  pub cpi-lent : pairsCounted handed ≡ true → cpi.Lent (maps .bytes) (maps .rows) (entries .bytes) (entries .rows)
-  cpi-lent h =
+  pub cpi-there : pairsCounted handed ≡ true → cpi.BothThere (maps .bytes) (maps .rows) (entries .bytes) (entries .rows)
+  cpi-there h =
       let is = counts 2 entryCells maps entries (pairs h .1 .1) in
       record { maps-there = is .heads-there; entries-there = is .rows-there }
 
@@ -228,7 +228,7 @@ module _ (s : Scalars) (atcs stcs programs streams maps entries : Table) where
       let passed = all-passed handed (r .writable) in
       let long : marks-at - cpi-at ≡ length (cpiBytes c) = omega (arith, at .marks-at, at .cpi-at, place-marks c) in
       record {
-        lent = cpi-lent (passed .counted);
+        rows-there = cpi-there (passed .counted);
         writable = cpi-writable passed;
         long = long;
         room = omega (arith, at .marks-at, at .cpi-at, at .room, place-marks c);

@@ -21,7 +21,7 @@ use Rattle.cells.specs.Reads.{CellIs}
 use Rattle.table_rows.proofs.Scans.{rowsLeft, left-all, left-turn}
 use Rattle.runs.specs.Runs.{entriesAt}
 use Rattle.encode_map.proofs.Bodies.{map-cell}
-use Rattle.encode_cpi.specs.Cpi.{Lent, Counted, fewRuns, mapRows, entryRows}
+use Rattle.encode_cpi.specs.Cpi.{BothThere, Counted, fewRuns, mapRows, entryRows}
 
 -- ---- one map
 
@@ -84,11 +84,11 @@ module _ (maps : List ℕ) (n : ℕ) (entries : List ℕ) (m : ℕ) where
   maps-few c = omega (arith, leb-true (length (mapRows maps n)) 255 (c .few), maps-count)
 
   -- the rows lie inside the tables
-  pub map-room : Lent maps n entries m → (k : ℕ) → k < n → 12 * k + 12 ≤ length maps
+  pub map-room : BothThere maps n entries m → (k : ℕ) → k < n → 12 * k + 12 ≤ length maps
   map-room l k h = omega (arith, le-div-iff-mul-le (lit< tt) .0 (l .maps-there))
 
   -- and so do all entries
-  pub entries-room : Lent maps n entries m → 20 * m ≤ length entries
+  pub entries-room : BothThere maps n entries m → 20 * m ≤ length entries
   entries-room l = omega (arith, le-div-iff-mul-le (lit< tt) .0 (l .entries-there))
 
   -- after k maps and j entries the counts that are left add up to the entries that are left, and each map fits

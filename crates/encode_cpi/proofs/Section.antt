@@ -90,11 +90,11 @@ module _ (maps : List ℕ) (n : ℕ) (entries : List ℕ) (m : ℕ) (o₀ : List
     -- the map can be stored
     pub putting-room : MapsRoom maps n entries m (length o₀) at → MapRoom maps k entries (20 * j) c (length o) at body
     putting-room room = record {
-      row-there = map-room maps n entries m (room .lent) k h;
+      row-there = map-room maps n entries m (room .rows-there) k h;
       kind-fits = row-fits maps n entries m j k (i .walk) h .kind-fits;
       runs-fit = omega (arith, leb-true (runs (entriesAt entries (20 * j) c)) 65535 (here fewRuns (i .runs-few) .0));
       body-room = record {
-        there = omega (arith, entries-room maps n entries m (room .lent), own-within maps n entries m j k (i .walk) h cell);
+        there = omega (arith, entries-room maps n entries m (room .rows-there), own-within maps n entries m j k (i .walk) h cell);
         few = count-few maps n entries m j k (i .walk) h cell;
         fit = record { type = mapType (mapRow maps n entries m k); fit = here entriesFit (i .entries-fit) .0 };
         room = omega (arith, room .room, i .place, i .long, sizes);

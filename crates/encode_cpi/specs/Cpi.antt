@@ -13,7 +13,7 @@ use Rattle.format.specs.Tables.{addUp, tableRows, rowRoom, mapCells, entryCells
 use Rattle.encode_cpi.specs.declared.Length.{Length}
 
 -- the stated rows of both tables are there
-pub record Lent (maps : List ℕ) (n : ℕ) (entries : List ℕ) (m : ℕ) : Type 0 where
+pub record BothThere (maps : List ℕ) (n : ℕ) (entries : List ℕ) (m : ℕ) : Type 0 where
   pub maps-there : n ≤ rowRoom mapCells maps
   pub entries-there : m ≤ rowRoom entryCells entries
 
@@ -50,13 +50,13 @@ cpiLengthOf ms es = pick (everyMap fewRuns ms es) (Length.Bytes (length (cpiByte
 
 -- the tables are there and what they hold can be written; the length is the section's, and the output has room for it
 pub record CpiRoom (maps : List ℕ) (n : ℕ) (entries : List ℕ) (m len size at : ℕ) : Type 0 where
-  pub lent : Lent maps n entries m
+  pub rows-there : BothThere maps n entries m
   pub writable : Writable (mapRows maps n) (entryRows entries m)
   pub long : len ≡ length (cpiBytesBy (mapRows maps n) (entryRows entries m))
   pub room : at + len ≤ size
 
 -- the same of headers and bodies, which begin eight bytes behind the section's start
 pub record MapsRoom (maps : List ℕ) (n : ℕ) (entries : List ℕ) (m size at : ℕ) : Type 0 where
-  pub lent : Lent maps n entries m
+  pub rows-there : BothThere maps n entries m
   pub writable : Writable (mapRows maps n) (entryRows entries m)
   pub room : at + 8 + 12 * n + length (bodies (mapRows maps n) (entryRows entries m)) ≤ size

@@ -6,7 +6,7 @@ ghost use lib.ListN.{length};
 ghost use lib.Seq.{sets};
 ghost use Rattle.format.specs.Bytes.{fieldBytes};
 ghost use Rattle.format.specs.Rewriting.{headers, bodies, cpiBytesBy};
-ghost use Rattle.encode_cpi.specs.Cpi.{Lent, Counted, mapRows, entryRows, cpiLengthOf, MapsRoom, CpiRoom};
+ghost use Rattle.encode_cpi.specs.Cpi.{BothThere, Counted, mapRows, entryRows, cpiLengthOf, MapsRoom, CpiRoom};
 use cells::cell_at;
 use encode_map::put_map;
 use numbers::put_u8;
@@ -30,7 +30,7 @@ pub enum Length {
 
 // The length of the section of n maps and m entries.
 pub fn cpi_length(maps: &[u8], n: u32, entries: &[u8], m: u32) -> Length
-    requires { ⌜ Lent (now maps) n (now entries) m × Counted (mapRows (now maps) n) (entryRows (now entries) m) ⌝ }
+    requires { ⌜ BothThere (now maps) n (now entries) m × Counted (mapRows (now maps) n) (entryRows (now entries) m) ⌝ }
     ensures { λ r. ⌜ r ≡ cpiLengthOf (mapRows (now (maps .entry)) n) (entryRows (now (entries .entry)) m) ⌝ }
 {
     if n == 0 {

@@ -11,7 +11,7 @@ use Rattle.format.specs.Programs.{loweredClip}
 use Rattle.format.specs.Tables.{Nine, ClipTables, HoldsClip, Room}
 use Rattle.format.specs.Questions.{Question, partsOf, ask, HoldsPart}
 use Rattle.format.specs.Rewriting.{encode}
-use Rattle.format.specs.Refusals.{accepted, readAnswer, statedOf, tablesOf, tablesAfter, writeRefusal, written, writeAnswer, outputAfter}
+use Rattle.format.specs.Refusals.{refusalOf, accepted, readAnswer, statedOf, tablesOf, tablesAfter, writeRefusal, written, writeAnswer, outputAfter}
 use Rattle.format.proofs.Lists.{All}
 use Rattle.theorems.specs.Rewriting.{Rewritable, rewritten, withoutExtensions, handedOver, Succeeds, RewritingKeeps, FromFile, Made}
 use Rattle.format.proofs.Good.{GoodClip}
@@ -49,6 +49,28 @@ made c h =
     let g = good-made c h in
     record { bytes = encode-bytes c; short = is-short c g; accepted = is-accepted c g; reads = reads-back c g }
 
+-- ---- an accepted file read into tables with room
+
+module _ (f : List ℕ) (accepts : refusalOf f ≡ 0) (tables : Nine (List ℕ)) (room : Room (tablesOf f) tables) where
+  pub reading-accepts : readAnswer f tables ≡ accepted (statedOf f)
+  unfolding readAnswer
+  reading-accepts = rw (accepts, no-short f tables room)
+
+  -- what is handed over for writing holds its record
+  pub reading-holds : HoldsClip (handedOver f tables) (recordOf f .clip)
+  unfolding handedOver statedOf tablesAfter tablesOf
+  reading-holds =
+      let c = recordOf f .clip in
+      rw reading-accepts (record {
+        scalars = refl;
+        atcs = filled-holds (c .atcs) (tables .atcs);
+        stcs = filled-holds (c .stcs) (tables .stcs);
+        programs = filled-holds (c .programs) (tables .programs);
+        streams = filled-holds (c .streams) (tables .streams);
+        maps = filled-holds (c .maps) (tables .maps);
+        entries = filled-holds (c .entries) (tables .entries);
+      })
+
 -- ---- the six parts
 
 module _ (f : List ℕ) (h : Rewritable f) where
@@ -64,22 +86,10 @@ module _ (f : List ℕ) (h : Rewritable f) where
   -- 1. reading into the tables, and writing from them
   module _ (tables : Nine (List ℕ)) (room : Room (tablesOf f) tables) where
     reads : readAnswer f tables ≡ accepted (statedOf f)
-    unfolding readAnswer
-    reads = rw (h .accepted, no-short f tables room)
+    reads = reading-accepts f (h .accepted) tables room
 
     holds : HoldsClip (handedOver f tables) (recordOf f .clip)
-    unfolding handedOver statedOf tablesAfter tablesOf
-    holds =
-        let c = recordOf f .clip in
-        rw reads (record {
-          scalars = refl;
-          atcs = filled-holds (c .atcs) (tables .atcs);
-          stcs = filled-holds (c .stcs) (tables .stcs);
-          programs = filled-holds (c .programs) (tables .programs);
-          streams = filled-holds (c .streams) (tables .streams);
-          maps = filled-holds (c .maps) (tables .maps);
-          entries = filled-holds (c .entries) (tables .entries);
-        })
+    holds = reading-holds f (h .accepted) tables room
 
     module _ (out : List ℕ) (long : length (rewritten f) ≤ length out) where
       writes : writeAnswer (handedOver f tables) out ≡ written (length (rewritten f))

@@ -49,7 +49,7 @@ put-top-requires c κs = omega (arith, long (c .before), c .before .before .befo
 put-maps-requires : tie.Need-put-maps-requires
 put-maps-requires c κs =
     let s = c .before .before .before .before .before .before .before .before .before in
-    record { lent = s .pre .lent; writable = s .pre .writable; room = omega (arith, long (c .before .before .before .before .before), s .pre .room, c .before .before .before .put-top .kept) }
+    record { rows-there = s .pre .rows-there; writable = s .pre .writable; room = omega (arith, long (c .before .before .before .before .before), s .pre .room, c .before .before .before .put-top .kept) }
 
 same-length-2 : tie.Need-same-length-2
 same-length-2 c = search needs

@@ -32,7 +32,7 @@ loop-holds c =
 
 -- within the loop the map's row lies inside its table
 row-there : (c : tie.In-loop Inv-loop μ-loop) → 12 * c .before .loop .k + 12 ≤ length (now (c .before .before .before .before .before .args .maps))
-row-there c = let s = c .before .before .before .before .before in map-room (now (s .args .maps)) (s .args .n) (now (s .args .entries)) (s .args .m) (s .pre .lent) (c .before .loop .k) (c .loop-test .taken)
+row-there c = let s = c .before .before .before .before .before in map-room (now (s .args .maps)) (s .args .n) (now (s .args .entries)) (s .args .m) (s .pre .rows-there) (c .before .loop .k) (c .loop-test .taken)
 
 mul-cell-at : tie.Need-mul-cell-at Inv-loop μ-loop
 mul-cell-at c = omega (arith, row-there c)
@@ -52,7 +52,7 @@ entries-there c =
     let s = c .before .before .before .before .before .before in
     let a = s .args in
     let l = c .before .before .loop in
-    omega (arith, entries-room (now (a .maps)) (a .n) (now (a .entries)) (a .m) (s .pre .lent), own-within (now (a .maps)) (a .n) (now (a .entries)) (a .m) (l .row) (l .k) (l .inv .walk) (c .before .loop-test .taken) (c .cell-at .ensures))
+    omega (arith, entries-room (now (a .maps)) (a .n) (now (a .entries)) (a .m) (s .pre .rows-there), own-within (now (a .maps)) (a .n) (now (a .entries)) (a .m) (l .row) (l .k) (l .inv .walk) (c .before .loop-test .taken) (c .cell-at .ensures))
 
 mul-put-map : tie.Need-mul-put-map Inv-loop μ-loop
 mul-put-map c = omega (arith, entries-there c)

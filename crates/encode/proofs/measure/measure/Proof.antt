@@ -10,7 +10,7 @@ use Rattle.queries.specs.Asked.{stated, tablesWith}
 use Rattle.encode.specs.Writing.{refusalIn, programsPlace, cpiPlace, marksPlace}
 use Rattle.encode.proofs.Tests.{refused-by, places-by}
 use Rattle.encode.proofs.Parts.{place-programs, place-cpi, place-marks}
-use Rattle.encode.proofs.Tables.{pairs, refused-22, counted-by, scalars-refused, tables-refused, fit-by, runs-refused, runs-few, sequences-counted, programs-counted, sequences-long, programs-long, cpi-lent, cpi-counted, none-refused, marks-bound}
+use Rattle.encode.proofs.Tables.{pairs, refused-22, counted-by, scalars-refused, tables-refused, fit-by, runs-refused, runs-few, sequences-counted, programs-counted, sequences-long, programs-long, cpi-there, cpi-counted, none-refused, marks-bound}
 use borrow.Author.Needs.{needs}
 use Rattle.encode.proofs.measure.measure.Statement.{statement}
 use Rattle.encode.proofs.measure.measure.Tie as tie
@@ -59,7 +59,7 @@ cpi-length-requires c κs =
     let l = tablesWith i (stated (now (a .atcs)) (a .atc-rows)) (stated (now (a .stcs)) (a .stc-rows)) (stated (now (a .programs)) (a .program-rows)) (stated (now (a .streams)) (a .stream-rows)) (stated (now (a .maps)) (a .map-rows)) (stated (now (a .entries)) (a .entry-rows)) in
     let counted = counted-by i (stated (now (a .atcs)) (a .atc-rows)) (stated (now (a .stcs)) (a .stc-rows)) (stated (now (a .programs)) (a .program-rows)) (stated (now (a .streams)) (a .stream-rows)) (stated (now (a .maps)) (a .map-rows)) (stated (now (a .entries)) (a .entry-rows)) (c .before .before .before .before .before .counts-add .ensures) (c .before .before .before .before .if1 .left) in
     let fit = fit-by i (stated (now (a .atcs)) (a .atc-rows)) (stated (now (a .stcs)) (a .stc-rows)) (stated (now (a .programs)) (a .program-rows)) (stated (now (a .streams)) (a .stream-rows)) (stated (now (a .maps)) (a .map-rows)) (stated (now (a .entries)) (a .entry-rows)) (c .before .before .before .scalars-fit .ensures) (c .before .before .if2 .left) (c .before .cells-fit .ensures) (c .if3 .left) in
-    (cpi-lent i (stated (now (a .atcs)) (a .atc-rows)) (stated (now (a .stcs)) (a .stc-rows)) (stated (now (a .programs)) (a .program-rows)) (stated (now (a .streams)) (a .stream-rows)) (stated (now (a .maps)) (a .map-rows)) (stated (now (a .entries)) (a .entry-rows)) counted, cpi-counted i (stated (now (a .atcs)) (a .atc-rows)) (stated (now (a .stcs)) (a .stc-rows)) (stated (now (a .programs)) (a .program-rows)) (stated (now (a .streams)) (a .stream-rows)) (stated (now (a .maps)) (a .map-rows)) (stated (now (a .entries)) (a .entry-rows)) counted fit)
+    (cpi-there i (stated (now (a .atcs)) (a .atc-rows)) (stated (now (a .stcs)) (a .stc-rows)) (stated (now (a .programs)) (a .program-rows)) (stated (now (a .streams)) (a .stream-rows)) (stated (now (a .maps)) (a .map-rows)) (stated (now (a .entries)) (a .entry-rows)) counted, cpi-counted i (stated (now (a .atcs)) (a .atc-rows)) (stated (now (a .stcs)) (a .stc-rows)) (stated (now (a .programs)) (a .program-rows)) (stated (now (a .streams)) (a .stream-rows)) (stated (now (a .maps)) (a .map-rows)) (stated (now (a .entries)) (a .entry-rows)) counted fit)
 
 enum-known-len : tie.Need-enum-known-len
 enum-known-len c = search needs
