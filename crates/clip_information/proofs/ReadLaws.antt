@@ -15,12 +15,12 @@ use Rattle.format.specs.Refusals.{refused, accepted, refusalOf, tablesOf, state
 use Rattle.format.specs.Tables.{Nine, rowRoom, extensionCells}
 use Rattle.format.proofs.Tests.{ap-pick}
 use Rattle.extension.specs.declared.ListData.{ListData}
-use Rattle.clip_information.specs.Infos.{clipInfoOf}
+use Rattle.clip_sections.specs.Infos.{clipInfoOf}
 use Rattle.clip_sections.specs.Room.{roomOf, roomBehind}
 use Rattle.clip_sections.specs.Prepare.{neededRows, roomAnswer, answerFor, preparedAnswer, ReadyIs, PreparedIs}
 use Rattle.clip_information.specs.Fill.{SectionsFit, ListFits, MarksThere}
 use Rattle.clip_information.specs.Read.{lengthsOf, nineBy, scalarsBy, answerOf}
-use Rattle.clip_information.specs.declared.info.ClipInfo.{ClipInfo}
+use Rattle.clip_sections.specs.declared.info.ClipInfo.{ClipInfo}
 use Rattle.clip_sections.specs.declared.tables.Rows.{Rows}
 use Rattle.clip_sections.specs.declared.tables.Room.{Room}
 use Rattle.clip_sections.specs.declared.prepare.Prepared.{Prepared}

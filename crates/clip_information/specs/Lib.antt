@@ -1,4 +1,3 @@
 -- What the functions of this crate promise.
-pub mod Infos
 pub mod Fill
 pub mod Read

@@ -14,7 +14,7 @@ use Rattle.format.specs.Tables.{Nine}
 use Rattle.format.specs.Listing.{line, refusedWord, linesBy, listing, listingTables}
 use Rattle.format.proofs.Listing.{accepted-is, maps-back, entries-back, entries-add, maps-room, entries-room, few}
 use Rattle.clip_information.specs.Read.{answerOf, nineTables}
-use Rattle.clip_information.specs.declared.info.ClipInfo.{ClipInfo}
+use Rattle.clip_sections.specs.declared.info.ClipInfo.{ClipInfo}
 use Rattle.clip_sections.specs.declared.tables.Rows.{Rows}
 use Rattle.clip_information.specs.declared.read.Answer.{Answer}
 use Rattle.listing.specs.Text.{Listable, numbers, numbersOf}

@@ -7,7 +7,7 @@ ghost use Rattle.clip_information.specs.Read.{scalarsBy};
 ghost use Rattle.queries.specs.Asked.{stated, tablesWith};
 ghost use Rattle.rewrite.specs.Rewrite.{rewriteAnswer, lengthAnswer, lengthNumbers};
 ghost use Rattle.clpi_writing.specs.Numbers.{writingNumbers, newLengthNumbers};
-use clip_information::info::ClipInfo;
+use clip_sections::info::ClipInfo;
 use clpi_writing::ClpiLength;
 use clpi_writing::ClpiWriting;
 use clpi_writing::length_of;

@@ -7,7 +7,7 @@ ghost use Rattle.format.specs.Tables.{clipIn};
 ghost use Rattle.clip_information.specs.Read.{scalarsBy};
 ghost use Rattle.queries.specs.Asked.{stated, noScalars, tablesWith};
 ghost use Rattle.encode.specs.Writing.{pairsCounted, scalarWidths, refusalIn, measuredBy};
-use clip_information::info::ClipInfo;
+use clip_sections::info::ClipInfo;
 use encode_cpi::Length;
 use encode_cpi::cpi_length;
 use encode_sections::Section;

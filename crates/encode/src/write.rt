@@ -10,7 +10,7 @@ ghost use Rattle.queries.specs.Asked.{stated, tablesWith};
 ghost use Rattle.encode.specs.Writing.{Ready, answerOf};
 use crate::measure::Measured;
 use crate::measure::measure;
-use clip_information::info::ClipInfo;
+use clip_sections::info::ClipInfo;
 use encode_cpi::put_cpi;
 use encode_head::put_head;
 use encode_head::put_marks;

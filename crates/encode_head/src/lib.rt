@@ -8,7 +8,7 @@ ghost use Rattle.format.specs.Bytes.{bytesOf, fieldBytes};
 ghost use Rattle.format.specs.Rewriting.{marksBytes};
 ghost use Rattle.clip_information.specs.Read.{scalarsBy};
 ghost use Rattle.encode_head.specs.Heads.{headerWidths, headerNumbers, formatWidths, formatNumbers, infoWidths, infoNumbers, headOf};
-use clip_information::info::ClipInfo;
+use clip_sections::info::ClipInfo;
 use numbers::put_u8;
 use numbers::put_u16;
 use numbers::put_u32;

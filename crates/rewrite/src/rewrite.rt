@@ -9,7 +9,7 @@ ghost use Rattle.encode.specs.Writing.{answerOf};
 ghost use Rattle.rewrite.specs.Rewrite.{Ready, rewriteAnswer, lengthAnswer, lengthOf};
 use crate::measure::Planned;
 use crate::measure::plan;
-use clip_information::info::clip_info;
+use clip_sections::info::clip_info;
 use encode::write::Answer;
 use encode_head::put_head;
 use encode_head::put_marks;

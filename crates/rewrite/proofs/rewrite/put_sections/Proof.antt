@@ -6,7 +6,7 @@ use denote.Ref.{now}
 use lib.ListN.{length}
 use Rattle.format.specs.Bytes.{IsBytes}
 use Rattle.format.specs.Reading.{clipOf}
-use Rattle.clip_information.specs.Infos.{clipInfoOf}
+use Rattle.clip_sections.specs.Infos.{clipInfoOf}
 use Rattle.clip_information.specs.Read.{scalarsBy}
 use Rattle.clip_sections.proofs.PrepareLaws.{accepted-bounds}
 use Rattle.encode.proofs.Parts.{placed-stored, stored-as}

@@ -1,9 +1,9 @@
 -- Each field is where document 01 has it.
 use denote.Ref.{now}
-use Rattle.clip_information.proofs.Laws.{info-read}
+use Rattle.clip_sections.proofs.InfoLaws.{info-read}
 use borrow.Author.Needs.{needs}
-use Rattle.clip_information.proofs.info.clip_info.Statement.{statement}
-use Rattle.clip_information.proofs.info.clip_info.Tie as tie
+use Rattle.clip_sections.proofs.info.clip_info.Statement.{statement}
+use Rattle.clip_sections.proofs.info.clip_info.Tie as tie
 
 u32-at-requires : tie.Need-u32-at-requires
 u32-at-requires c κs = search needs

@@ -2,7 +2,7 @@
 use Prim.Native.Nat.{ℕ}
 use mathlib.Core.List.{List}
 use Rattle.format.specs.ClipRecord.{Scalars, scalarsOf}
-use Rattle.clip_information.specs.declared.info.ClipInfo.{ClipInfo}
+use Rattle.clip_sections.specs.declared.info.ClipInfo.{ClipInfo}
 
 -- the record's scalars as the code holds them
 abbrev pub infoOf : Scalars → ClipInfo

@@ -2,7 +2,7 @@
 ghost use mathlib.Core.Path.{_≡_};
 ghost use Prim.Native.Nat.{_≤_};
 ghost use lib.ListN.{length};
-ghost use Rattle.clip_information.specs.Infos.{clipInfoOf};
+ghost use Rattle.clip_sections.specs.Infos.{clipInfoOf};
 use numbers::u8_at;
 use numbers::u32_at;
 
