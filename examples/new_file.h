@@ -18,6 +18,8 @@ struct new_file {
     char *folder;
     char *draft; /* its name until then */
     int fd;
+    dev_t device; /* with the number, what tells it from any other file that may get one of these names */
+    ino_t number;
 };
 
 /* Joins a folder's name and the draft's; the X become letters that no other file there has. */
@@ -48,6 +50,7 @@ static char *folder_of(const char *path)
 /* Makes an empty draft, which may be read by those who may read any new file. */
 static int start_file(struct new_file *f, const char *path)
 {
+    struct stat s;
     mode_t mask = umask(0);
     umask(mask);
     f->path = path;
@@ -62,7 +65,18 @@ static int start_file(struct new_file *f, const char *path)
         f->draft = NULL;
         return 0;
     }
+    if (fstat(f->fd, &s) != 0)
+        return 0;
+    f->device = s.st_dev;
+    f->number = s.st_ino;
     return fchmod(f->fd, 0666 & ~mask) == 0;
+}
+
+/* Tells whether a name is that of the file that was started, and of nothing that took its place. */
+static int is_the_file(const struct new_file *f, const char *path)
+{
+    struct stat s;
+    return lstat(path, &s) == 0 && s.st_dev == f->device && s.st_ino == f->number;
 }
 
 /* Writes the draft and waits until it is on the medium. The system is then asked to forget it, so that reading it back
@@ -100,19 +114,25 @@ static int sync_folder(const char *folder)
     return done;
 }
 
-/* Gives the draft its own name, and takes the other one away. Where that may not be on the medium, the name is taken
- * back. */
+/* Gives the draft its own name, and takes the other one away. A link may be made although the answer says that it is
+ * there already, as over a network that lost the first answer. Where the name may not be on the medium, or went to
+ * another file, it is taken back. */
 static int place_file(struct new_file *f)
 {
-    int why;
-    if (link(f->draft, f->path) != 0)
+    int linked = link(f->draft, f->path) == 0, why = errno;
+    if (!linked && !is_the_file(f, f->path)) {
+        errno = why;
         return 0;
-    if (unlink(f->draft) == 0 && sync_folder(f->folder)) {
+    }
+    if (!is_the_file(f, f->path)) {
+        why = EIO;
+    } else if (unlink(f->draft) == 0 && sync_folder(f->folder)) {
         free(f->draft);
         f->draft = NULL;
         return 1;
+    } else {
+        why = errno;
     }
-    why = errno;
     unlink(f->path);
     errno = why;
     return 0;

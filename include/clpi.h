@@ -1,8 +1,8 @@
 /* clpi.h: Blu-ray clip information (CLPI) files, read into tables that the caller lends, and written from them.
  *
- * Link with libclpi.a (`rt staticlib clpi`; x86-64, 64-bit size_t). Every call takes every input, allocates nothing,
- * keeps nothing, calls nothing, needs less than 1 KB of stack, and ends. What it answers and what it stores is
- * proved equal to the format's definitions; what is not proved is the caller's side of this page:
+ * For C99 or C++11 and later. Link with libclpi.a (`rt staticlib clpi`; x86-64, 64-bit size_t). Every call takes every
+ * input, allocates nothing, keeps nothing, calls nothing, needs less than 1 KB of stack, and ends. What it answers and
+ * what it stores is proved equal to the format's definitions; what is not proved is the caller's side of this page:
  *
  *  - a pointer points to as many bytes as its length says, at any alignment; with length 0 it may be NULL;
  *  - the tables lent to one call overlap neither one another nor the file, the output overlaps neither the tables

@@ -4,7 +4,8 @@
  *     clip minutes FILE TIME
  *
  * It ends with 0 where all is done; 1 where the file is refused, by the number that is printed; 2 where it is not
- * called as above, or NEW is there already; 3 where the system fails it. But for 0, it leaves no NEW behind. */
+ * called as above, or NEW is there already; 3 where the system fails it. But for 0, it leaves no NEW behind, unless the
+ * system can't take it back, which it then says. */
 #define _POSIX_C_SOURCE 200809L
 #include <errno.h>
 #include <inttypes.h>
@@ -72,38 +73,51 @@ static int in_the_way(const char *path)
     return WRONG_USE;
 }
 
-/* The signals that end the program, and the draft that they take away then. */
-static const int ends[] = {SIGINT, SIGTERM, SIGHUP};
+/* The signals that end the program, the draft that they take away then, and whether NEW has its name. */
+static const int ends[] = {SIGINT, SIGTERM, SIGHUP, SIGQUIT, SIGALRM, SIGXCPU};
 static const char *volatile unfinished;
+static volatile sig_atomic_t finished;
+static sigset_t held, callers; /* these signals; and those that the caller holds back */
 
-/* Takes the draft away, and ends as the signal would have. */
+/* Takes the draft away, and ends as the signal would have; but with 0 once NEW has its name. */
 static void interrupted(int number)
 {
+    if (finished)
+        _exit(DONE);
     if (unfinished)
         unlink(unfinished);
     signal(number, SIG_DFL);
     raise(number);
 }
 
-/* Lets them do so, unless the caller ignores them. A limit on a file's size, or nobody to read what is printed, ends
- * nothing: writing then fails. */
+/* Lets them do so one at a time, unless the caller ignores them. A limit on a file's size, or nobody to read what is
+ * printed, ends nothing: writing then fails. */
 static void catch_signals(void)
 {
+    struct sigaction caught = {0}, before;
+    sigprocmask(SIG_BLOCK, NULL, &callers);
+    sigemptyset(&held);
     for (size_t i = 0; i < sizeof ends / sizeof *ends; i++)
-        if (signal(ends[i], interrupted) == SIG_IGN)
-            signal(ends[i], SIG_IGN);
+        sigaddset(&held, ends[i]);
+    caught.sa_handler = interrupted;
+    caught.sa_mask = held;
+    for (size_t i = 0; i < sizeof ends / sizeof *ends; i++)
+        if (sigaction(ends[i], NULL, &before) == 0 && before.sa_handler != SIG_IGN)
+            sigaction(ends[i], &caught, NULL);
     signal(SIGXFSZ, SIG_IGN);
     signal(SIGPIPE, SIG_IGN);
 }
 
-/* Holds them back, or lets them come. */
-static void hold_signals(int how)
+/* Holds them back. */
+static void hold_signals(void)
 {
-    sigset_t set;
-    sigemptyset(&set);
-    for (size_t i = 0; i < sizeof ends / sizeof *ends; i++)
-        sigaddset(&set, ends[i]);
-    sigprocmask(how, &set, NULL);
+    sigprocmask(SIG_BLOCK, &held, NULL);
+}
+
+/* Lets those come that the caller lets come. */
+static void let_signals(void)
+{
+    sigprocmask(SIG_SETMASK, &callers, NULL);
 }
 
 /* Makes the new file's bytes; the caller frees them. */
@@ -146,10 +160,14 @@ static int checked(const struct new_file *f, const uint8_t *old, size_t bytes, c
 /* Gives the draft NEW's name; a signal comes too late for that. */
 static int placed(struct new_file *f)
 {
-    hold_signals(SIG_BLOCK);
+    int status;
+    hold_signals();
     if (place_file(f))
         return DONE;
-    return errno == EEXIST ? in_the_way(f->path) : failed(f->path);
+    status = errno == EEXIST ? in_the_way(f->path) : failed(f->path);
+    if (is_the_file(f, f->path))
+        fprintf(stderr, "clip: %s is there all the same: it could not be taken back\n", f->path);
+    return status;
 }
 
 /* Writes the new file beside its place, checks it, and gives it its name. */
@@ -157,17 +175,19 @@ static int put_new(const char *path, const uint8_t *old, size_t bytes, const uin
 {
     struct new_file f;
     int status, started;
-    hold_signals(SIG_BLOCK);
+    hold_signals();
     started = start_file(&f, path);
     unfinished = f.draft;
-    hold_signals(SIG_UNBLOCK);
+    let_signals();
     if (!started || !write_file(&f, output, output_bytes))
         status = failed(path);
     else if ((status = checked(&f, old, bytes, output, output_bytes)) == DONE)
         status = placed(&f);
-    hold_signals(SIG_BLOCK);
+    hold_signals();
     unfinished = NULL;
     end_file(&f);
+    finished = status == DONE;
+    let_signals();
     return status;
 }
 

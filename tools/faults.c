@@ -17,6 +17,8 @@ int __real_fsync(int fd);
 int __wrap_fsync(int fd);
 int __real_link(const char *from, const char *to);
 int __wrap_link(const char *from, const char *to);
+int __real_unlink(const char *path);
+int __wrap_unlink(const char *path);
 
 /* Tells whether a fault is the one asked for. */
 static int is(const char *fault)
@@ -60,6 +62,8 @@ int __wrap_fsync(int fd)
     int folder = fstat(fd, &s) == 0 && S_ISDIR(s.st_mode);
     if (is("ended while waiting"))
         raise(SIGTERM);
+    if (is("alarm while waiting"))
+        raise(SIGALRM);
     if (is(folder ? "folder not kept" : "file not kept")) {
         errno = EIO;
         return -1;
@@ -67,7 +71,8 @@ int __wrap_fsync(int fd)
     return __real_fsync(fd);
 }
 
-/* A folder without links; a program that is ended in the last moment; a file that gets NEW's name then. */
+/* A folder without links; a program that is ended in the last moment; a file that gets NEW's name then; one that gets
+ * the draft's; an answer that comes from a second try of a link that was made. */
 int __wrap_link(const char *from, const char *to)
 {
     if (is("no links")) {
@@ -78,5 +83,24 @@ int __wrap_link(const char *from, const char *to)
         raise(SIGTERM);
     if (is("another was faster"))
         __real_link("another", to);
+    if (is("another draft")) {
+        __real_unlink(from);
+        __real_link("old", from);
+    }
+    if (is("made before")) {
+        __real_link(from, to);
+        errno = EEXIST;
+        return -1;
+    }
     return __real_link(from, to);
+}
+
+/* A folder from which nothing can be taken. */
+int __wrap_unlink(const char *path)
+{
+    if (is("nothing taken")) {
+        errno = EIO;
+        return -1;
+    }
+    return __real_unlink(path);
 }
