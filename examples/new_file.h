@@ -55,6 +55,8 @@ static int start_file(struct new_file *f, const char *path)
     umask(mask);
     f->path = path;
     f->fd = -1;
+    f->device = 0;
+    f->number = 0;
     f->draft = NULL;
     f->folder = folder_of(path);
     if (!f->folder || !(f->draft = draft_in(f->folder)))
@@ -115,25 +117,20 @@ static int sync_folder(const char *folder)
 }
 
 /* Gives the draft its own name, and takes the other one away. A link may be made although the answer says that it is
- * there already, as over a network that lost the first answer. Where the name may not be on the medium, or went to
- * another file, it is taken back. */
+ * there already, as over a network that lost the first answer. Where the name may not be on the medium, it is taken
+ * back; where it went to another file, that is left alone. */
 static int place_file(struct new_file *f)
 {
-    int linked = link(f->draft, f->path) == 0, why = errno;
-    if (!linked && !is_the_file(f, f->path)) {
-        errno = why;
-        return 0;
-    }
-    if (!is_the_file(f, f->path)) {
-        why = EIO;
-    } else if (unlink(f->draft) == 0 && sync_folder(f->folder)) {
-        free(f->draft);
-        f->draft = NULL;
-        return 1;
-    } else {
+    int linked = link(f->draft, f->path) == 0, why = linked ? EIO : errno;
+    if (is_the_file(f, f->path)) {
+        if (unlink(f->draft) == 0 && sync_folder(f->folder)) {
+            free(f->draft);
+            f->draft = NULL;
+            return 1;
+        }
         why = errno;
+        unlink(f->path);
     }
-    unlink(f->path);
     errno = why;
     return 0;
 }
@@ -144,7 +141,7 @@ static void end_file(struct new_file *f)
     int why = errno;
     if (f->fd >= 0)
         close(f->fd);
-    if (f->draft)
+    if (f->draft && is_the_file(f, f->draft))
         unlink(f->draft);
     free(f->draft);
     free(f->folder);

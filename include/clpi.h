@@ -8,8 +8,8 @@
  *  - the tables lent to one call overlap neither one another nor the file, the output overlaps neither the tables
  *    nor the file, and nothing else uses them meanwhile;
  *  - the bytes of the file, and of tables that are written from, do not change while a call runs. It reads them
- *    twice, to measure and to fill: where another thread, a device or a mapped file changes them in between, memory
- *    behind a table or the output may be overwritten.
+ *    more than once, to measure and to fill: where another thread, a device or a mapped file changes them in
+ *    between, memory behind a table or the output may be overwritten.
  *
  * A table is an array of the structs below, lent as bytes. The array may have any length, and what stands beyond
  * its last whole row is left alone. A refusal leaves every table and every output as it was; on success the rows

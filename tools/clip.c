@@ -4,8 +4,8 @@
  *     clip minutes FILE TIME
  *
  * It ends with 0 where all is done; 1 where the file is refused, by the number that is printed; 2 where it is not
- * called as above, or NEW is there already; 3 where the system fails it. But for 0, it leaves no NEW behind, unless the
- * system can't take it back, which it then says. */
+ * called as above, or NEW is there already; 3 where the system fails it. But for 0, it leaves no NEW behind, unless it
+ * says that it could not take it back, or that another file has the name. */
 #define _POSIX_C_SOURCE 200809L
 #include <errno.h>
 #include <inttypes.h>
@@ -167,6 +167,8 @@ static int placed(struct new_file *f)
     status = errno == EEXIST ? in_the_way(f->path) : failed(f->path);
     if (is_the_file(f, f->path))
         fprintf(stderr, "clip: %s is there all the same: it could not be taken back\n", f->path);
+    else if (status == FAILED && is_there(f->path))
+        fprintf(stderr, "clip: %s is there, but is not the file that was written\n", f->path);
     return status;
 }
 
