@@ -1,6 +1,6 @@
 //! The Rust's answers, for the questions that it has and where the scope document compares it.
 
-use crate::answers::{Answer, Counted, Lent, OF_ATCS, OF_MAPS, OF_PROGRAMS, Question, Question::*};
+use crate::answers::{Answer, Counted, Input, OF_ATCS, OF_MAPS, OF_PROGRAMS, Question, Question::*};
 use crate::record::{ATCS, ENTRIES, EXTENSIONS, MAPS, PROGRAMS, STCS, STREAMS};
 use oracle::bdmv::clpi::{AtcSequence, ClipExtension, ClipInfo, ClipInformation, Cpi, EpEntry, EpMap, EpStreamType};
 use oracle::bdmv::clpi::{ProgramEntry, ProgramInfo, SequenceInfo, StcSequence, StreamCodingInfo};
@@ -152,43 +152,43 @@ fn own_rows(mut counts: impl Iterator<Item = usize>, head: u32) -> Option<Answer
 }
 
 /// Puts the rows of tables made by hand into the Rust's record. The cells that are looked at must fit the Rust's fields.
-pub fn hold(lent: &Lent, clip: &mut ClipInformation) {
-    clip.clip_info.ts_recording_rate = lent.rate;
-    clip.clip_info.number_of_source_packets = lent.packets;
-    clip.sequence_info.atc_sequences = heads(lent, OF_ATCS, |row, own| AtcSequence {
-        spn_atc_start: lent.cell(ATCS, row, 0),
-        stc_sequences: own.map(|row| stc(lent, row)).collect(),
-        offset_stc_id: lent.cell(ATCS, row, 2) as u8,
+pub fn hold(input: &Input, clip: &mut ClipInformation) {
+    clip.clip_info.ts_recording_rate = input.rate;
+    clip.clip_info.number_of_source_packets = input.packets;
+    clip.sequence_info.atc_sequences = heads(input, OF_ATCS, |row, own| AtcSequence {
+        spn_atc_start: input.cell(ATCS, row, 0),
+        stc_sequences: own.map(|row| stc(input, row)).collect(),
+        offset_stc_id: input.cell(ATCS, row, 2) as u8,
     });
-    clip.program_info.programs = heads(lent, OF_PROGRAMS, |row, own| {
-        let [packet, pid] = [0, 1].map(|column| lent.cell(PROGRAMS, row, column));
-        ProgramEntry::new(packet, pid as u16, own.map(|row| stream(lent, row)).collect())
+    clip.program_info.programs = heads(input, OF_PROGRAMS, |row, own| {
+        let [packet, pid] = [0, 1].map(|column| input.cell(PROGRAMS, row, column));
+        ProgramEntry::new(packet, pid as u16, own.map(|row| stream(input, row)).collect())
     });
-    clip.cpi.ep_map = heads(lent, OF_MAPS, |row, own| EpMap {
-        stream_pid: lent.cell(MAPS, row, 0) as u16,
-        ep_stream_type: lent.cell(MAPS, row, 1) as u8,
-        entries: own.map(|row| entry(lent, row)).collect(),
+    clip.cpi.ep_map = heads(input, OF_MAPS, |row, own| EpMap {
+        stream_pid: input.cell(MAPS, row, 0) as u16,
+        ep_stream_type: input.cell(MAPS, row, 1) as u8,
+        entries: own.map(|row| entry(input, row)).collect(),
     });
-    let ids = |row: usize| [0, 1].map(|column| lent.cell(EXTENSIONS, row, column) as u16);
-    let rows = 0..lent.tables[EXTENSIONS].rows as usize;
+    let ids = |row: usize| [0, 1].map(|column| input.cell(EXTENSIONS, row, column) as u16);
+    let rows = 0..input.tables[EXTENSIONS].rows as usize;
     clip.extension.entries = rows.map(ids).map(|[id1, id2]| ExtensionDataEntry::new(id1, id2, Vec::new())).collect();
     clip.extension.program_info_ss = None;
 }
 
 /// A thing of the Rust for each row of a table of counts, made of the row and its own rows.
-fn heads<T>(lent: &Lent, counted: Counted, make: impl Fn(usize, std::ops::Range<usize>) -> T) -> Vec<T> {
+fn heads<T>(input: &Input, counted: Counted, make: impl Fn(usize, std::ops::Range<usize>) -> T) -> Vec<T> {
     let mut first = 0;
-    let rows = 0..lent.tables[counted.heads].rows as usize;
+    let rows = 0..input.tables[counted.heads].rows as usize;
     rows.map(|row| {
-        let end = first + lent.cell(counted.heads, row, counted.column) as usize;
+        let end = first + input.cell(counted.heads, row, counted.column) as usize;
         make(row, std::mem::replace(&mut first, end)..end)
     })
     .collect()
 }
 
 /// An STC of the Rust.
-fn stc(lent: &Lent, row: usize) -> StcSequence {
-    let [pid, packet, start, end] = [0, 1, 2, 3].map(|column| lent.cell(STCS, row, column));
+fn stc(input: &Input, row: usize) -> StcSequence {
+    let [pid, packet, start, end] = [0, 1, 2, 3].map(|column| input.cell(STCS, row, column));
     StcSequence {
         pcr_pid: pid as u16,
         spn_stc_start: packet,
@@ -198,8 +198,8 @@ fn stc(lent: &Lent, row: usize) -> StcSequence {
 }
 
 /// A stream of the Rust.
-fn stream(lent: &Lent, row: usize) -> StreamCodingInfo {
-    let [pid, kind, format, aspect, language] = [0, 1, 2, 3, 4].map(|column| lent.cell(STREAMS, row, column));
+fn stream(input: &Input, row: usize) -> StreamCodingInfo {
+    let [pid, kind, format, aspect, language] = [0, 1, 2, 3, 4].map(|column| input.cell(STREAMS, row, column));
     let [_, letters @ ..] = language.to_be_bytes();
     StreamCodingInfo::new(pid as u16, kind as u8)
         .with_format_info_byte(format as u8)
@@ -208,8 +208,8 @@ fn stream(lent: &Lent, row: usize) -> StreamCodingInfo {
 }
 
 /// An entry of the Rust.
-fn entry(lent: &Lent, row: usize) -> EpEntry {
-    let [angle, i_end, time, packet, kind] = [0, 1, 2, 3, 4].map(|column| lent.cell(ENTRIES, row, column));
+fn entry(input: &Input, row: usize) -> EpEntry {
+    let [angle, i_end, time, packet, kind] = [0, 1, 2, 3, 4].map(|column| input.cell(ENTRIES, row, column));
     EpEntry {
         is_angle_change_point: angle % 2 == 1,
         i_end_position_offset: i_end as u8,
