@@ -69,13 +69,12 @@ install: all
 	    -e 's|@version@|$(VERSION)|' tools/clpi.pc.in >target/install/clpi.pc
 	$(INSTALL) -m 644 target/install/clpi.pc '$(DESTDIR)$(pkgconfigdir)/clpi.pc'
 
-# Folders that other packages use too are left.
+# Folders are left but for the two that are its own, and these too where something else is in them.
 uninstall:
 	rm -f '$(DESTDIR)$(bindir)/clip' '$(DESTDIR)$(libexecdir)/clpi/list_clip' '$(DESTDIR)$(libdir)/libclpi.a' \
 	    '$(DESTDIR)$(includedir)/clpi.h' '$(DESTDIR)$(mandir)/man1/clip.1' '$(DESTDIR)$(mandir)/man3/clpi.3' \
 	    '$(DESTDIR)$(docdir)/NOTICE' '$(DESTDIR)$(pkgconfigdir)/clpi.pc'
-	-[ ! -d '$(DESTDIR)$(libexecdir)/clpi' ] || rmdir '$(DESTDIR)$(libexecdir)/clpi'
-	-[ ! -d '$(DESTDIR)$(docdir)' ] || rmdir '$(DESTDIR)$(docdir)'
+	rmdir '$(DESTDIR)$(libexecdir)/clpi' '$(DESTDIR)$(docdir)' 2>/dev/null || true
 
 clean:
 	rm -rf target tests/target bench/target
