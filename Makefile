@@ -1,5 +1,5 @@
-# Builds the library, the listing program and clip, and installs them. The proofs and the Rattle code are built by rt,
-# which needs nothing where they are built already. The usual names say where to: PREFIX, DESTDIR, bindir, libdir and
+# Builds the library, the listing program and clip, and installs them, with GNU make. rt proves and builds the Rattle
+# code, and is not called where that is done already. The usual names say where to: PREFIX, DESTDIR, bindir, libdir and
 # so on; they may have spaces, but no quotes, and none of \ & | $.
 
 VERSION = 0.9.0
@@ -66,8 +66,8 @@ install: all
 	$(INSTALL) -m 644 man/clpi.3 '$(DESTDIR)$(mandir)/man3/clpi.3'
 	$(INSTALL) -m 644 NOTICE '$(DESTDIR)$(docdir)/NOTICE'
 	sed -e 's|@prefix@|$(prefix)|' -e 's|@includedir@|$(includedir)|' -e 's|@libdir@|$(libdir)|' \
-	    -e 's|@version@|$(VERSION)|' tools/clpi.pc.in >target/install/clpi.pc
-	$(INSTALL) -m 644 target/install/clpi.pc '$(DESTDIR)$(pkgconfigdir)/clpi.pc'
+	    -e 's|@version@|$(VERSION)|' tools/clpi.pc.in >'$(DESTDIR)$(pkgconfigdir)/clpi.pc'
+	chmod 644 '$(DESTDIR)$(pkgconfigdir)/clpi.pc'
 
 # Folders are left but for the two that are its own, and these too where something else is in them.
 uninstall:

@@ -72,7 +72,7 @@ static const char *list_words_for(uint32_t refusal)
     if (refusal == CLPI_FILE_TOO_LONG)
         return "the file is longer than the 65536 bytes that can be listed";
     if (refusal == CLPI_TABLE_SHORT)
-        return "the file has over 4096 rows of this table, more than can be listed";
+        return "the file has over 4096 rows of a table, more than can be listed";
     return words_for(refusal);
 }
 

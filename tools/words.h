@@ -93,7 +93,9 @@ static const char overview[] =
     "Examples:\n"
     "  clip list 00001.clpi\n"
     "  clip rewrite 00001.clpi 00001.new\n"
-    "  clip minutes 00001.clpi 216000000     at 40 minutes: 40 x 60 x 90000\n";
+    "  clip minutes 00001.clpi 216000000     at 40 minutes: 40 x 60 x 90000\n"
+    "\n"
+    "The manual page is clip(1).\n";
 
 static const char help_list[] =
     "usage: clip list [FILE]\n"
