@@ -19,6 +19,10 @@ int __real_link(const char *from, const char *to);
 int __wrap_link(const char *from, const char *to);
 int __real_unlink(const char *path);
 int __wrap_unlink(const char *path);
+void *__real_malloc(size_t bytes);
+void *__wrap_malloc(size_t bytes);
+void *__real_realloc(void *old, size_t bytes);
+void *__wrap_realloc(void *old, size_t bytes);
 
 /* Tells whether a fault is the one asked for. */
 static int is(const char *fault)
@@ -103,4 +107,25 @@ int __wrap_unlink(const char *path)
         return -1;
     }
     return __real_unlink(path);
+}
+
+/* No memory for the new file's bytes. */
+void *__wrap_malloc(size_t bytes)
+{
+    if (is("no memory")) {
+        errno = ENOMEM;
+        return NULL;
+    }
+    return __real_malloc(bytes);
+}
+
+/* No memory for the first table that is needed, which is one of OLD's; a file's own bytes are given more than that. */
+void *__wrap_realloc(void *old, size_t bytes)
+{
+    static int calls;
+    if (bytes < 65536 && is("no table") && calls++ == 0) {
+        errno = ENOMEM;
+        return NULL;
+    }
+    return __real_realloc(old, bytes);
 }
