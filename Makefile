@@ -2,7 +2,7 @@
 # code, and is not called where that is done already. The usual names say where to: PREFIX, DESTDIR, bindir, libdir and
 # so on; they may have spaces, but no quotes, and none of \ & | $.
 
-VERSION = 0.9.0
+VERSION = 1.0.0
 
 PREFIX = /usr/local
 prefix = $(PREFIX)

@@ -9,7 +9,7 @@ use Rattle.format.specs.ClipRecord.{Clip}
 use Rattle.format.specs.Rewriting.{headBytes, sequencesBytes, programsBytes, cpiBytes, marksBytes, encode}
 use Rattle.format.proofs.Good.{GoodClip}
 use Rattle.format.proofs.Lengths.{sequences-bound, programs-bound, cpi-bound}
-use Rattle.format.proofs.Stores.{sets-append}
+use Rattle.format.proofs.Stores.{part-then}
 use Rattle.encode_head.specs.Heads.{headOf}
 use Rattle.encode_head.proofs.Laws.{head-is, head-length, marks-length}
 use Rattle.encode.specs.Writing.{programsPlace, cpiPlace, marksPlace, Placed}
@@ -48,11 +48,6 @@ encode-length c =
     )
     (omega (arith, place-programs c, place-cpi c, place-marks c))
 
--- a part stored, and the rest behind it
-then-stored : (l : List ℕ) (at : ℕ) (part rest : List ℕ) {behind : ℕ} {l′ l″ : List ℕ} → behind ≡ at + length part → l′ ≡ sets l at part → l″ ≡ sets l′ behind rest
-    → l″ ≡ sets l at (part ++ rest)
-then-stored l at part rest b e f = f ∙ rw (e, b) (sym (sets-append l at part rest))
-
 -- stored one behind the other, the parts are the file
 pub parts-stored : (c : Clip) (l : List ℕ) {l₁ l₂ l₃ l₄ l₅ : List ℕ}
     → l₁ ≡ sets l 0 (headOf (c .scalars) (programsPlace c) (cpiPlace c) (marksPlace c)) → l₂ ≡ sets l₁ 220 (sequencesBytes c)
@@ -61,10 +56,10 @@ pub parts-stored : (c : Clip) (l : List ℕ) {l₁ l₂ l₃ l₄ l₅ : List �
 parts-stored c l e₁ e₂ e₃ e₄ e₅ =
     let head = headOf (c .scalars) (programsPlace c) (cpiPlace c) (marksPlace c) in
     let first : 0 + length head ≡ 220 = omega (arith, head-length (c .scalars) (programsPlace c) (cpiPlace c) (marksPlace c)) in
-    let four = then-stored _ (cpiPlace c) (cpiBytes c) marksBytes (place-marks c) e₄ e₅ in
-    let three = then-stored _ (programsPlace c) (programsBytes c) (cpiBytes c ++ marksBytes) (place-cpi c) e₃ four in
-    let two = then-stored _ 220 (sequencesBytes c) (programsBytes c ++ (cpiBytes c ++ marksBytes)) (place-programs c) e₂ three in
-    then-stored l 0 head (sequencesBytes c ++ (programsBytes c ++ (cpiBytes c ++ marksBytes))) (sym first) e₁ two ∙ ap (sets l 0) (sym (encode-is c))
+    let four = part-then _ (cpiPlace c) _ (cpiBytes c) marksBytes refl (place-marks c) e₄ e₅ in
+    let three = part-then _ (programsPlace c) _ (programsBytes c) (cpiBytes c ++ marksBytes) refl (place-cpi c) e₃ four in
+    let two = part-then _ 220 _ (sequencesBytes c) (programsBytes c ++ (cpiBytes c ++ marksBytes)) refl (place-programs c) e₂ three in
+    part-then l 0 _ head (sequencesBytes c ++ (programsBytes c ++ (cpiBytes c ++ marksBytes))) refl (sym first) e₁ two ∙ ap (sets l 0) (sym (encode-is c))
 
 -- the same, from places that are told
 pub placed-stored : (c : Clip) {programs cpi marks bytes : ℕ} → Placed c programs cpi marks bytes → (l : List ℕ) {l₁ l₂ l₃ l₄ l₅ : List ℕ}

@@ -1,8 +1,9 @@
 -- Two fields.
+use mathlib.Core.Path.{refl}
 use Prim.Native.Nat.{_+_}
 use mathlib.Core.List.{[], _∷_}
 use denote.Ref.{now}
-use Rattle.encode_head.proofs.Laws.{field-then, field-last}
+use Rattle.format.proofs.Stores.{field-then, field-last}
 use borrow.Author.Needs.{needs}
 use Rattle.encode_head.proofs.put_marks.Statement.{statement}
 use Rattle.encode_head.proofs.put_marks.Tie as tie
@@ -22,7 +23,7 @@ same-length c = search needs
 returns : tie.Need-returns
 returns c =
     let a = c .before .before .before .before .before .before .before .before .before .args in
-    field-then (now (a .out)) (a .at) 4 2 (2 ∷ []) (0 ∷ []) (c .before .before .before .before .before .before .put-u32 .ensures)
+    field-then (now (a .out)) (a .at) 4 2 _ refl (c .before .before .before .before .before .before .put-u32 .ensures)
     (field-last _ (a .at + 4) 2 0 (c .before .before .put-u16 .ensures))
 
 pub put-marks-spec : {M : Type 1} → statement M
