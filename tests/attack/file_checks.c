@@ -148,7 +148,8 @@ static uint8_t *rewrite_file(const uint8_t *file, size_t bytes, const struct rec
     struct ask a = of_file(file, bytes);
     struct outcome length = attempt(call_named("clpi_rewritten_length"), &a), o;
     *needed = (size_t)length.number[1];
-    must(length.number[0] == r->number[0] || (!r->number[0] && length.number[0] == CLPI_RUNS), "measuring refuses in another way than reading");
+    must(length.number[0] == r->number[0] || (!r->number[0] && length.number[0] == CLPI_RUNS),
+         "measuring refuses in another way than reading");
     if (length.number[0] == 0) {
         must(*needed >= 242 && *needed <= CLPI_MOST_REWRITTEN_BYTES, "a new file of a length that none has");
         return put_out(call_named("clpi_rewrite"), &a, *needed);

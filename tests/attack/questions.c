@@ -4,7 +4,7 @@
 
 #include "attack.h"
 
-enum { MOST_ROWS = 4, MOST_BYTES = 20 * MOST_ROWS + 8 };
+enum { MOST_ROWS = 4, MOST_BYTES = 20 * MOST_ROWS + 8, LENGTHS = 11, STATEMENTS = 8, ARGUMENTS = 7 };
 enum filling { ZEROS, ONES, ANY, SMALL, ADDING_UP, PASSING, FILLINGS };
 
 static uint8_t table[2][MOST_BYTES];
@@ -12,16 +12,16 @@ static uint8_t table[2][MOST_BYTES];
 /* The lengths of a table, by number: up to three bytes, and a byte less and more than one row and three. */
 static size_t length_of(int n, size_t row_bytes)
 {
-    const size_t lengths[] = {0, 1, 2, 3, row_bytes - 1, row_bytes, row_bytes + 1, 2 * row_bytes, 3 * row_bytes - 1, 3 * row_bytes, 3 * row_bytes + 5};
+    const size_t lengths[LENGTHS] = {
+        0, 1, 2, 3, row_bytes - 1, row_bytes, row_bytes + 1, 2 * row_bytes, 3 * row_bytes - 1, 3 * row_bytes, 3 * row_bytes + 5};
     return lengths[n];
 }
-enum { LENGTHS = 11, STATEMENTS = 8 };
 
 /* The rows stated, by number. The last ones are so many that their bytes pass 2^32 by less than a row. */
 static uint32_t stated_of(int n, size_t bytes, size_t row_bytes)
 {
-    uint32_t rows = (uint32_t)(bytes / row_bytes);
-    const uint32_t stated[] = {0, 1, rows, rows + 1, 0x80000000u, 0xFFFFFFFFu, (uint32_t)((1ull << 32) / row_bytes), (uint32_t)((1ull << 32) / row_bytes + 1)};
+    uint32_t rows = (uint32_t)(bytes / row_bytes), passing = (uint32_t)(0x100000000u / row_bytes);
+    const uint32_t stated[STATEMENTS] = {0, 1, rows, rows + 1, 0x80000000u, 0xFFFFFFFFu, passing, passing + 1};
     return stated[n];
 }
 
@@ -57,7 +57,6 @@ static void fill(const struct call *c, struct ask *a, enum filling filling)
 }
 
 /* The arguments of a kind, by number. */
-enum { ARGUMENTS = 7 };
 static uint64_t argument_of(enum kind kind, int n, uint64_t limit)
 {
     static const uint64_t greatest[] = {0, 0xFFFFFFFF, 0xFF, 0xFFFF, 0xFFFFFFFF, UINT64_MAX};
@@ -124,7 +123,9 @@ static void attack_data(const struct call *c)
 /* The questions of no table. */
 static void ask_numbers(const struct call *c)
 {
-    static const uint64_t numbers[] = {0, 1, 2, 191, 192, 193, 0x7FFFFFFF, 0x80000000u, 0xFFFFFFFEu, 0xFFFFFFFFu, 0x100000000u, 192 * 0xFFFFFFFFull - 1, 192 * 0xFFFFFFFFull, UINT64_MAX};
+    static const uint64_t numbers[] = {
+        0, 1, 2, 191, 192, 193, 0x7FFFFFFF, 0x80000000u, 0xFFFFFFFEu, 0xFFFFFFFFu, 0x100000000u, 192 * 0xFFFFFFFFull - 1,
+        192 * 0xFFFFFFFFull, UINT64_MAX};
     enum { NUMBERS = sizeof numbers / sizeof *numbers };
     for (int n = 0; n < NUMBERS * NUMBERS; n++) {
         struct ask a;

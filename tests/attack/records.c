@@ -3,7 +3,7 @@
 
 #include "attack.h"
 
-enum { TABLES = 6, MOST_ROWS = 3, MOST_BYTES = 64 };
+enum { TABLES = 6, MOST_BYTES = 64 };
 
 static uint8_t table[TABLES][MOST_BYTES];
 static const uint8_t cells_of[TABLES] = {3, 4, 3, 5, 3, 5};
@@ -35,7 +35,9 @@ static void write_one(const struct ask *a)
 /* Every cell and every scalar at each limit and one over it. */
 static void cells(void)
 {
-    static const uint32_t values[] = {0, 1, 2, 7, 8, 15, 16, 255, 256, 511, 512, 65535, 65536, 16777215, 16777216, 0x7FFFFFFF, 0x80000000u, 0xFFFFFE00u, 0xFFFFFFFFu};
+    static const uint32_t values[] = {
+        0, 1, 2, 7, 8, 15, 16, 255, 256, 511, 512, 65535, 65536, 16777215, 16777216, 0x7FFFFFFF, 0x80000000u, 0xFFFFFE00u,
+        0xFFFFFFFFu};
     for (size_t v = 0; v < sizeof values / sizeof *values; v++) {
         for (int i = 0; i < TABLES; i++)
             for (int k = 0; k < cells_of[i]; k++) {
@@ -88,8 +90,10 @@ static void outputs(void)
     a.room[0] = 0;
     needed = attempt(call_named("clpi_write"), &a).number[1];
     must(needed > 242 && needed < 400, "a record that can be written is not");
-    for (a.room[0] = 0; a.room[0] < 400; a.room[0]++)
-        must(is_short || (attempt(call_named("clpi_write"), &a).number[0] == 0) == (a.room[0] >= needed), "an output of another length is filled");
+    for (a.room[0] = is_short ? needed - 3 : 0; a.room[0] < needed + 3; a.room[0]++) {
+        uint64_t refusal = attempt(call_named("clpi_write"), &a).number[0];
+        must(refusal == (a.room[0] < needed ? CLPI_OUTPUT_SHORT : CLPI_OK), "23 where it has no place, or not where it has");
+    }
 }
 
 void attack_records(void)

@@ -42,6 +42,8 @@ static struct clpi_reading wrong_reading(struct clpi_reading r)
         r.version = 1;
     if (r.refusal == CLPI_EP_MAP && is("a refusal that isn't there"))
         r.refusal = 9;
+    if (!r.refusal && is("no entries read"))
+        r.entries = 0;
     if (r.refusal == CLPI_LETTERS && is("another refusal"))
         r.refusal = CLPI_HEADER_SHORT;
     return r;
@@ -95,8 +97,10 @@ STANDS_BEFORE(struct clpi_writing, rewrite, const uint8_t *file, size_t file_byt
         w.bytes_needed++;
     if (!w.refusal && is("another record"))
         output[7] ^= 1;
+    if (!w.refusal && is("another record by both writers"))
+        output[7] ^= 1;
     if (!w.refusal && is("rewriting the new file changes it"))
-        output[189] ^= file[189] ^ 1;
+        output[28] = file[28] ^ 1;
     return w;
 }
 
@@ -115,6 +119,10 @@ STANDS_BEFORE(struct clpi_writing, write, struct clpi_clip_info info, WRITE_TABL
         __real_clpi_write(info, a, an, ar, b, bn, br, c, cn, cr, d, dn, dr, e, en, er, f, fn, fr, output, output_bytes);
     if (!w.refusal && w.bytes_written == output_bytes && is("the last byte not written"))
         output[output_bytes - 1] = kept;
+    if (!w.refusal && is("another record by both writers"))
+        output[7] ^= 1;
+    if (!w.refusal && is("rewriting the new file changes it"))
+        output[28] = 1;
     if (w.refusal == CLPI_CELLS && is("22 in place of 30"))
         w.refusal = CLPI_ROWS;
     return w;
