@@ -159,13 +159,14 @@ CALL(transfer_duration_secs)
 
 /* A question of one table, and of two; and the rows that a row has in the next table. */
 #define QUESTION1(call, of_table, bytes, first, second, of) \
-    {NAMED(call), .table = of_table, .ins = 1, .numbers = 3, .row_bytes = {bytes}, .kind = {first, second}, .row_of = of, .finds = 1, \
-     .refusals = BIT(22)}
-#define QUESTION2(call, of_table, at, counted, first, second, of) \
-    {NAMED(call), .table = of_table, .ins = 2, .numbers = 3, .row_bytes = {12, counted}, .count_at = {at}, .kind = {first, second}, \
+    {NAMED(call), .table = of_table, .ins = 1, .numbers = 3, .row_bytes = {bytes}, .kind = {first, second}, \
      .row_of = of, .finds = 1, .refusals = BIT(22)}
+#define QUESTION2(call, of_table, at, counted, first, second, of) \
+    {NAMED(call), .table = of_table, .ins = 2, .numbers = 3, .row_bytes = {12, counted}, .count_at = {at}, \
+     .kind = {first, second}, .row_of = of, .finds = 1, .refusals = BIT(22)}
 #define ROWS_OF(call, of_table, at, counted) \
-    {NAMED(call), .table = of_table, .ins = 2, .numbers = 3, .row_bytes = {12, counted}, .count_at = {at}, .kind = {ROW}, .refusals = BIT(22)}
+    {NAMED(call), .table = of_table, .ins = 2, .numbers = 3, .row_bytes = {12, counted}, .count_at = {at}, \
+     .kind = {ROW}, .refusals = BIT(22)}
 #define OF_ATC(call, first, second, of) QUESTION2(call, 1, 4, 16, first, second, of)
 #define OF_MAP(call, first, second, of) QUESTION2(call, 5, 8, 20, first, second, of)
 #define OF_NUMBERS(call, first, second) {NAMED(call), .numbers = 3, .kind = {first, second}, .row_of = -1, .finds = 1}

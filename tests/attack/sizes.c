@@ -39,7 +39,8 @@ static void long_file(size_t bytes, uint64_t wanted)
         memset(output, 0xA5, sizeof output);
         run_there(names[i], &a, out, number);
         must(number[0] == wanted, "the longest file is refused, or a longer one is not");
-        must(wanted == 0 || (output[0] == 0xA5 && memcmp(output, output + 1, sizeof output - 1) == 0), "a refusal changes the output");
+        must(wanted == 0 || (output[0] == 0xA5 && memcmp(output, output + 1, sizeof output - 1) == 0),
+             "a refusal changes the output");
     }
     give_back(file, bytes);
 }
