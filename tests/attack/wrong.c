@@ -107,6 +107,10 @@ STANDS_BEFORE(struct clpi_writing, rewrite, const uint8_t *file, size_t file_byt
 STANDS_BEFORE(struct clpi_length, rewritten_length, const uint8_t *file, size_t file_bytes)
 {
     struct clpi_length l = __real_clpi_rewritten_length(file, file_bytes);
+    if (l.refusal == CLPI_RUNS && is("31 not measured")) {
+        l.refusal = CLPI_OK;
+        l.bytes = 786686;
+    }
     if (!l.refusal && is("a length off by one"))
         l.bytes++;
     return l;
