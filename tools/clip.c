@@ -32,7 +32,7 @@ static int in_the_way(const char *path)
 
 /* The signals that end the program, the draft that they take away then, and whether NEW has its name. */
 static const int ends[] = {SIGINT, SIGTERM, SIGHUP, SIGQUIT, SIGALRM, SIGXCPU};
-static const char *volatile unfinished;
+static const struct new_file *volatile unfinished;
 static volatile sig_atomic_t finished;
 static sigset_t held, callers; /* these signals; and those that the caller holds back */
 
@@ -41,8 +41,8 @@ static void interrupted(int number)
 {
     if (finished)
         _exit(DONE);
-    if (unfinished)
-        unlink(unfinished);
+    if (unfinished && unfinished->draft && is_the_file(unfinished, unfinished->draft))
+        unlink(unfinished->draft);
     signal(number, SIG_DFL);
     raise(number);
 }
@@ -151,7 +151,7 @@ static int put_new(const struct image *old, const struct image *new)
     int status, started;
     hold_signals();
     started = start_file(&f, new->path);
-    unfinished = f.draft;
+    unfinished = &f;
     let_signals();
     if (!started || !write_file(&f, new->bytes, new->count))
         status = failed(new->path);

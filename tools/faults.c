@@ -2,6 +2,7 @@
 #define _POSIX_C_SOURCE 200809L
 #include <errno.h>
 #include <signal.h>
+#include <stdio.h>
 #include <stdlib.h>
 #include <string.h>
 #include <sys/stat.h>
@@ -59,11 +60,29 @@ ssize_t __wrap_write(int fd, const void *bytes, size_t count)
     return __real_write(fd, bytes, count < 7 ? count : 7);
 }
 
-/* A file or a folder that doesn't reach the medium; a program that is ended while it waits. */
+/* Another file in the place of the one that is open. */
+static void take_name(int fd)
+{
+    char open_file[32], name[4096];
+    ssize_t n;
+    snprintf(open_file, sizeof open_file, "/proc/self/fd/%d", fd);
+    if ((n = readlink(open_file, name, sizeof name - 1)) > 0) {
+        name[n] = 0;
+        __real_unlink(name);
+        __real_link("old", name);
+    }
+}
+
+/* A file or a folder that doesn't reach the medium; a program that is ended while it waits, also where another file has
+ * got the draft's name. */
 int __wrap_fsync(int fd)
 {
     struct stat s;
     int folder = fstat(fd, &s) == 0 && S_ISDIR(s.st_mode);
+    if (is("ended beside another draft")) {
+        take_name(fd);
+        raise(SIGTERM);
+    }
     if (is("ended while waiting"))
         raise(SIGTERM);
     if (is("alarm while waiting"))
