@@ -1,0 +1,2 @@
+-- What the walks of the functions that are lent a row of records share.
+pub mod Shared
