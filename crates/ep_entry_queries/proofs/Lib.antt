@@ -1,2 +1,3 @@
 -- What the walks of the functions that are lent a row of records share.
 pub mod Shared
+pub mod ReadEntry

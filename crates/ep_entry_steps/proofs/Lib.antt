@@ -1,0 +1,2 @@
+-- Laws of the lookups in a row of records.
+pub mod Laws
