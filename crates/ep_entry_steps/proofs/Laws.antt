@@ -12,7 +12,7 @@ use Rattle.format.specs.Ticks.{Ticks90, less90}
 use Rattle.format.specs.Questions.{Answer, none, number, ofRow, lastOf, spanOf}
 use Rattle.nearest.specs.Nearest.{far, noneYet, closerOf, rowFound, rowIn}
 use Rattle.nearest.specs.declared.Nearest.{Nearest}
-use Rattle.nearest.proofs.Steps.{Scan, scan-first, scan-turn, found-is}
+use Rattle.nearest.proofs.Steps.{Scan, scan-first, scan-turn, scan-done, found-is}
 use Rattle.ep_entry_steps.specs.declared.EpEntry.{EpEntry}
 use Rattle.ep_entry_steps.specs.Records.{rowOf, rowsOf, noEntry}
 use Rattle.ep_entry_steps.specs.Lookups.{lookUp, rowOrPacket, lastRow, spanBetween}
@@ -86,7 +86,7 @@ module _ (es : List EpEntry) (side : Bool) (at : ℕ) where
       l = all ∙ sym (times-length es)
 
       found : rowFound side k n ≡ rowIn side (timesOf es) at
-      found = ap (λ (m : ℕ). rowFound side m n) l ∙ found-is (timesOf es) side at n (subst (λ (m : ℕ). Looked m n) l i)
+      found = ap (λ (m : ℕ). rowFound side m n) l ∙ found-is (timesOf es) side at n (scan-done (timesOf es) side at n (subst (λ (m : ℕ). Looked m n) l i))
 
       go : (b : Bool) → rowOrPacket b (rowOf e) (rowFound side k n) ≡ lookUp side b (rowsOf es) at
       go true = its-packet (rowOf e) (rowsOf es) (ap (λ (y : EpEntry). packet (rowOf y)) is ∙ packet-at es (n .row)) (found-or-none side k n) ∙ ap (ofRow packet (rowsOf es)) found

@@ -11,8 +11,8 @@ use clpi_answers::ClpiAnswer;
 use clpi_answers::answer_of;
 use clpi_answers::answer_of_90;
 use nearest::Nearest;
-use nearest::closer;
 use nearest::found_row;
+use nearest::look_at_time;
 use queries::Found;
 use queries::Time90;
 use ticks::Ticks90;
@@ -44,7 +44,7 @@ pub fn no_entry() -> EpEntry
 pub fn look_at(so_far: Nearest, k: usize, entry: EpEntry, is_after: bool, at: u32) -> Nearest
     ensures { λ r. ⌜ r ≡ closerOf «is_after» at «so_far» k (time (rowOf entry)) ⌝ }
 {
-    closer(so_far, k, is_after, at, entry.pts_ep_start)
+    look_at_time(so_far, k, is_after, at, entry.pts_ep_start)
 }
 
 // The row that was found, or the packet of its entry.

@@ -12,7 +12,7 @@ use borrow.Author.Tests.{leb-true, leb-false, ltb-true, ltb-false, lt-ltb, le-lt
 use Rattle.format.specs.Bytes.{pick}
 use Rattle.format.specs.Questions.{Answer, number, Best, nothing, best, better, bestOf, rowOr, atOrBefore, after}
 use Rattle.format.specs.Questions as of
-use Rattle.nearest.specs.Nearest.{rowIn, onSide, nearer, bestIn, far, distanceTo, noneYet, closerOf, rowFound, Says}
+use Rattle.nearest.specs.Nearest.{rowIn, onSide, nearer, bestIn, far, distanceTo, noneYet, closerOf, rowFound, Says, NearestIn}
 use Rattle.nearest.specs.declared.Nearest.{Nearest}
 
 -- two tests that pass and fail alike
@@ -123,7 +123,7 @@ module _ (times : List ℕ) (side : Bool) (at : ℕ) where
         rest = rw (drop-cons times k 0 h, ← e) at (i .rest);
       }
 
-  pub scan-done : (n : Nearest) → Scan (length times) n → Says side at (bestIn side times at) (n .row) (n .distance)
+  pub scan-done : (n : Nearest) → Scan (length times) n → NearestIn side times at n
   scan-done n i =
       let e : i .so-far ≡ bestIn side times at = rw (drop-length times) at (i .rest) in
       rw (← e) (i .says)
@@ -139,12 +139,12 @@ far-or Says.none = refl
 far-or (Says.some k x d xb e near) = rw (ne-eqb d far (λ z. omega arith))
 
 -- what the steps find is what the definitions answer
-pub found-is : (times : List ℕ) (side : Bool) (at : ℕ) (n : Nearest) → Scan times side at (length times) n → rowFound side (length times) n ≡ rowIn side times at
+pub found-is : (times : List ℕ) (side : Bool) (at : ℕ) (n : Nearest) → NearestIn side times at n → rowFound side (length times) n ≡ rowIn side times at
 unfolding atOrBefore after
-found-is [] true at n i = refl
-found-is [] false at n i = refl
-found-is (x ∷ xs) true at n i = rw (ne-eqb (length (x ∷ xs)) 0 (λ z. omega arith)) (far-or (scan-done (x ∷ xs) true at n i))
-found-is (x ∷ xs) false at n i = rw (ne-eqb (length (x ∷ xs)) 0 (λ z. omega arith)) (row-or (scan-done (x ∷ xs) false at n i))
+found-is [] true at n s = refl
+found-is [] false at n s = refl
+found-is (x ∷ xs) true at n s = rw (ne-eqb (length (x ∷ xs)) 0 (λ z. omega arith)) (far-or s)
+found-is (x ∷ xs) false at n s = rw (ne-eqb (length (x ∷ xs)) 0 (λ z. omega arith)) (row-or s)
 
 -- ---- found, by its tests
 

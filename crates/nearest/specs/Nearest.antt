@@ -44,9 +44,13 @@ distanceTo false t x = pick (leb x t) (t - x) far
 abbrev pub noneYet : Nearest
 noneYet = record { row = 0; distance = far }
 
--- row k with the time x takes over only where it is nearer, so among equals the earliest row stays
+-- row k at distance d takes over only where it is nearer, so among equals the earliest row stays
+abbrev pub closerAt : Nearest → ℕ → ℕ → Nearest
+closerAt n k d = pick (ltb d (n .distance)) (record { row = k; distance = d }) n
+
+-- the same of row k with the time x
 abbrev pub closerOf : Bool → ℕ → Nearest → ℕ → ℕ → Nearest
-closerOf side at n k x = pick (ltb (distanceTo side at x) (n .distance)) (record { row = k; distance = distanceTo side at x }) n
+closerOf side at n k x = closerAt n k (distanceTo side at x)
 
 -- what is found of so many rows
 abbrev pub rowFound : Bool → ℕ → Nearest → Answer
@@ -59,3 +63,7 @@ rowFound false rows n = pick (eqb rows 0) of.none (number (n .row))
 pub data Says (side : Bool) (at : ℕ) : Best → ℕ → ℕ → Type 0 where
   none : Says side at nothing 0 far
   some : (k x d : ℕ) → x < far → d ≡ distanceTo side at x → d < far → Says side at (best k x) k d
+
+-- the nearest of these times
+abbrev pub NearestIn : Bool → List ℕ → ℕ → Nearest → Type 0
+NearestIn side times at n = Says side at (bestIn side times at) (n .row) (n .distance)

@@ -1,7 +1,7 @@
 // The nearest of some times to the one asked for, before it or after it: a step for each row, and what is found at the end.
 ghost use mathlib.Core.Path.{_≡_};
 ghost use Rattle.queries.specs.Answers.{foundOf};
-ghost use Rattle.nearest.specs.Nearest.{distanceTo, noneYet, closerOf, rowFound};
+ghost use Rattle.nearest.specs.Nearest.{distanceTo, noneYet, closerAt, closerOf, rowFound};
 use queries::Found;
 
 // Farther than any time of 32 bits is from another.
@@ -39,11 +39,10 @@ pub fn none_yet() -> Nearest
     }
 }
 
-// The nearest so far, or row k with this time where that is nearer.
-pub fn closer(so_far: Nearest, k: usize, is_after: bool, at: u32, time: u32) -> Nearest
-    ensures { λ r. ⌜ r ≡ closerOf «is_after» at «so_far» k time ⌝ }
+// The nearest so far, or row k at distance d where that is nearer.
+pub fn closer(so_far: Nearest, k: usize, d: u64) -> Nearest
+    ensures { λ r. ⌜ r ≡ closerAt «so_far» k d ⌝ }
 {
-    let d = distance(is_after, at, time);
     if d < so_far.distance {
         return Nearest {
             row: k,
@@ -51,6 +50,13 @@ pub fn closer(so_far: Nearest, k: usize, is_after: bool, at: u32, time: u32) -> 
         };
     }
     so_far
+}
+
+// The nearest so far, or row k with this time where that is nearer.
+pub fn look_at_time(so_far: Nearest, k: usize, is_after: bool, at: u32, time: u32) -> Nearest
+    ensures { λ r. ⌜ r ≡ closerOf «is_after» at «so_far» k time ⌝ }
+{
+    closer(so_far, k, distance(is_after, at, time))
 }
 
 // The row that is found once all are looked at: none without rows; row 0 where all are later and one at or before is asked for.
