@@ -38,7 +38,7 @@ use Rattle.clpi_answers.specs.Numbers.{foundNumbers}
 use Rattle.clpi_answers.proofs.ClpiAnswer as F
 use Rattle.clpi_answers.proofs.ClpiAnswer.Laws as F′
 use Rattle.ep_entry_steps.specs.declared.EpEntry.{EpEntry}
-use Rattle.ep_entry_steps.specs.Records.{rowsOf}
+use Rattle.ep_entry_steps.specs.Records.{asRows}
 use Rattle.ep_entry_steps.specs.Lookups.{lookUp}
 use Rattle.ep_entry_queries.proofs.Shared.{R, half, slice, calls-known}
 use Rattle.ep_entry_queries.proofs.look_up as look-up
@@ -81,7 +81,7 @@ module _ {M : Type 1} (𝓤 : URA M) where
   asks side isPacket = λ κs args. record {
     ghost = Unit {0};
     requires = λ _. emp 𝓤;
-    ensures = λ _ r _. fact 𝓤 (foundNumbers r ≡ answerNumbers (lookUp side isPacket (rowsOf (now (args .0))) (args .1 .0)));
+    ensures = λ _ r _. fact 𝓤 (foundNumbers r ≡ answerNumbers (lookUp side isPacket (asRows (now (args .0))) (args .1 .0)));
   }
 
 module _ {M : Type 1} (𝓤 : URA M) (H : Heap 𝓤) (A : Atoms 𝓤) (W : Given 𝓤 H A) (mem : Memory → SProp 𝓤) (run : Routine → Fun 𝓤) (side isPacket : Bool) (κ : Lft) (q : Share) (s : RefT (List EpEntry)) (t : ℕ) where
@@ -105,7 +105,7 @@ module _ {M : Type 1} (𝓤 : URA M) (H : Heap 𝓤) (A : Atoms 𝓤) (W : Given
   alive = ‵ (flft κ q) ⊛ ‵ ftrue
 
   abbrev Told : ClpiAnswer → Type 0
-  Told r = foundNumbers r ≡ answerNumbers (lookUp side isPacket (rowsOf (s .now)) t)
+  Told r = foundNumbers r ≡ answerNumbers (lookUp side isPacket (asRows (s .now)) t)
 
   -- the call: what it is passed, what it asks, and what is known of its result
   abbrev passed : Vals look-up.signature (κ, tt)

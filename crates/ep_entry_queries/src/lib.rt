@@ -6,7 +6,7 @@ ghost use lib.ListN.{getD};
 ghost use Rattle.format.specs.ClipRecord.{time};
 ghost use Rattle.format.specs.Questions.{answerNumbers, ticks90, atOrBefore, after, seek, nextSeek, spanOf};
 ghost use Rattle.clpi_answers.specs.Numbers.{foundNumbers};
-ghost use Rattle.ep_entry_steps.specs.Records.{noEntry, rowsOf};
+ghost use Rattle.ep_entry_steps.specs.Records.{noEntry, asRows};
 ghost use Rattle.ep_entry_steps.specs.Lookups.{lookUp};
 use clpi_answers::ClpiAnswer;
 use ep_entry_steps::EpEntry;
@@ -29,7 +29,7 @@ fn entry_at(rows: &[EpEntry], k: usize) -> EpEntry
 
 // The entry after a time, or at or before it: its packet, or its row.
 fn look_up(rows: &[EpEntry], is_after: bool, is_packet: bool, at: u32) -> ClpiAnswer
-    ensures { λ r. ⌜ foundNumbers r ≡ answerNumbers (lookUp «is_after» «is_packet» (rowsOf (now (rows .entry))) at) ⌝ }
+    ensures { λ r. ⌜ foundNumbers r ≡ answerNumbers (lookUp «is_after» «is_packet» (asRows (now (rows .entry))) at) ⌝ }
 {
     let mut nearest = none_yet();
     let mut k = 0;
@@ -43,7 +43,7 @@ fn look_up(rows: &[EpEntry], is_after: bool, is_packet: bool, at: u32) -> ClpiAn
 // The entry with the greatest time not above the one given, the earliest among equals; row 0 if all are later; nothing without entries.
 #[no_mangle]
 pub extern "C" fn entry_point_at_or_before(rows: &[EpEntry], at: u32) -> ClpiAnswer
-    ensures { λ r. ⌜ foundNumbers r ≡ answerNumbers (atOrBefore (map time (rowsOf (now (rows .entry)))) at) ⌝ }
+    ensures { λ r. ⌜ foundNumbers r ≡ answerNumbers (atOrBefore (map time (asRows (now (rows .entry)))) at) ⌝ }
 {
     look_up(rows, false, false, at)
 }
@@ -51,7 +51,7 @@ pub extern "C" fn entry_point_at_or_before(rows: &[EpEntry], at: u32) -> ClpiAns
 // The entry with the least time above the one given, the earliest among equals, or nothing.
 #[no_mangle]
 pub extern "C" fn entry_point_after(rows: &[EpEntry], at: u32) -> ClpiAnswer
-    ensures { λ r. ⌜ foundNumbers r ≡ answerNumbers (after (map time (rowsOf (now (rows .entry)))) at) ⌝ }
+    ensures { λ r. ⌜ foundNumbers r ≡ answerNumbers (after (map time (asRows (now (rows .entry)))) at) ⌝ }
 {
     look_up(rows, true, false, at)
 }
@@ -59,7 +59,7 @@ pub extern "C" fn entry_point_after(rows: &[EpEntry], at: u32) -> ClpiAnswer
 // The packet to read from for a time: that of the entry at or before it; nothing without entries.
 #[no_mangle]
 pub extern "C" fn seek_spn(rows: &[EpEntry], at: u32) -> ClpiAnswer
-    ensures { λ r. ⌜ foundNumbers r ≡ answerNumbers (seek (rowsOf (now (rows .entry))) at) ⌝ }
+    ensures { λ r. ⌜ foundNumbers r ≡ answerNumbers (seek (asRows (now (rows .entry))) at) ⌝ }
 {
     look_up(rows, false, true, at)
 }
@@ -67,7 +67,7 @@ pub extern "C" fn seek_spn(rows: &[EpEntry], at: u32) -> ClpiAnswer
 // The packet of the entry after a time, or nothing.
 #[no_mangle]
 pub extern "C" fn next_seek_spn(rows: &[EpEntry], at: u32) -> ClpiAnswer
-    ensures { λ r. ⌜ foundNumbers r ≡ answerNumbers (nextSeek (rowsOf (now (rows .entry))) at) ⌝ }
+    ensures { λ r. ⌜ foundNumbers r ≡ answerNumbers (nextSeek (asRows (now (rows .entry))) at) ⌝ }
 {
     look_up(rows, true, true, at)
 }
@@ -75,7 +75,7 @@ pub extern "C" fn next_seek_spn(rows: &[EpEntry], at: u32) -> ClpiAnswer
 // The span of the entries: the last time less the first, not below 0; 0 without entries.
 #[no_mangle]
 pub extern "C" fn indexed_span_90k(rows: &[EpEntry]) -> ClpiAnswer
-    ensures { λ r. ⌜ foundNumbers r ≡ answerNumbers (ticks90 (spanOf (rowsOf (now (rows .entry))))) ⌝ }
+    ensures { λ r. ⌜ foundNumbers r ≡ answerNumbers (ticks90 (spanOf (asRows (now (rows .entry))))) ⌝ }
 {
     let first = entry_at(rows, 0);
     let last = entry_at(rows, last_row(rows.len()));

@@ -14,23 +14,23 @@ use Rattle.nearest.specs.Nearest.{far, noneYet, closerOf, rowFound, rowIn}
 use Rattle.nearest.specs.declared.Nearest.{Nearest}
 use Rattle.nearest.proofs.Steps.{Scan, scan-first, scan-turn, scan-done, found-is}
 use Rattle.ep_entry_steps.specs.declared.EpEntry.{EpEntry}
-use Rattle.ep_entry_steps.specs.Records.{rowOf, rowsOf, noEntry}
+use Rattle.ep_entry_steps.specs.Records.{asRow, asRows, noEntry}
 use Rattle.ep_entry_steps.specs.Lookups.{lookUp, rowOrPacket, lastRow, spanBetween}
 
 -- the times of a row of records
 abbrev pub timesOf : List EpEntry → List ℕ
-timesOf es = map time (rowsOf es)
+timesOf es = map time (asRows es)
 
 times-length : (es : List EpEntry) → length (timesOf es) ≡ length es
-times-length es = length-map (rowsOf es) time ∙ length-map es rowOf
+times-length es = length-map (asRows es) time ∙ length-map es asRow
 
 -- the time and the packet of record k, also past the end
-time-at : (es : List EpEntry) (k : ℕ) → getD (timesOf es) k 0 ≡ time (rowOf (getD es k noEntry))
+time-at : (es : List EpEntry) (k : ℕ) → getD (timesOf es) k 0 ≡ time (asRow (getD es k noEntry))
 time-at [] k = refl
 time-at (e ∷ es) zero = refl
 time-at (e ∷ es) (suc k) = time-at es k
 
-packet-at : (es : List EpEntry) (k : ℕ) → packet (rowOf (getD es k noEntry)) ≡ packet (getD (rowsOf es) k [])
+packet-at : (es : List EpEntry) (k : ℕ) → packet (asRow (getD es k noEntry)) ≡ packet (getD (asRows es) k [])
 packet-at [] k = refl
 packet-at (e ∷ es) zero = refl
 packet-at (e ∷ es) (suc k) = packet-at es k
@@ -72,14 +72,14 @@ module _ (es : List EpEntry) (side : Bool) (at : ℕ) where
   pub look-first : Looked 0 noneYet
   look-first = scan-first (timesOf es) side at
 
-  pub look-turn : at < far → (k : ℕ) (n r : Nearest) (e : EpEntry) → k < length es → e ≡ getD es k noEntry → time (rowOf e) < far → r ≡ closerOf side at n k (time (rowOf e)) → Looked k n → Looked (suc k) r
+  pub look-turn : at < far → (k : ℕ) (n r : Nearest) (e : EpEntry) → k < length es → e ≡ getD es k noEntry → time (asRow e) < far → r ≡ closerOf side at n k (time (asRow e)) → Looked k n → Looked (suc k) r
   look-turn small k n r e h is below chose i =
       let l : k < length (timesOf es) = subst (λ (m : ℕ). k < m) (sym (times-length es)) h in
-      let x : time (rowOf e) ≡ getD (timesOf es) k 0 = ap (λ (y : EpEntry). time (rowOf y)) is ∙ sym (time-at es k) in
+      let x : time (asRow e) ≡ getD (timesOf es) k 0 = ap (λ (y : EpEntry). time (asRow y)) is ∙ sym (time-at es k) in
       rw chose (scan-turn (timesOf es) side at small k n l x below i)
 
   -- all are looked at
-  pub look-done : (isPacket : Bool) (k : ℕ) (n : Nearest) (e : EpEntry) → k ≡ length es → Looked k n → e ≡ getD es (n .row) noEntry → rowOrPacket isPacket (rowOf e) (rowFound side k n) ≡ lookUp side isPacket (rowsOf es) at
+  pub look-done : (isPacket : Bool) (k : ℕ) (n : Nearest) (e : EpEntry) → k ≡ length es → Looked k n → e ≡ getD es (n .row) noEntry → rowOrPacket isPacket (asRow e) (rowFound side k n) ≡ lookUp side isPacket (asRows es) at
   look-done isPacket k n e all i is = go isPacket
     where
       l : k ≡ length (timesOf es)
@@ -88,19 +88,19 @@ module _ (es : List EpEntry) (side : Bool) (at : ℕ) where
       found : rowFound side k n ≡ rowIn side (timesOf es) at
       found = ap (λ (m : ℕ). rowFound side m n) l ∙ found-is (timesOf es) side at n (scan-done (timesOf es) side at n (subst (λ (m : ℕ). Looked m n) l i))
 
-      go : (b : Bool) → rowOrPacket b (rowOf e) (rowFound side k n) ≡ lookUp side b (rowsOf es) at
-      go true = its-packet (rowOf e) (rowsOf es) (ap (λ (y : EpEntry). packet (rowOf y)) is ∙ packet-at es (n .row)) (found-or-none side k n) ∙ ap (ofRow packet (rowsOf es)) found
-      go false = its-row (rowOf e) (found-or-none side k n) ∙ found
+      go : (b : Bool) → rowOrPacket b (asRow e) (rowFound side k n) ≡ lookUp side b (asRows es) at
+      go true = its-packet (asRow e) (asRows es) (ap (λ (y : EpEntry). packet (asRow y)) is ∙ packet-at es (n .row)) (found-or-none side k n) ∙ ap (ofRow packet (asRows es)) found
+      go false = its-row (asRow e) (found-or-none side k n) ∙ found
 
 -- ---- the span
 
-last-at : (t : Ticks90) (es : List EpEntry) (d : EpEntry) → t ≡ entryTime (rowOf d) → lastOf t (rowsOf es) ≡ entryTime (rowOf (getD (d ∷ es) (length es) noEntry))
+last-at : (t : Ticks90) (es : List EpEntry) (d : EpEntry) → t ≡ entryTime (asRow d) → lastOf t (asRows es) ≡ entryTime (asRow (getD (d ∷ es) (length es) noEntry))
 last-at t [] d h = h
-last-at t (e ∷ es) d h = last-at (entryTime (rowOf e)) es e refl
+last-at t (e ∷ es) d h = last-at (entryTime (asRow e)) es e refl
 
-pub span-is : (es : List EpEntry) {first last : EpEntry} → first ≡ getD es 0 noEntry → last ≡ getD es (lastRow (length es)) noEntry → spanBetween (rowOf first) (rowOf last) ≡ spanOf (rowsOf es)
+pub span-is : (es : List EpEntry) {first last : EpEntry} → first ≡ getD es 0 noEntry → last ≡ getD es (lastRow (length es)) noEntry → spanBetween (asRow first) (asRow last) ≡ spanOf (asRows es)
 unfolding spanOf
 span-is [] f l = rw (f, l)
 span-is (e ∷ es) f l =
     let z : lastRow (length (e ∷ es)) ≡ length es = omega arith in
-    rw (f, l, z) (ap (λ (t : Ticks90). less90 t (entryTime (rowOf e))) (sym (last-at (entryTime (rowOf e)) es e refl)))
+    rw (f, l, z) (ap (λ (t : Ticks90). less90 t (entryTime (asRow e))) (sym (last-at (entryTime (asRow e)) es e refl)))

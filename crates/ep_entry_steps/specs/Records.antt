@@ -11,11 +11,11 @@ bit true = 1
 bit false = 0
 
 -- angle, I-end, time, packet, type
-abbrev pub rowOf : EpEntry → Row
-rowOf e = bit (e .«is_angle_change_point») ∷ e .«i_end_position_offset» ∷ e .«pts_ep_start» ∷ e .«spn_ep_start» ∷ e .«ep_stream_type» ∷ []
+abbrev pub asRow : EpEntry → Row
+asRow e = bit (e .«is_angle_change_point») ∷ e .«i_end_position_offset» ∷ e .«pts_ep_start» ∷ e .«spn_ep_start» ∷ e .«ep_stream_type» ∷ []
 
-abbrev pub rowsOf : List EpEntry → List Row
-rowsOf entries = map rowOf entries
+abbrev pub asRows : List EpEntry → List Row
+asRows entries = map asRow entries
 
 -- what stands past the end
 abbrev pub noEntry : EpEntry

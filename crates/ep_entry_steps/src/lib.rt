@@ -5,7 +5,7 @@ ghost use Rattle.format.specs.Questions.{answerNumbers, ticks90};
 ghost use Rattle.queries.specs.Answers.{foundOf};
 ghost use Rattle.clpi_answers.specs.Numbers.{foundNumbers};
 ghost use Rattle.nearest.specs.Nearest.{closerOf, rowFound};
-ghost use Rattle.ep_entry_steps.specs.Records.{noEntry, rowOf};
+ghost use Rattle.ep_entry_steps.specs.Records.{noEntry, asRow};
 ghost use Rattle.ep_entry_steps.specs.Lookups.{rowOrPacket, lastRow, spanBetween};
 use clpi_answers::ClpiAnswer;
 use clpi_answers::answer_of;
@@ -42,14 +42,14 @@ pub fn no_entry() -> EpEntry
 
 // The nearest so far, or entry k where its time is nearer.
 pub fn look_at(so_far: Nearest, k: usize, entry: EpEntry, is_after: bool, at: u32) -> Nearest
-    ensures { λ r. ⌜ r ≡ closerOf «is_after» at «so_far» k (time (rowOf entry)) ⌝ }
+    ensures { λ r. ⌜ r ≡ closerOf «is_after» at «so_far» k (time (asRow entry)) ⌝ }
 {
     look_at_time(so_far, k, is_after, at, entry.pts_ep_start)
 }
 
 // The row that was found, or the packet of its entry.
 fn row_or_packet(found: Found, entry: EpEntry, is_packet: bool) -> Found
-    ensures { λ r. ⌜ foundOf r ≡ rowOrPacket «is_packet» (rowOf entry) (foundOf found) ⌝ }
+    ensures { λ r. ⌜ foundOf r ≡ rowOrPacket «is_packet» (asRow entry) (foundOf found) ⌝ }
 {
     match found {
         Found::Refused(refusal) => Found::Refused(refusal),
@@ -71,7 +71,7 @@ pub fn answer(
     is_after: bool,
     is_packet: bool,
 ) -> ClpiAnswer
-    ensures { λ r. ⌜ foundNumbers r ≡ answerNumbers (rowOrPacket «is_packet» (rowOf entry) (rowFound «is_after» rows nearest)) ⌝ }
+    ensures { λ r. ⌜ foundNumbers r ≡ answerNumbers (rowOrPacket «is_packet» (asRow entry) (rowFound «is_after» rows nearest)) ⌝ }
 {
     answer_of(row_or_packet(found_row(nearest, rows, is_after), entry, is_packet))
 }
@@ -88,7 +88,7 @@ pub fn last_row(rows: usize) -> usize
 
 // The last time less the first, not below 0.
 pub fn span(first: EpEntry, last: EpEntry) -> ClpiAnswer
-    ensures { λ r. ⌜ foundNumbers r ≡ answerNumbers (ticks90 (spanBetween (rowOf first) (rowOf last))) ⌝ }
+    ensures { λ r. ⌜ foundNumbers r ≡ answerNumbers (ticks90 (spanBetween (asRow first) (asRow last))) ⌝ }
 {
     let end = Ticks90(last.pts_ep_start as u64);
     let start = Ticks90(first.pts_ep_start as u64);

@@ -43,7 +43,7 @@ use Rattle.clpi_answers.specs.Numbers.{foundNumbers}
 use Rattle.clpi_answers.proofs.ClpiAnswer as F
 use Rattle.clpi_answers.proofs.ClpiAnswer.Laws as F′
 use Rattle.ep_entry_steps.specs.declared.EpEntry.{EpEntry}
-use Rattle.ep_entry_steps.specs.Records.{noEntry, rowOf, rowsOf}
+use Rattle.ep_entry_steps.specs.Records.{noEntry, asRow, asRows}
 use Rattle.ep_entry_steps.specs.Lookups.{lastRow, spanBetween}
 use Rattle.ep_entry_steps.proofs.Laws.{span-is}
 use Rattle.ep_entry_steps.proofs.EpEntry as T
@@ -83,8 +83,8 @@ module _ {M : Type 1} (𝓤 : URA M) (H : Heap 𝓤) (A : Atoms 𝓤) (mem : Mem
   last-said : (n r : ℕ) → ent 𝓤 (ensured 𝓤 H A last.ended (last.clauses 𝓤 H A mem run) tt (n, tt) tt r) (fact 𝓤 (r ≡ lastRow n))
   last-said n r = exE 𝓤 _ (λ ws. snd∗ 𝓤 (sem 𝓤 H A (lasts last.ended tt (n, tt) ws)) (fact 𝓤 (r ≡ lastRow n)))
 
-  span-said : (e d : EpEntry) (r : ClpiAnswer) → ent 𝓤 (ensured 𝓤 H A span.ended (span.clauses 𝓤 H A mem run) tt (e, (d, tt)) tt r) (fact 𝓤 (foundNumbers r ≡ answerNumbers (ticks90 (spanBetween (rowOf e) (rowOf d)))))
-  span-said e d r = exE 𝓤 _ (λ ws. snd∗ 𝓤 (sem 𝓤 H A (lasts span.ended tt (e, (d, tt)) ws)) (fact 𝓤 (foundNumbers r ≡ answerNumbers (ticks90 (spanBetween (rowOf e) (rowOf d))))))
+  span-said : (e d : EpEntry) (r : ClpiAnswer) → ent 𝓤 (ensured 𝓤 H A span.ended (span.clauses 𝓤 H A mem run) tt (e, (d, tt)) tt r) (fact 𝓤 (foundNumbers r ≡ answerNumbers (ticks90 (spanBetween (asRow e) (asRow d)))))
+  span-said e d r = exE 𝓤 _ (λ ws. snd∗ 𝓤 (sem 𝓤 H A (lasts span.ended tt (e, (d, tt)) ws)) (fact 𝓤 (foundNumbers r ≡ answerNumbers (ticks90 (spanBetween (asRow e) (asRow d))))))
 
 module _ {M : Type 1} (𝓤 : URA M) (H : Heap 𝓤) (A : Atoms 𝓤) (W : Given 𝓤 H A) (mem : Memory → SProp 𝓤) (run : Routine → Fun 𝓤) where
   abbrev to-last : ℕ → Last 𝓤 H A mem run .Ghost
@@ -117,7 +117,7 @@ module _ {M : Type 1} (𝓤 : URA M) (H : Heap 𝓤) (A : Atoms 𝓤) (W : Given
   abbrev Own : Item 𝓤
   Own = ‵ (Rows 𝓤 H A W mem run κ q s)
 
-  exits : (r : ClpiAnswer) (w : Val) → foundNumbers r ≡ answerNumbers (ticks90 (spanOf (rowsOf (s .now)))) → ent 𝓤 (⋆ 𝓤 H A (‵ (FR .own r (w ∷ [])) ∷ alive ∷ Own ∷ [])) (Post w)
+  exits : (r : ClpiAnswer) (w : Val) → foundNumbers r ≡ answerNumbers (ticks90 (spanOf (asRows (s .now)))) → ent 𝓤 (⋆ 𝓤 H A (‵ (FR .own r (w ∷ [])) ∷ alive ∷ Own ∷ [])) (Post w)
   exits r w e =
       qed W (‵ (FR .own r (w ∷ [])) ∷ alive ∷ Own ∷ []) ∵
       suffices ! _ (ends-at 𝓤 H A here.ended stayed (here.clauses 𝓤 H A mem run) W (((κ, tt), (q, tt), tt, (s, tt), at), tt) w r (tt, tt) (tt, tt)) $ says ! e $
@@ -146,7 +146,7 @@ module _ {M : Type 1} (𝓤 : URA M) (H : Heap 𝓤) (A : Atoms 𝓤) (W : Given
         land ! (from ! (stop !)) (init ! 8 refl (LL.lawful T.the-type T′.the-laws 𝓤 H A W .typed d _ isd .0)) $ drop ! $
         nothing ! $ use1 W (raw (Span 𝓤 H A mem run .pre (to-span 𝓤 H A W mem run e u d u′))) (goes-span 𝓤 H A W mem run e u d u′ ise isd) $
         calls-known ! fm (Span 𝓤 H A mem run) known-span (to-span 𝓤 H A W mem run e u d u′) FR (‵ ftrue) (λ r. ensured 𝓤 H A span.ended (span.clauses 𝓤 H A mem run) tt (e, (d, tt)) tt r)
-        (λ r. foundNumbers r ≡ answerNumbers (ticks90 (spanBetween (rowOf e) (rowOf d)))) (λ w. id⊢ 𝓤 _) (span-said 𝓤 H A mem run e d)
+        (λ r. foundNumbers r ≡ answerNumbers (ticks90 (spanBetween (asRow e) (asRow d)))) (λ w. id⊢ 𝓤 _) (span-said 𝓤 H A mem run e d)
         (and-then ! (load ! (from ! (stop !)) (look ! 10 refl)) (and-then ! (load ! (from ! (stop !)) (look ! 8 refl)) (no-more !))) (λ r w told is.
         -- [what r owns; true; alive; what the row owns; true; _5; …; _0; …]
         land ! (from ! (stop !)) (init ! 15 refl (LL.lawful F.the-type F′.the-laws 𝓤 H A W .typed r _ is .0)) $

@@ -50,7 +50,7 @@ use Rattle.nearest.specs.Nearest.{noneYet, closerOf, rowFound}
 use Rattle.clpi_answers.specs.declared.ClpiAnswer.{ClpiAnswer}
 use Rattle.clpi_answers.specs.Numbers.{foundNumbers}
 use Rattle.ep_entry_steps.specs.declared.EpEntry.{EpEntry}
-use Rattle.ep_entry_steps.specs.Records.{noEntry, rowOf, rowsOf}
+use Rattle.ep_entry_steps.specs.Records.{noEntry, asRow, asRows}
 use Rattle.ep_entry_steps.specs.Lookups.{lookUp, rowOrPacket}
 use Rattle.ep_entry_steps.proofs.Laws.{Looked, look-first, look-turn, look-done}
 use Rattle.ep_entry_steps.proofs.EpEntry as T
@@ -121,12 +121,12 @@ module _ {M : Type 1} (𝓤 : URA M) (H : Heap 𝓤) (A : Atoms 𝓤) (mem : Mem
   start-said : (r : Nearest) → ent 𝓤 (ensured 𝓤 H A start.ended (start.clauses 𝓤 H A mem run) tt tt tt r) (fact 𝓤 (r ≡ noneYet))
   start-said r = exE 𝓤 _ (λ ws. snd∗ 𝓤 (sem 𝓤 H A (lasts start.ended tt tt ws)) (fact 𝓤 (r ≡ noneYet)))
 
-  step-said : (d : Nearest) (k : ℕ) (e : EpEntry) (side : Bool) (t : ℕ) (r : Nearest) → ent 𝓤 (ensured 𝓤 H A step.ended (step.clauses 𝓤 H A mem run) tt (d, (k, (e, (side, (t, tt))))) tt r) (fact 𝓤 (r ≡ closerOf side t d k (time (rowOf e))))
-  step-said d k e side t r = exE 𝓤 _ (λ ws. snd∗ 𝓤 (sem 𝓤 H A (lasts step.ended tt (d, (k, (e, (side, (t, tt))))) ws)) (fact 𝓤 (r ≡ closerOf side t d k (time (rowOf e)))))
+  step-said : (d : Nearest) (k : ℕ) (e : EpEntry) (side : Bool) (t : ℕ) (r : Nearest) → ent 𝓤 (ensured 𝓤 H A step.ended (step.clauses 𝓤 H A mem run) tt (d, (k, (e, (side, (t, tt))))) tt r) (fact 𝓤 (r ≡ closerOf side t d k (time (asRow e))))
+  step-said d k e side t r = exE 𝓤 _ (λ ws. snd∗ 𝓤 (sem 𝓤 H A (lasts step.ended tt (d, (k, (e, (side, (t, tt))))) ws)) (fact 𝓤 (r ≡ closerOf side t d k (time (asRow e)))))
 
   answer-said : (d : Nearest) (k : ℕ) (e : EpEntry) (side isPacket : Bool) (r : ClpiAnswer)
-      → ent 𝓤 (ensured 𝓤 H A answer.ended (answer.clauses 𝓤 H A mem run) tt (d, (k, (e, (side, (isPacket, tt))))) tt r) (fact 𝓤 (foundNumbers r ≡ answerNumbers (rowOrPacket isPacket (rowOf e) (rowFound side k d))))
-  answer-said d k e side isPacket r = exE 𝓤 _ (λ ws. snd∗ 𝓤 (sem 𝓤 H A (lasts answer.ended tt (d, (k, (e, (side, (isPacket, tt))))) ws)) (fact 𝓤 (foundNumbers r ≡ answerNumbers (rowOrPacket isPacket (rowOf e) (rowFound side k d)))))
+      → ent 𝓤 (ensured 𝓤 H A answer.ended (answer.clauses 𝓤 H A mem run) tt (d, (k, (e, (side, (isPacket, tt))))) tt r) (fact 𝓤 (foundNumbers r ≡ answerNumbers (rowOrPacket isPacket (asRow e) (rowFound side k d))))
+  answer-said d k e side isPacket r = exE 𝓤 _ (λ ws. snd∗ 𝓤 (sem 𝓤 H A (lasts answer.ended tt (d, (k, (e, (side, (isPacket, tt))))) ws)) (fact 𝓤 (foundNumbers r ≡ answerNumbers (rowOrPacket isPacket (asRow e) (rowFound side k d)))))
 
 -- what each call asks, made anew: its arguments are plain data
 module _ {M : Type 1} (𝓤 : URA M) (H : Heap 𝓤) (A : Atoms 𝓤) (W : Given 𝓤 H A) (mem : Memory → SProp 𝓤) (run : Routine → Fun 𝓤) where
@@ -170,7 +170,7 @@ module _ {M : Type 1} (𝓤 : URA M) (H : Heap 𝓤) (A : Atoms 𝓤) (W : Given
   abbrev Post : Val → SProp 𝓤
   Post = walkOf 𝓤 H A here.ended stayed (here.clauses 𝓤 H A mem run) .post (((κ, tt), (q, tt), tt, x, at), tt)
 
-  exits : t < 2 ^ 32 → (r : ClpiAnswer) (v : Val) → foundNumbers r ≡ answerNumbers (lookUp side isPacket (rowsOf ys) t)
+  exits : t < 2 ^ 32 → (r : ClpiAnswer) (v : Val) → foundNumbers r ≡ answerNumbers (lookUp side isPacket (asRows ys) t)
       → ent 𝓤 (⋆ 𝓤 H A (‵ (flft κ q) ∷ ‵ (Rows 𝓤 H A W mem run κ q s) ∷ ‵ (FR .own r (v ∷ [])) ∷ [])) (Post v)
   exits gt r v e =
       qed W (‵ (flft κ q) ∷ ‵ (Rows 𝓤 H A W mem run κ q s) ∷ ‵ (FR .own r (v ∷ [])) ∷ []) ∵
@@ -245,7 +245,7 @@ module _ {M : Type 1} (𝓤 : URA M) (H : Heap 𝓤) (A : Atoms 𝓤) (W : Given
           land ! (from ! (stop !)) (init ! 7 refl (LL.lawful T.the-type T′.the-laws 𝓤 H A W .typed e _ ise .0)) $ drop ! $
           nothing ! $ use1 W (raw (Step 𝓤 H A mem run .pre (to-step 𝓤 H A W mem run d v k e u side t))) (goes-step 𝓤 H A W mem run d v k e u side t is fk ise gt) $
           calls-known ! fm (Step 𝓤 H A mem run) known-step (to-step 𝓤 H A W mem run d v k e u side t) NR (‵ ftrue) (λ r. ensured 𝓤 H A step.ended (step.clauses 𝓤 H A mem run) tt (d, (k, (e, (side, (t, tt))))) tt r)
-          (λ r. r ≡ closerOf side t d k (time (rowOf e))) (λ w. id⊢ 𝓤 _) (step-said 𝓤 H A mem run d k e side t)
+          (λ r. r ≡ closerOf side t d k (time (asRow e))) (λ w. id⊢ 𝓤 _) (step-said 𝓤 H A mem run d k e side t)
           (and-then ! (load ! (from ! (stop !)) (look ! 4 refl)) (and-then ! (load ! (from ! (stop !)) (look ! 3 refl)) (and-then ! (load ! (from ! (stop !)) (look ! 7 refl)) (and-then ! (load ! (from ! (stop !)) (look ! 10 refl)) (and-then ! (load ! (from ! (stop !)) (look ! 12 refl)) (no-more !)))))) (λ r w chose is′.
           -- [what r owns; true; alive; what the row owns; _6; _5; _7; _8; _9; _10; _1; _2; _3; _4; _0; …]
           land ! (from ! (stop !)) (store ! 5 refl (LL.lawful N.the-type N′.the-laws 𝓤 H A W .typed r _ is′ .0)) $
@@ -274,7 +274,7 @@ module _ {M : Type 1} (𝓤 : URA M) (H : Heap 𝓤) (A : Atoms 𝓤) (W : Given
           rewrite ! 3 (λ (z : Val). ‵ (fat fullShare N′.mir l₅ 0 z)) (sym (ap only (LL.tells N.the-type N′.the-laws d (v ∷ []) is))) refl $
           nothing ! $ use1 W (raw (Answered 𝓤 H A mem run .pre (to-answer 𝓤 H A W mem run d v k e u side isPacket))) (goes-answer 𝓤 H A W mem run d v k e u side isPacket is fk ise) $
           calls-known ! fm (Answered 𝓤 H A mem run) known-answer (to-answer 𝓤 H A W mem run d v k e u side isPacket) FR (‵ ftrue) (λ r. ensured 𝓤 H A answer.ended (answer.clauses 𝓤 H A mem run) tt (d, (k, (e, (side, (isPacket, tt))))) tt r)
-          (λ r. foundNumbers r ≡ answerNumbers (rowOrPacket isPacket (rowOf e) (rowFound side k d))) (λ w. id⊢ 𝓤 _) (answer-said 𝓤 H A mem run d k e side isPacket)
+          (λ r. foundNumbers r ≡ answerNumbers (rowOrPacket isPacket (asRow e) (rowFound side k d))) (λ w. id⊢ 𝓤 _) (answer-said 𝓤 H A mem run d k e side isPacket)
           (and-then ! (load ! (from ! (stop !)) (look ! 4 refl)) (and-then ! (load ! (from ! (stop !)) (look ! 3 refl)) (and-then ! (load ! (from ! (stop !)) (look ! 8 refl)) (and-then ! (load ! (from ! (stop !)) (look ! 10 refl)) (and-then ! (load ! (from ! (stop !)) (look ! 11 refl)) (no-more !)))))) (λ r w told is′.
           -- [what r owns; true; alive; what the row owns; _6; _5; _7; _8; _9; _10; _1; _2; _3; _4; _0; and that each local dies]
           land ! (from ! (stop !)) (init ! 14 refl (LL.lawful F.the-type F′.the-laws 𝓤 H A W .typed r _ is′ .0)) $

@@ -2,7 +2,7 @@
 use mathlib.Core.Path.{ap, _∙_}
 use borrow.Author.Needs.{needs}
 use Rattle.format.specs.Questions.{Answer, answerNumbers}
-use Rattle.ep_entry_steps.specs.Records.{rowOf}
+use Rattle.ep_entry_steps.specs.Records.{asRow}
 use Rattle.ep_entry_steps.specs.Lookups.{rowOrPacket}
 use Rattle.ep_entry_steps.proofs.answer.Statement.{statement}
 use Rattle.ep_entry_steps.proofs.answer.Tie as tie
@@ -20,7 +20,7 @@ returns : tie.Need-returns
 returns c =
     let a = c .before .before .before .args in
     c .answer-of .ensures
-    ∙ ap (λ (x : Answer). answerNumbers x) (c .before .row-or-packet .ensures ∙ ap (rowOrPacket (a .is-packet) (rowOf (a .entry))) (c .before .before .found-row .ensures))
+    ∙ ap (λ (x : Answer). answerNumbers x) (c .before .row-or-packet .ensures ∙ ap (rowOrPacket (a .is-packet) (asRow (a .entry))) (c .before .before .found-row .ensures))
 
 pub answer-spec : {M : Type 1} → statement M
 answer-spec =
