@@ -79,21 +79,31 @@ fn of_maps(question: Question, cpi: &Cpi) -> Option<Answer> {
     let row_of_map = |found: Option<&EpMap>| Some(row_of(cpi.ep_map.iter(), found));
     let time = |time: Option<u32>| Some(Answer::of_option(time.map(u64::from)));
     match question {
-        EntryAtOrBefore(row, at) => in_map(map(row)?, |map| map.entry_point_at_or_before(at)),
-        EntryAfter(row, at) => in_map(map(row)?, |map| map.entry_point_after(at)),
-        SeekSpn(row, at) => packet_in(map(row), |map| map.seek_spn(at)),
-        NextSeekSpn(row, at) => packet_in(map(row), |map| map.next_seek_spn(at)),
+        EntryAtOrBefore(row, _) | EntryAfter(row, _) | SeekSpn(row, _) | NextSeekSpn(row, _) | IndexedSpan(row) => {
+            of_map(question, map(row)?)
+        }
         PrimarySeekSpn(at) => packet_in_primary(cpi, cpi.seek_spn(at)),
         PrimaryNextSeekSpn(at) => {
             packet_in_primary(cpi, cpi.primary_video_ep_map().and_then(|map| map.next_seek_spn(at)))
         }
         FirstPts(row) => time(map(row)?.first_pts()),
         LastPts(row) => time(map(row)?.last_pts()),
-        IndexedSpan(row) => Some(Answer::of(map(row)?.indexed_span_90k().into())),
         EntriesOfMap(row) => own_rows(cpi.ep_map.iter().map(|map| map.entry_point_count()), row),
         PrimaryMap => row_of_map(cpi.primary_video_ep_map()),
         MapByKind(kind) => row_of_map(cpi.ep_map_by_kind(EpStreamType::from_raw(kind))),
         NextVideoMap(from) => Some(next_of(cpi.ep_map.iter(), cpi.video_ep_maps(), from)),
+        _ => None,
+    }
+}
+
+/// The answer about the entries of one map, whatever its row.
+pub fn of_map(question: Question, map: &EpMap) -> Option<Answer> {
+    match question {
+        EntryAtOrBefore(_, at) => in_map(map, |map| map.entry_point_at_or_before(at)),
+        EntryAfter(_, at) => in_map(map, |map| map.entry_point_after(at)),
+        SeekSpn(_, at) => packet_in(map, |map| map.seek_spn(at)),
+        NextSeekSpn(_, at) => packet_in(map, |map| map.next_seek_spn(at)),
+        IndexedSpan(_) => Some(Answer::of(map.indexed_span_90k().into())),
         _ => None,
     }
 }
@@ -115,8 +125,8 @@ fn in_map<'a>(map: &'a EpMap, found: impl Fn(&'a EpMap) -> Option<&'a EpEntry>) 
 }
 
 /// The packet that the Rust finds in a map, on the same terms.
-fn packet_in(map: Option<&EpMap>, found: impl Fn(&EpMap) -> Option<u32>) -> Option<Answer> {
-    map.filter(|map| ascends(map)).map(|map| Answer::of_option(found(map).map(u64::from)))
+fn packet_in(map: &EpMap, found: impl Fn(&EpMap) -> Option<u32>) -> Option<Answer> {
+    ascends(map).then(|| Answer::of_option(found(map).map(u64::from)))
 }
 
 /// The packet that the Rust finds in its primary map, on the same terms; without maps none.

@@ -144,6 +144,34 @@ use WrongAnswer::*;
 /// The wrong rules that no file can show: its cells are never wide enough.
 pub const NOT_BY_FILES: &[WrongAnswer] = &[TypeNotMasked, PidOf16Bits, CodingOf8Bits, OffsetOf8Bits, IdsOf16Bits];
 
+/// The wrong rules that an answerer about a row of records can have too: those of lookups by time, of packets and spans.
+pub const OF_RECORDS: &[WrongAnswer] = &[
+    LatestOfEquals,
+    LatestOfEqualsAfter,
+    BeforeOnly,
+    AfterIncludesEqual,
+    AllLaterNone,
+    AllLaterLeast,
+    SearchedByHalves,
+    FirstAfter,
+    SignedTimes,
+    EmptyMapRowZero,
+    EmptyMapPacketZero,
+    RowForPacket,
+    TimeForPacket,
+    ByteForPacket,
+    SpanGreatestLessLeast,
+    SpanWraps,
+    EmptySpanNone,
+    NothingLookedAt,
+    ValueBesideNone,
+];
+
+/// Whether a question is asked of a row of records.
+pub fn of_records(question: Question) -> bool {
+    ROWS_BY_TIME(question) || MAP_SPAN(question) || matches!(question, SeekSpn(..) | NextSeekSpn(..))
+}
+
 /// The questions that a rule is a rule of.
 type Of = fn(Question) -> bool;
 

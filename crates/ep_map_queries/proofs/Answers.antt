@@ -18,7 +18,7 @@ use Rattle.queries.specs.Asked.{mapsAndEntries}
 use Rattle.table_rows.specs.OwnRows.{refusal, owns}
 use Rattle.table_rows.proofs.OwnRows.{own-rows, behindTests, tests-fail, tests-pass}
 use Rattle.ep_map_queries.specs.InMap.{entriesOf, entriesAt, findIn, seekIn, endIn, findQuestion, seekQuestion, endQuestion}
-use Rattle.ep_map_queries.specs.Nearest.{far, bestAt, Says}
+use Rattle.ep_map_queries.proofs.Nearest.{times-length}
 
 -- ---- the refusals
 
@@ -66,56 +66,13 @@ module _ (maps entries : Table) (m : ℕ) where
   unfolding answer clipIn
   span-asks = record { two = refl; asks = refl }
 
--- ---- the nearest entry as an answer
-
-row-or : {side : Bool} {at row d : ℕ} {b : Best} → Says side at b row d → number row ≡ rowOr (number 0) b
-row-or Says.none = refl
-row-or (Says.some k x d xb e near) = refl
-
-none-or : {side : Bool} {at row d : ℕ} {b : Best} → Says side at b row d → d ≡ far → none ≡ rowOr none b
-none-or Says.none h = refl
-none-or (Says.some k x d xb e near) h = absurd (omega arith)
-
-some-or : {side : Bool} {at row d : ℕ} {b : Best} → Says side at b row d → (d ≡ far → ⊥) → number row ≡ rowOr none b
-some-or Says.none h = absurd (h refl)
-some-or (Says.some k x d xb e near) h = refl
+-- ---- the packet of the entry that is found
 
 module _ (t : List ℕ) (first count at : ℕ) where
-  -- an empty map has none
-  pub empty-map : (side : Bool) → count ≡ 0 → none ≡ findIn side (entriesAt t first count) at
-  unfolding atOrBefore after
-  empty-map true e = rw e
-  empty-map false e = rw e
-
-  -- in any other there is a row at or before
-  pub before-is : (side : Bool) {row d : ℕ} → side ≡ false → (count ≡ 0 → ⊥) → Says side at (bestAt t first count side at) row d → number row ≡ findIn side (entriesAt t first count) at
-  unfolding atOrBefore
-  before-is true e some s = let z : _≡_ {A = ℕ} 0 1 = cc in absurd (omega arith)
-  before-is false o some s =
-      let e : count ≡ suc (count - 1) = omega arith in
-      rw e (rw e at (row-or s))
-
-  -- none is above, or the nearest is
-  pub after-none : (side : Bool) {row d : ℕ} → side ≡ true → Says side at (bestAt t first count side at) row d → d ≡ far → none ≡ findIn side (entriesAt t first count) at
-  unfolding after
-  after-none true o s h = none-or s h
-  after-none false e s h = let z : _≡_ {A = ℕ} 0 1 = cc in absurd (omega arith)
-
-  pub after-some : (side : Bool) {row d : ℕ} → side ≡ true → Says side at (bestAt t first count side at) row d → (d ≡ far → ⊥) → number row ≡ findIn side (entriesAt t first count) at
-  unfolding after
-  after-some true o s h = some-or s h
-  after-some false e s h = let z : _≡_ {A = ℕ} 0 1 = cc in absurd (omega arith)
-
-  -- ---- its packet
-
-  -- there are as many times as entries
-  times : length (map time (entriesAt t first count)) ≡ count
-  times = length-map (entriesAt t first count) time ∙ rows-length (cellsAt t entryCells) (λ p. p + 4 * entryCells) (4 * entryCells * first) count
-
   -- the row that is found is one of them
   pub found-below : (side : Bool) (k : ℕ) → number k ≡ findIn side (entriesAt t first count) at → k < count
-  found-below true k h = rw times at (after-row (map time (entriesAt t first count)) at k (sym h))
-  found-below false k h = rw times at (before-row (map time (entriesAt t first count)) at k (sym h))
+  found-below true k h = rw (times-length t first count) at (after-row (map time (entriesAt t first count)) at k (sym h))
+  found-below false k h = rw (times-length t first count) at (before-row (map time (entriesAt t first count)) at k (sym h))
 
   pub packet-is : (k : ℕ) {v : ℕ} → k < count → CellIs t (20 * (first + k) + 12) v → number v ≡ ofRow packet (entriesAt t first count) (number k)
   packet-is k h c =

@@ -3,8 +3,9 @@ use Prim.Native.Nat.{ℕ}
 use mathlib.Core.List.{List, map}
 use mathlib.Core.Bool.{Bool, true, false}
 use Rattle.format.specs.ClipRecord.{Row, time, packet}
-use Rattle.format.specs.Questions.{Question, entryPointAtOrBefore, entryPointAfter, seekSpn, nextSeekSpn, primarySeekSpn, primaryNextSeekSpn, firstPts, lastPts, Answer, atOrBefore, after, ofRow, firstTime, lastTime}
+use Rattle.format.specs.Questions.{Question, entryPointAtOrBefore, entryPointAfter, seekSpn, nextSeekSpn, primarySeekSpn, primaryNextSeekSpn, firstPts, lastPts, Answer, ofRow, firstTime, lastTime}
 use Rattle.format.specs.Tables.{Table, entryCells}
+use Rattle.nearest.specs.Nearest.{rowIn}
 use Rattle.table_rows.specs.OwnRows.{Owned, ownedRows, rowsFrom}
 
 -- the entries of a map, whose count stands in cell 2
@@ -17,8 +18,7 @@ entriesAt t first count = rowsFrom entryCells t first count
 
 -- the entry after a time, or at or before it
 abbrev pub findIn : Bool → List Row → ℕ → Answer
-findIn true es at = after (map time es) at
-findIn false es at = atOrBefore (map time es) at
+findIn side es at = rowIn side (map time es) at
 
 -- its packet
 abbrev pub seekIn : Bool → List Row → ℕ → Answer

@@ -1,7 +1,7 @@
 -- The test decides.
 use borrow.Author.Tests.{lt-ltb, le-ltb}
-use Rattle.ep_map_queries.proofs.entries.closer.Statement.{statement}
-use Rattle.ep_map_queries.proofs.entries.closer.Tie as tie
+use Rattle.nearest.proofs.closer.Statement.{statement}
+use Rattle.nearest.proofs.closer.Tie as tie
 
 returns : tie.Need-returns
 returns c = let a = c .before .before .args in rw (lt-ltb (a .d) (a .so-far .distance) (c .if1 .taken))

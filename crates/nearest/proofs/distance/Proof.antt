@@ -1,8 +1,8 @@
 -- Each side and each test has its distance.
-use Rattle.ep_map_queries.proofs.Nearest.{after-it, not-after, before-it, not-before}
+use Rattle.nearest.proofs.Steps.{after-it, not-after, before-it, not-before}
 use borrow.Author.Needs.{needs}
-use Rattle.ep_map_queries.proofs.entries.distance.Statement.{statement}
-use Rattle.ep_map_queries.proofs.entries.distance.Tie as tie
+use Rattle.nearest.proofs.distance.Statement.{statement}
+use Rattle.nearest.proofs.distance.Tie as tie
 
 sub-result : tie.Need-sub-result
 sub-result c = search needs
