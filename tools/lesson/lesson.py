@@ -6,10 +6,12 @@ import subprocess
 import sys
 import tempfile
 
+import errors
 import layout
 import page
 import sample
-from reading import OneBehindTheOther, Reading
+from blocks import unpacked
+from reading import MINUTE, OneBehindTheOther, Reading
 
 ROOT = pathlib.Path(__file__).resolve().parents[2]
 
@@ -47,34 +49,56 @@ def outputs():
         printed = clip("list", file)
         if printed != r.listing():
             yield f"clip list {file.name}: {printed!r}, and by the page {r.listing()!r}"
-        for at in page.TIMES:
+        for at, _ in page.times(r):
             printed = clip("minutes", file, at)
             if printed != f"{r.minutes(at)}\n":
                 yield f"clip minutes {file.name} {at}: {printed!r}, and by the page {r.minutes(at)}"
 
 
-def rewritings():
-    """New files of another length, equal where they should differ, or with another language than the page says."""
+def rewritten(data):
+    """What rewriting makes of a file with these bytes; nothing where it fails."""
     with tempfile.TemporaryDirectory() as folder:
-        new = {}
-        for name, data in sample.files().items():
-            said = clip("rewrite", ROOT / "samples" / f"{name}.clpi", f"{folder}/{name}")
-            new[name] = pathlib.Path(folder, name).read_bytes() if pathlib.Path(folder, name).exists() else b""
-            if len(new[name]) != page.rewritten_bytes(Reading(data)) or b"eng" not in new[name] or b"ENG" in new[name]:
-                yield f"clip rewrite {name}.clpi: another new file than the page tells of: {said}"
-    if new["lecture"] != new["lecture_backwards"] or new["lecture"] == new["lecture_overlapping"]:
+        old, new = pathlib.Path(folder, "old"), pathlib.Path(folder, "new")
+        old.write_bytes(data)
+        clip("rewrite", old, new)
+        return new.read_bytes() if new.exists() else b""
+
+
+def rewritings():
+    """New files of another length or language than the page says, equal where it says different, or the other way."""
+    files = sample.files()
+    new = {name: rewritten(data) for name, data in files.items()}
+    for name, data in new.items():
+        if len(data) != page.rewritten_bytes(Reading(files[name])) or b"eng" not in data or b"ENG" in data:
+            yield f"clip rewrite {name}.clpi: another new file than the page tells of"
+    same = [data == new["lecture"] for data in new.values()]
+    same += [rewritten(errors.changed(files["lecture"], *errors.CHANGES[k][:2])) == new["lecture"] for k in (4, 6, 7)]
+    if same != [True, True, False, True, True, False]:
         yield "the new files are not equal and different as the page says"
 
 
-def errors():
-    """Errors that give the right number."""
+def changes():
+    """Programs that print something else than the page tells of a changed file."""
+    for at, byte, asked in errors.CHANGES:
+        data = errors.changed(sample.files()[errors.PLAIN], at, byte)
+        r = Reading(data)
+        with tempfile.NamedTemporaryFile() as file:
+            file.write(data)
+            file.flush()
+            if clip("list", file.name) != r.listing() or clip("minutes", file.name, 0) != f"{r.minutes(0)}\n":
+                yield f"byte {at} changed to {byte}: ./clip prints something else than the page has"
+
+
+def wrong_numbers():
+    """Errors that give the right number, and files that are not as alike as the page says."""
     files = sample.files()
-    for words, name, what, right, wrong, _ in page.error_rows(files):
+    for _, words, name, what, right, wrong, _ in errors.error_rows(files):
         if right == wrong:
             yield f"an error that does not show: {words}, {name}, {what}: {right}"
-    if OneBehindTheOther(files["lecture"]).listing() != Reading(files["lecture"]).listing():
+    plain = Reading(files["lecture"]).listing()
+    if OneBehindTheOther(files["lecture"]).listing() != plain:
         yield "sections one behind the other: wrong on the plain file too"
-    if Reading(files["lecture_backwards"]).listing() != Reading(files["lecture"]).listing():
+    if Reading(files["lecture_backwards"]).listing() != plain:
         yield "the backwards file has another listing"
 
 
@@ -91,6 +115,27 @@ def is_definition(file, name):
 def is_function(path):
     crate, *module, name = path.split("::")
     return re.search(rf"\bfn {name}\(", source(crate, *module))
+
+
+CONSTANTS = [
+    ("Ticks", "doubled", "2 * t .ticks"), ("Ticks", "minutes", f"t .ticks / {MINUTE}"), ("EntryPoints", "bodyAt", "c + 6 +"),
+    ("EntryPoints", "joinTime", "coarse * 524288 % 2 ^ 32"), ("EntryPoints", "joinTime", "fine * 512"),
+    ("EntryPoints", "joinPacket", "coarse / 2 ^ 17 * 2 ^ 17 + fine"), ("Questions", "packetBytes", "4 + 188"),
+]
+FIELDS = [("headerWidths", (None, "type", "coarse_count", "fine_count")), ("coarseWidths", ("first", "time", "packet")), ("fineWidths", ("angle", "i_end", "time", "packet"))]
+
+
+def rules():
+    """Rules that the definitions state in another way than the page."""
+    for file, name, words in CONSTANTS:
+        if words not in " ".join(page.definition(ROOT, file, name)):
+            yield f"{file}: {name} no longer has '{words}'"
+    for m in Reading(sample.files()["lecture"]).maps:
+        for (name, fields), rows in zip(FIELDS, ([m], m["coarse"], m["fine"])):
+            for row in rows:
+                values = unpacked(row["word"], page.widths(ROOT, name))
+                if any(field and row[field] != value for field, value in zip(fields, values)):
+                    yield f"EntryPoints: {name} takes a row apart in another way than the page"
 
 
 def names():
@@ -116,7 +161,8 @@ def names():
             yield f"no file {path}"
 
 
-ALLOWED = r"(45|90) kHz|\bu(8|16|32)\b|^#+ \d+\. |\btable 2\b|\{\{.+?\}\}|[A-Za-z]\w*\d|-t x1|minutes samples/lecture.clpi 0$"
+# digits that are words: clocks, widths, names, a list's own numbers, the time 0 of a command
+ALLOWED = r"(45|90) kHz|\bu(8|16|32)\b|^(#+ )?\d+\. |\btable 2\b|\{\{.+?\}\}|[A-Za-z]\w*\d|-t x1|\.clpi 0$"
 
 
 def numbers():
@@ -126,7 +172,7 @@ def numbers():
             yield f"tools/lesson/page.md has a number that is not computed: {line}"
 
 
-CHECKS = (differences, outputs, rewritings, errors, names, numbers)
+CHECKS = (differences, outputs, rewritings, changes, wrong_numbers, rules, names, numbers)
 
 
 def main(arguments):
@@ -141,7 +187,7 @@ def main(arguments):
     for words in wrong:
         print(f"docs/check: {words}", file=sys.stderr)
     if not wrong:
-        print(f"docs/MINUTES.md: {len(made())} files as they are made, and {len(sample.files()) * (len(page.TIMES) + 2)} runs of ./clip as the page has them")
+        print(f"docs/MINUTES.md: {len(made())} files are as they are made, and ./clip prints what the page shows")
     return 1 if wrong else 0
 
 

@@ -150,11 +150,15 @@ class Reading:
     def minutes(self, at):
         return self.left(at) // MINUTE
 
-    def seek(self, at):
-        """The packet of the first map's entry with the greatest time not above this one; of row 0 if all are later."""
+    def found(self, at):
+        """The first map's entry with the greatest time not above this one; the first of all if all are later."""
         entries = self.maps[0]["entries"]
         before = [e for e in entries if e["time"] <= at]
-        return max(before, key=lambda e: e["time"])["packet"] if before else entries[0]["packet"]
+        return max(before, key=lambda e: e["time"]) if before else entries[0]
+
+    def seek(self, at):
+        """The packet to read from."""
+        return self.found(at)["packet"]
 
     def listing(self):
         """What the listing program prints."""
