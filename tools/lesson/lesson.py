@@ -43,13 +43,14 @@ def clip(*arguments):
 
 def outputs():
     """Programs that print something else than the page shows, on the files that are in the repository."""
+    times = page.times(Reading(sample.files()["lecture"]))
     for name in sample.files():
         file = ROOT / "samples" / f"{name}.clpi"
         r = Reading(file.read_bytes())
         printed = clip("list", file)
         if printed != r.listing():
             yield f"clip list {file.name}: {printed!r}, and by the page {r.listing()!r}"
-        for at, _ in page.times(r):
+        for at, _ in times:
             printed = clip("minutes", file, at)
             if printed != f"{r.minutes(at)}\n":
                 yield f"clip minutes {file.name} {at}: {printed!r}, and by the page {r.minutes(at)}"
@@ -154,7 +155,7 @@ def names():
     for call in re.findall(r"`(?:struct )?(clpi_\w+)`", text):
         if not re.search(rf"\b{call}\b", header):
             yield f"no {call} in include/clpi.h"
-    for path in re.findall(r"`([\w.]+/[\w./]+)`", text):
+    for path in re.findall(r"`([\w.-]+/[\w./-]+)`", text):
         if "/must-fail/" in path:
             path = f"crates/{path}.edit"
         if not (ROOT / path).exists() and "CRATE" not in path:
