@@ -51,8 +51,8 @@ ERRORS = [
      [(OVERLAPPING, entries(0))]),
     ("fine rows started only at the first coarse reference", reading.FromFirstReference, None,
      [(PLAIN, entries(0)), (PLAIN, seek(FIRST))]),
-    ("or zeros taken for the coarse row before it", reading.ZerosBeforeFirstReference, "ep_entries/must-fail/fine_rows_from_first_reference",
-     [(PLAIN, entry(0))]),
+    ("or zeros taken for the coarse row before it", reading.ZerosBeforeFirstReference,
+     "ep_entries/must-fail/fine_rows_from_first_reference", [(PLAIN, entry(0))]),
     ("a zero sequence start rejected", reading.ZeroStartRejected, "clip_sections/must-fail/zero_start_refused",
      [(OVERLAPPING, minutes_at(0))]),
     ("the last STC's end taken for the latest", reading.LastRowsEnd, None,
@@ -67,7 +67,8 @@ def error_rows(files):
         number += not words.startswith("or ")
         for k, (name, asked) in enumerate(places):
             head = ("", "", "") if k else ("" if words.startswith("or ") else number, words, edit or "-")
-            yield head[0], head[1], name, asked[0], answer(Reading(files[name]), asked), answer(wrong(files[name]), asked), head[2]
+            right, given = answer(Reading(files[name]), asked), answer(wrong(files[name]), asked)
+            yield head[0], head[1], name, asked[0], right, given, head[2]
 
 
 def error_table(files):
@@ -76,36 +77,47 @@ def error_table(files):
     return table(["", "error", "file", "what is asked", "right", "wrong", "in the code"], rows)
 
 
-def why_values(files):
-    """The numbers with which the page explains the wrong ones."""
-    return {**why_minutes(Reading(files[PLAIN])), **why_entries(files[PLAIN]), **why_places(Reading(files[BACKWARDS]), Reading(files[OVERLAPPING]))}
+# ---- the numbers with which the page explains the wrong ones
 
 
 def why_minutes(r):
-    return {"why_undoubled": f"{r.latest_end():,} = {in_minutes(r.latest_end())}", "why_last": f"{2 * r.stcs[-1][-1]:,} = {in_minutes(2 * r.stcs[-1][-1])}"}
+    undoubled, last = r.latest_end(), 2 * r.stcs[-1][-1]
+    return {"why_undoubled": f"{undoubled:,} = {in_minutes(undoubled)}", "why_last": f"{last:,} = {in_minutes(last)}"}
 
 
-def why_entries(file):
-    right, added, early = Reading(file), reading.TimesAdded(file), reading.AddressFromCpiStart(file)
-    m, forty, fallback, fine = right.maps[0], right.found(FORTY), added.found(FORTY), early.maps[0]["fine"][5]
+def why_times(file):
+    """Of the times added, and of the coarse packets: what is asked for is minute 40."""
+    right, added = Reading(file), reading.TimesAdded(file)
+    m, forty, fallback = right.maps[0], right.found(FORTY), added.found(FORTY)
     late = added.maps[0]["entries"][forty["k"]]["time"] - forty["time"]
-    first = m["coarse"][forty["coarse"]]["first"]
+    named = m["coarse"][forty["coarse"]]["first"]
     return {
         "why_late": f"{late:,}", "why_late_seconds": f"{late / 90000:.1f}",
         "why_fallback": fallback["k"], "why_fallback_clock": clock(m["entries"][fallback["k"]]["time"]),
         "why_even": listed(e["k"] for e in m["entries"] if m["coarse"][e["coarse"]]["time"] % 2 == 0),
-        "why_named": listed(c["first"] for c in m["coarse"]), "why_coarse": forty["coarse"], "why_coarse_first": first, "why_early_packets": f"{forty['packet'] - m['entries'][first]['packet']:,}",
-        "why_body": early.maps[0]["body"], "why_body_fine": early.maps[0]["fine_address"],
-        "why_fine_at": fine["at"], "why_fine_bytes": hexed(file[fine["at"]:fine["at"] + 4]), "why_fine_time": fine["time"], "why_fine_product": f"{fine['time'] * 512:,}",
+        "why_coarse": forty["coarse"], "why_coarse_first": named, "why_named": listed(c["first"] for c in m["coarse"]),
+        "why_early_packets": f"{forty['packet'] - m['entries'][named]['packet']:,}",
+    }
+
+
+def why_address(file):
+    m = reading.AddressFromCpiStart(file).maps[0]
+    fine = m["fine"][5]
+    return {
+        "why_body": m["body"], "why_body_fine": m["fine_address"], "why_fine_at": fine["at"], "why_fine_bytes": hexed(fine["bytes"]),
+        "why_fine_time": fine["time"], "why_fine_product": f"{fine['time'] * 512:,}",
     }
 
 
 def why_places(backwards, over):
+    """Of the sections taken to stand one behind the other, and of the rows of a second map."""
     start = reading.OneBehindTheOther(backwards.file).starts()[0]
     m = over.maps[0]
     return {
-        "why_start": start, "why_atcs": backwards.number(start + 5, 1, 4), "why_stcs_at": start + 10, "why_stcs": backwards.number(start + 10, 1, 4),
-        "why_length_at": start + 4 + over.number(start, 4, 4), "why_shared_body": m["body"], "why_behind": m["fine_at"] + 4 * m["fine_count"],
+        "why_start": start, "why_atcs": backwards.number(start + 5, 1, 4),
+        "why_stcs_at": start + 10, "why_stcs": backwards.number(start + 10, 1, 4),
+        "why_length_at": start + 4 + over.number(start, 4, 4), "why_shared_body": m["body"],
+        "why_behind": m["fine_at"] + 4 * m["fine_count"],
     }
 
 
@@ -128,5 +140,20 @@ def change_table(files):
 
 
 def change_answers(files):
-    rows = [(at, f"`{byte:02X}`", asked[0], answer(Reading(changed(files[PLAIN], at, byte)), asked)) for at, byte, asked in CHANGES]
+    rows = []
+    for at, byte, asked in CHANGES:
+        rows.append((at, f"`{byte:02X}`", asked[0], answer(Reading(changed(files[PLAIN], at, byte)), asked)))
     return table(["offset", "to", "what is asked", "after"], rows)
+
+
+# ---- the whole
+
+
+def values(files):
+    at, byte, _ = CHANGES[0]
+    return {
+        "error_table": error_table(files), "change_table": change_table(files), "change_answers": change_answers(files),
+        "change_example": f"printf '\\x{byte:02x}' | dd of=copy.clpi bs=1 seek={at} conv=notrunc",
+        **why_minutes(Reading(files[PLAIN])), **why_times(files[PLAIN]), **why_address(files[PLAIN]),
+        **why_places(Reading(files[BACKWARDS]), Reading(files[OVERLAPPING])),
+    }

@@ -97,7 +97,8 @@ def cpi_parts(r):
     start = r.starts()[2]
     yield "cpi", start, 8, ["CPI: " + counted(len(r.maps), "map"), f"length {r.number(start, 4, 6)}"]
     for k, m in enumerate(r.maps):
-        yield "cpi", m["at"], 12, [f"header of map {k}", f"{m['coarse_count']} coarse, {counted(m['fine_count'], 'fine row')}", f"address {m['address']}"]
+        counts = f"{m['coarse_count']} coarse, {counted(m['fine_count'], 'fine row')}"
+        yield "cpi", m["at"], 12, [f"header of map {k}", counts, f"address {m['address']}"]
     m = r.maps[0]
     behind = start + 8 + 12 * len(r.maps)
     yield "gap", behind, m["body"] - behind, ["gap"]
@@ -195,9 +196,9 @@ def cpi_end(r, x):
     """A line at the CPI end, with words where no arrow runs: right of it where rows pass it, else left."""
     start = r.starts()[2]
     end = start + 4 + r.number(start, 4, 6)
-    place = x + BAR + 9 if r.maps[0]["fine"][-1]["at"] >= end else x - 50
-    return [f'<line x1="{x - 6}" y1="{y_of(end):g}" x2="{x + BAR + 6}" y2="{y_of(end):g}" stroke="{RED}" stroke-width="1.6" stroke-dasharray="5 3"/>',
-            text(place, y_of(end) + 3.5, "CPI end", 10, RED)]
+    place, y = x + BAR + 9 if r.maps[0]["fine"][-1]["at"] >= end else x - 50, y_of(end)
+    line = f'<line x1="{x - 6}" y1="{y:g}" x2="{x + BAR + 6}" y2="{y:g}" stroke="{RED}" stroke-width="1.6" stroke-dasharray="5 3"/>'
+    return [line, text(place, y + 3.5, "CPI end", 10, RED)]
 
 
 # ---- the whole
@@ -223,7 +224,8 @@ def head(colour):
 
 def picture(readings):
     """The three files side by side: the plain one, the backwards one, the overlapping one."""
-    shapes = [f'<svg xmlns="http://www.w3.org/2000/svg" viewBox="0 0 {WIDTH} {HEIGHT}" width="{WIDTH}" height="{HEIGHT}" font-family="DejaVu Sans, Verdana, Arial, sans-serif">',
+    size = f'viewBox="0 0 {WIDTH} {HEIGHT}" width="{WIDTH}" height="{HEIGHT}"'
+    shapes = [f'<svg xmlns="http://www.w3.org/2000/svg" {size} font-family="DejaVu Sans, Arial, Helvetica, sans-serif">',
               "<title>The bytes of three clip files: sections, rows, and what points where</title>",
               "<defs>" + "".join(head(c) for c in sorted(set(LINE.values()))) + "</defs>",
               f'<rect width="{WIDTH}" height="{HEIGHT}" fill="#ffffff"/>']

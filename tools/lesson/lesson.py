@@ -123,7 +123,10 @@ CONSTANTS = [
     ("EntryPoints", "joinTime", "coarse * 524288 % 2 ^ 32"), ("EntryPoints", "joinTime", "fine * 512"),
     ("EntryPoints", "joinPacket", "coarse / 2 ^ 17 * 2 ^ 17 + fine"), ("Questions", "packetBytes", "4 + 188"),
 ]
-FIELDS = [("headerWidths", (None, "type", "coarse_count", "fine_count")), ("coarseWidths", ("first", "time", "packet")), ("fineWidths", ("angle", "i_end", "time", "packet"))]
+FIELDS = [
+    ("headerWidths", (None, "type", "coarse_count", "fine_count")), ("coarseWidths", ("first", "time", "packet")),
+    ("fineWidths", ("angle", "i_end", "time", "packet")),
+]
 
 
 def rules():
@@ -143,7 +146,7 @@ def names():
     """Names in the page that are nowhere in the repository."""
     text = page.page(sample.files(), ROOT)
     header = (ROOT / "include/clpi.h").read_text()
-    for part in re.findall(r"^\*Definition\* (.+?)(?:\*Code|\*Call|$)", text, re.M):
+    for part in re.findall(r"^\*Definition\* (.+?)(?:\*Code|\*Call|\*Printed|$)", text, re.M):
         file = None
         for name in re.findall(r"`([^`]+)`", part):
             file, name = name.split(": ") if ": " in name else (file, name)

@@ -74,7 +74,8 @@ class Reading:
             self.atcs.append((at, self.number(at, 4, 4), stcs, self.number(at + 5, 1, 4)))
             at += 6
             for _ in range(stcs):
-                self.stcs.append((at, *(self.number(at + place, width, 4) for place, width in ((0, 2), (2, 4), (6, 4), (10, 4)))))
+                fields = ((0, 2), (2, 4), (6, 4), (10, 4))
+                self.stcs.append((at, *(self.number(at + place, width, 4) for place, width in fields)))
                 at += 14
 
     def read_programs(self, start):
@@ -108,8 +109,8 @@ class Reading:
 
     def read_map(self, cpi, end, at):
         word = self.number(at + 2, 6, 6)
-        m = {"at": at, "pid": self.number(at, 2, 6), "word": word, "type": word >> 34 & 15, "coarse_count": word >> 18 & 0xFFFF,
-             "fine_count": word & 0x3FFFF, "address": self.number(at + 8, 4, 6)}
+        m = {"at": at, "pid": self.number(at, 2, 6), "word": word, "type": word >> 34 & 15,
+             "coarse_count": word >> 18 & 0xFFFF, "fine_count": word & 0x3FFFF, "address": self.number(at + 8, 4, 6)}
         m["body"] = self.body_at(cpi, m["address"])
         if m["body"] >= end:
             raise Refused(7)
@@ -118,17 +119,20 @@ class Reading:
         m["coarse"] = [self.coarse_row(m["body"] + 4 + 8 * k) for k in range(m["coarse_count"])]
         if m["fine_at"] > end:
             raise Refused(7)
-        m["fine"] = [self.fine_row(m["fine_at"] + 4 * k) for k in range(self.rows_within(m["fine_at"], m["fine_count"], end))]
-        m["entries"] = [self.entry(m["coarse"], k, m["fine"][k]) for k in range(self.first_row(m["coarse"]), len(m["fine"]))]
+        count = self.rows_within(m["fine_at"], m["fine_count"], end)
+        m["fine"] = [self.fine_row(m["fine_at"] + 4 * k) for k in range(count)]
+        m["entries"] = [self.entry(m["coarse"], k, m["fine"][k]) for k in range(self.first_row(m["coarse"]), count)]
         self.maps.append(m)
 
     def coarse_row(self, at):
         word = self.number(at, 8, 7)
-        return {"at": at, "word": word, "first": word >> 46, "time": word >> 32 & 0x3FFF, "packet": word & 0xFFFFFFFF}
+        return {"at": at, "bytes": self.file[at:at + 8], "word": word,
+                "first": word >> 46, "time": word >> 32 & 0x3FFF, "packet": word & 0xFFFFFFFF}
 
     def fine_row(self, at):
         word = self.number(at, 4, 7)
-        return {"at": at, "word": word, "angle": word >> 31, "i_end": word >> 28 & 7, "time": word >> 17 & 0x7FF, "packet": word & 0x1FFFF}
+        return {"at": at, "bytes": self.file[at:at + 4], "word": word,
+                "angle": word >> 31, "i_end": word >> 28 & 7, "time": word >> 17 & 0x7FF, "packet": word & 0x1FFFF}
 
     def entry(self, coarse, k, fine):
         """Fine row k joined with the coarse row reached from row 0; its time and packet."""
@@ -136,7 +140,8 @@ class Reading:
         while c + 1 < len(coarse) and coarse[c + 1]["first"] <= k:
             c += 1
         used = coarse[c] if coarse else {"time": 0, "packet": 0}
-        return {"k": k, "coarse": c, "time": self.join_time(used["time"], fine["time"]), "packet": self.join_packet(used["packet"], fine["packet"])}
+        time, packet = self.join_time(used["time"], fine["time"]), self.join_packet(used["packet"], fine["packet"])
+        return {"k": k, "coarse": c, "time": time, "packet": packet}
 
     # ---- what is asked
 
