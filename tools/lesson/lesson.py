@@ -165,8 +165,8 @@ def names():
             yield f"no file {path}"
 
 
-# digits that are words: clocks, widths, names, a list's own numbers, the time 0 of a command
-ALLOWED = r"(45|90) kHz|\bu(8|16|32)\b|^(#+ )?\d+\. |\btable 2\b|\{\{.+?\}\}|[A-Za-z]\w*\d|-t x1|\.clpi 0$"
+# digits that are words: clocks, names, a list's own numbers, the time 0 of a command
+ALLOWED = r"(45|90) kHz|^(#+ )?\d+\. |\btable 2\b|\{\{.+?\}\}|[A-Za-z]\w*\d|-t x1|\.clpi 0$"
 
 
 def numbers():
