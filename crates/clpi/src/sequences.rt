@@ -93,12 +93,5 @@ pub extern "C" fn clpi_stc_sequence_for_spn(
 ) -> ClpiAnswer
     ensures { λ r. ⌜ foundNumbers r ≡ answerNumbers (ask (stcSequenceForSpn atc spn) (atcsAndStcs (stated (now (atcs .entry)) «atc_rows») (stated (now (stcs .entry)) «stc_rows»))) ⌝ }
 {
-    answer_of(atc_queries::stc_sequence_for_spn(
-        atcs,
-        atc_rows,
-        stcs,
-        stc_rows,
-        atc,
-        spn,
-    ))
+    answer_of(atc_queries::stc_sequence_for_spn(atcs, atc_rows, stcs, stc_rows, atc, spn))
 }
