@@ -24,7 +24,7 @@ use Rattle.program_info.specs.Programs.{Fillable}
 use Rattle.cpi.specs.Maps as Maps
 use Rattle.clip_information.specs.Fill.{SectionsFit, ListFits, MarksThere}
 use Rattle.clip_sections.proofs.Laws.{both-pass}
-use Rattle.clip_sections.proofs.PrepareLaws.{accepted-bounds}
+use Rattle.clip_sections.proofs.Laws.{accepted-bounds}
 
 -- ---- the sections
 

@@ -2,7 +2,7 @@
 use Prim.Native.Nat.{ℕ, _≤_}
 use mathlib.Core.List.{List, [], _∷_}
 use lib.ListN.{replicate}
-use Rattle.clip_sections.specs.declared.tables.Rows.{Rows}
+use Rattle.nine_tables.specs.declared.Rows.{Rows}
 use Rattle.clip_information.specs.declared.read.Answer.{Answer}
 use Rattle.clpi_reading.specs.declared.ClpiReading.{ClpiReading}
 

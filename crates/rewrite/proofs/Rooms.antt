@@ -10,7 +10,7 @@ use Rattle.format.specs.EntryPoints.{mapsFrom, entriesFrom}
 use Rattle.format.specs.Reading.{clipOf}
 use Rattle.format.specs.Rewriting.{sequencesBytes, programsBytes, cpiBytes, cpiBytesBy}
 use Rattle.format.specs.Refusals.{refusalOf, runsFit}
-use Rattle.clip_sections.proofs.PrepareLaws.{accepted-bounds}
+use Rattle.clip_sections.proofs.Laws.{accepted-bounds}
 use Rattle.clip_information.proofs.FillLaws.{sound, maps-counted}
 use Rattle.rewrite_sections.specs.Sections.{newSequences, newPrograms, SequencesRoom, ProgramsRoom}
 use Rattle.rewrite_sections.proofs.Groups.{sequences-of, programs-of}

@@ -2,10 +2,10 @@
 use mathlib.Core.Path.{sym, _∙_}
 use native.Mathlib.Omega.{arith}
 use denote.Ref.{now}
-use Rattle.clip_sections.proofs.ListLaws.{list-none, list-inside, list-past, list-rows}
+use Rattle.clip_prepare.proofs.ListLaws.{list-none, list-inside, list-past, list-rows}
 use borrow.Author.Needs.{needs}
-use Rattle.clip_sections.proofs.list.measure_list.Statement.{statement}
-use Rattle.clip_sections.proofs.list.measure_list.Tie as tie
+use Rattle.clip_prepare.proofs.list.measure_list.Statement.{statement}
+use Rattle.clip_prepare.proofs.list.measure_list.Tie as tie
 
 enum-known-list : tie.Need-enum-known-list
 enum-known-list c = search needs

@@ -3,7 +3,7 @@ ghost use mathlib.Core.Path.{_≡_};
 ghost use Prim.Native.Nat.{_≤_};
 ghost use lib.ListN.{length};
 ghost use Rattle.extension.specs.Block.{foundIn, listEnd};
-ghost use Rattle.clip_sections.specs.Lists.{listRowsOf};
+ghost use Rattle.clip_prepare.specs.Lists.{listRowsOf};
 use extension::ListData;
 
 // The rows of the list, or that there is none.

@@ -3,7 +3,7 @@ use lib.ListN.{length}
 use Rattle.format.specs.Bytes.{pick}
 use Rattle.format.specs.Programs.{programsFrom, streamsFrom}
 use Rattle.format.specs.Extensions.{Found, nothing, found, listIn}
-use Rattle.clip_sections.specs.declared.list.ListRows.{ListRows}
+use Rattle.clip_prepare.specs.declared.list.ListRows.{ListRows}
 
 unfoldable pub listRowsOf : Found → ListRows
 listRowsOf nothing = ListRows.Absent

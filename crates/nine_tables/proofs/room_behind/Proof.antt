@@ -1,8 +1,8 @@
 -- Each return, by the tests that led to it.
 use borrow.Author.Tests.{le-leb, lt-leb}
-use Rattle.clip_sections.specs.Room.{roomBehind}
-use Rattle.clip_sections.proofs.tables.room_behind.Statement.{statement}
-use Rattle.clip_sections.proofs.tables.room_behind.Tie as tie
+use Rattle.nine_tables.specs.Room.{roomBehind}
+use Rattle.nine_tables.proofs.room_behind.Statement.{statement}
+use Rattle.nine_tables.proofs.room_behind.Tie as tie
 
 returns : tie.Need-returns
 unfolding roomBehind

@@ -7,13 +7,14 @@ use native.Mathlib.Omega.{arith}
 use denote.Ref.{now}
 use lib.ListN.{length}
 use Rattle.format.specs.Refusals.{tooShort, accepted, statedOf}
-use Rattle.clip_sections.specs.Prepare.{isList, answerFor, ReadyIs}
-use Rattle.clip_sections.specs.declared.tables.Rows.{Rows}
-use Rattle.clip_sections.specs.declared.tables.Room.{Room}
-use Rattle.clip_sections.proofs.PrepareLaws.{SectionsAre, Passed, sections-are, sections-refused, accepted-bounds, room-short, room-enough, made-ready}
+use Rattle.clip_prepare.specs.Prepare.{isList, answerFor, ReadyIs}
+use Rattle.nine_tables.specs.declared.Rows.{Rows}
+use Rattle.nine_tables.specs.declared.Room.{Room}
+use Rattle.clip_sections.proofs.Laws.{SectionsAre, sections-are, accepted-bounds}
+use Rattle.clip_prepare.proofs.PrepareLaws.{Passed, sections-refused, room-short, room-enough, made-ready}
 use borrow.Author.Needs.{needs}
-use Rattle.clip_sections.proofs.prepare.prepare.Statement.{statement}
-use Rattle.clip_sections.proofs.prepare.prepare.Tie as tie
+use Rattle.clip_prepare.proofs.prepare.Statement.{statement}
+use Rattle.clip_prepare.proofs.prepare.Tie as tie
 
 measure-requires : tie.Need-measure-requires
 measure-requires c κs = search needs

@@ -12,8 +12,8 @@ use Rattle.extension.specs.declared.ListData.{ListData}
 use Rattle.program_info.specs.Programs.{measured}
 use Rattle.program_info.specs.declared.Measured.{Measured}
 use Rattle.program_info.proofs.Laws.{counts-are, past-end}
-use Rattle.clip_sections.specs.Lists.{listRowsOf}
-use Rattle.clip_sections.specs.declared.list.ListRows.{ListRows}
+use Rattle.clip_prepare.specs.Lists.{listRowsOf}
+use Rattle.clip_prepare.specs.declared.list.ListRows.{ListRows}
 
 module _ (f : List ℕ) (list : ListData) where
   -- no data is no list

@@ -1,6 +1,6 @@
 // The nine lent tables: how many rows each needs, and the lowest that is too short.
 ghost use mathlib.Core.Path.{_≡_};
-ghost use Rattle.clip_sections.specs.Room.{roomOf, roomBehind};
+ghost use Rattle.nine_tables.specs.Room.{roomOf, roomBehind};
 
 // A number for each of tables 1 to 9.
 pub struct Rows {

@@ -3,8 +3,8 @@ use Prim.Native.Nat.{ℕ, _*_, _/_}
 use lib.Dec.{leb}
 use Rattle.format.specs.Bytes.{pick}
 use Rattle.format.specs.Tables.{atcCells, stcCells, programCells, streamCells, mapCells, entryCells, extensionCells}
-use Rattle.clip_sections.specs.declared.tables.Rows.{Rows}
-use Rattle.clip_sections.specs.declared.tables.Room.{Room}
+use Rattle.nine_tables.specs.declared.Rows.{Rows}
+use Rattle.nine_tables.specs.declared.Room.{Room}
 
 -- table k needs so many rows of so many cells; where its bytes have no room for them it is too short, else the later ones decide
 abbrev pub unlessShort : (k cells rows bytes : ℕ) → Room → Room

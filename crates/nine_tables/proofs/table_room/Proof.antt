@@ -1,9 +1,9 @@
 -- Each return, by the tests that led to it.
 use borrow.Author.Tests.{le-leb, lt-leb}
-use Rattle.clip_sections.specs.Room.{roomOf}
+use Rattle.nine_tables.specs.Room.{roomOf}
 use borrow.Author.Needs.{needs}
-use Rattle.clip_sections.proofs.tables.table_room.Statement.{statement}
-use Rattle.clip_sections.proofs.tables.table_room.Tie as tie
+use Rattle.nine_tables.proofs.table_room.Statement.{statement}
+use Rattle.nine_tables.proofs.table_room.Tie as tie
 
 returns : tie.Need-returns
 unfolding roomOf

@@ -13,11 +13,11 @@ use Rattle.format.specs.Tables.{Nine}
 use Rattle.format.specs.Refusals.{ReadAnswer, refused, tooShort, accepted, refusalOf, tablesOf, countsOf, statedOf}
 use Rattle.extension.specs.Block.{foundIn, listEnd}
 use Rattle.extension.specs.declared.ListData.{ListData}
-use Rattle.clip_sections.specs.Room.{roomOf}
-use Rattle.clip_sections.specs.declared.list.ListRows.{ListRows}
-use Rattle.clip_sections.specs.declared.tables.Rows.{Rows}
-use Rattle.clip_sections.specs.declared.tables.Room.{Room}
-use Rattle.clip_sections.specs.declared.prepare.Prepared.{Prepared}
+use Rattle.nine_tables.specs.Room.{roomOf}
+use Rattle.clip_prepare.specs.declared.list.ListRows.{ListRows}
+use Rattle.nine_tables.specs.declared.Rows.{Rows}
+use Rattle.nine_tables.specs.declared.Room.{Room}
+use Rattle.clip_prepare.specs.declared.Prepared.{Prepared}
 
 -- the rows of the list, and whether there is one
 abbrev pub listPrograms : ListRows → ℕ

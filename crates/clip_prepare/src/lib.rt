@@ -1,14 +1,16 @@
-// Everything that reading tests before it touches a table.
+// Everything that reading tests before it touches a table: every section, the (2, 5) list, the lent tables.
+pub mod list;
+
 ghost use mathlib.Core.Path.{_≡_};
-ghost use Rattle.clip_sections.specs.Prepare.{listPrograms, listStreams, isList, PreparedIs};
+ghost use Rattle.clip_prepare.specs.Prepare.{listPrograms, listStreams, isList, PreparedIs};
 use crate::list::ListRows;
 use crate::list::measure_list;
-use crate::sections::Sections;
-use crate::sections::measure;
-use crate::tables::Room;
-use crate::tables::Rows;
-use crate::tables::table_room;
+use clip_sections::sections::Sections;
+use clip_sections::sections::measure;
 use extension::ListData;
+use nine_tables::Room;
+use nine_tables::Rows;
+use nine_tables::table_room;
 use numbers::u32_at;
 
 // Ready to put the rows into the tables; a refusal's number; or the table that is too short and the rows it needs.

@@ -15,49 +15,19 @@ use Rattle.format.specs.Refusals.{refused, tooShort, accepted, refusalOf, table
 use Rattle.format.proofs.Tests.{ap-pick}
 use Rattle.extension.specs.Block.{foundIn, MeasuredIs}
 use Rattle.extension.specs.declared.Measured.{Measured}
 use Rattle.clip_sections.specs.Clips.{sectionsOf}
-use Rattle.clip_sections.specs.Lists.{listRowsOf}
-use Rattle.clip_sections.specs.Room.{roomOf}
-use Rattle.clip_sections.specs.Prepare.{listPrograms, listStreams, isList, neededRows, roomAnswer, answerFor, ReadyIs}
+use Rattle.clip_prepare.specs.Lists.{listRowsOf}
+use Rattle.nine_tables.specs.Room.{roomOf}
+use Rattle.clip_prepare.specs.Prepare.{listPrograms, listStreams, isList, neededRows, roomAnswer, answerFor, ReadyIs}
 use Rattle.clip_sections.specs.declared.sections.Sections.{Sections}
-use Rattle.clip_sections.specs.declared.list.ListRows.{ListRows}
-use Rattle.clip_sections.specs.declared.tables.Rows.{Rows}
-use Rattle.clip_sections.specs.declared.tables.Room.{Room}
-use Rattle.clip_sections.proofs.Laws.{both-pass, front-facts}
+use Rattle.clip_prepare.specs.declared.list.ListRows.{ListRows}
+use Rattle.nine_tables.specs.declared.Rows.{Rows}
+use Rattle.nine_tables.specs.declared.Room.{Room}
+use Rattle.clip_sections.proofs.Laws.{SectionsAre}
 
 -- ---- the sections
 
--- what counts of rows say of the file
-pub record SectionsAre (f : List ℕ) (a s p t m e : ℕ) : Type 0 where
-  pub accepts : refusalOf f ≡ 0
-  pub atcs-are : a ≡ length (clipOf f .atcs)
-  pub stcs-are : s ≡ length (clipOf f .stcs)
-  pub programs-are : p ≡ length (clipOf f .programs)
-  pub streams-are : t ≡ length (clipOf f .streams)
-  pub maps-are : m ≡ length (clipOf f .maps)
-  pub entries-are : e ≡ length (clipOf f .entries)
-
 module _ (f : List ℕ) where
-  -- counts are answered for an accepted file
-  pub sections-are : (a s p t m e : ℕ) → sectionsOf f ≡ Sections.Counts a s p t m e → SectionsAre f a s p t m e
-  unfolding sectionsOf
-  sections-are a s p t m e h = go (refusalOf f) refl h
-    where
-      go : (r : ℕ) → refusalOf f ≡ r
-          → pick (eqb r 0) (Sections.Counts (length (clipOf f .atcs)) (length (clipOf f .stcs)) (length (clipOf f .programs)) (length (clipOf f .streams)) (length (clipOf f .maps)) (length (clipOf f .entries))) (Sections.Refused r)
-          ≡ Sections.Counts a s p t m e
-          → SectionsAre f a s p t m e
-      go zero q h = record {
-        accepts = q;
-        atcs-are = cc;
-        stcs-are = cc;
-        programs-are = cc;
-        streams-are = cc;
-        maps-are = cc;
-        entries-are = cc;
-      }
-      go (suc r) q h = let g = rw (eqb·suc-zero r) at h in let z : _≡_ {A = ℕ} 0 1 = cc in absurd (omega arith)
-
   -- a refused section is the answer, whatever is lent
   pub sections-refused : (bytes : Rows) (n : ℕ) → sectionsOf f ≡ Sections.Refused n → refused n ≡ answerFor f bytes
   unfolding sectionsOf answerFor
@@ -69,10 +39,6 @@ module _ (f : List ℕ) where
           → refused n ≡ pick (eqb r 0) (roomAnswer f (roomOf (neededRows f) bytes)) (refused r)
       go zero h = let z : _≡_ {A = ℕ} 0 1 = cc in absurd (omega arith)
       go (suc r) h = let g = rw (eqb·suc-zero r) at h in let e : suc r ≡ n = cc in rw (eqb·suc-zero r) (ap (λ k. refused k) (sym e))
-
-  -- an accepted file's front passes
-  pub accepted-bounds : refusalOf f ≡ 0 → (length f ≤ 536870912) × (194 ≤ length f)
-  accepted-bounds h = front-facts f (both-pass f h .0)
 
 -- ---- the list
 
