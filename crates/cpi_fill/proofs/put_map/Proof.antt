@@ -1,10 +1,10 @@
 -- The header's fields are the map's row.
 use denote.Ref.{now}
 use Rattle.cpi.proofs.Sections.{header-read}
-use Rattle.cpi.proofs.Filling.{map-stored}
+use Rattle.cpi_fill.proofs.Filling.{map-stored}
 use borrow.Author.Needs.{needs}
-use Rattle.cpi.proofs.maps.put_map.Statement.{statement}
-use Rattle.cpi.proofs.maps.put_map.Tie as tie
+use Rattle.cpi_fill.proofs.put_map.Statement.{statement}
+use Rattle.cpi_fill.proofs.put_map.Tie as tie
 
 add-u48-at : tie.Need-add-u48-at
 add-u48-at c = search needs

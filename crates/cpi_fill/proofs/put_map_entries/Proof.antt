@@ -6,11 +6,11 @@ use native.Mathlib.Omega.{arith}
 use denote.Ref.{now}
 use Rattle.format.specs.EntryPoints.{mapTypeAt, coarseCountAt, fineCountAt, bodyAt}
 use Rattle.ep_rows.specs.declared.MapHeader.{MapHeader}
 use Rattle.cpi.proofs.Sections.{header-read, counts-small, fine-is}
-use Rattle.cpi.proofs.Filling.{BodyIn, body-in, own-stored}
+use Rattle.cpi_fill.proofs.Filling.{BodyIn, body-in, own-stored}
 use borrow.Author.Needs.{needs}
-use Rattle.cpi.proofs.maps.put_map_entries.Statement.{statement}
-use Rattle.cpi.proofs.maps.put_map_entries.Tie as tie
+use Rattle.cpi_fill.proofs.put_map_entries.Statement.{statement}
+use Rattle.cpi_fill.proofs.put_map_entries.Tie as tie
 
 add-u48-at : tie.Need-add-u48-at
 add-u48-at c = search needs

@@ -6,9 +6,9 @@ use Rattle.format.specs.EntryPoints.{fineCountAt}
 use native.Mathlib.Omega.{arith}
 use denote.Ref.{now}
 use borrow.Author.Needs.{needs}
-use Rattle.cpi.proofs.Filling.{Filling, There, there, filling-first, filling-map, map-room, entries-room, filling-next, filling-done}
-use Rattle.cpi.proofs.maps.fill.Statement.{statement}
-use Rattle.cpi.proofs.maps.fill.Tie as tie
+use Rattle.cpi_fill.proofs.Filling.{Filling, There, there, filling-first, filling-map, map-room, entries-room, filling-next, filling-done}
+use Rattle.cpi_fill.proofs.fill.Statement.{statement}
+use Rattle.cpi_fill.proofs.fill.Tie as tie
 
 abbrev Inv-loop : tie.InvT-loop
 Inv-loop file start count maps₀ entries₀ k₀ at₀ maps entries k at = (k ≤ count) × Filling file start count maps₀ entries₀ maps entries at k

@@ -19,7 +19,7 @@ use Rattle.format.proofs.Read.{own-length}
 use Rattle.format.proofs.Loops.{one-left}
 use Rattle.format.proofs.Sweep as Sweep
 use Rattle.format.proofs.Sweep.{HaveCells, table-bytes, filling-front, filled, row-room, row-put, group-room, group-put}
-use Rattle.cpi.specs.Maps.{Fill}
+use Rattle.cpi_fill.specs.Fill.{Fill}
 
 -- ---- one map's body
 
