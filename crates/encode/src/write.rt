@@ -13,9 +13,9 @@ use crate::measure::measure;
 use clip_sections::info::ClipInfo;
 use encode_cpi::put_cpi;
 use encode_head::put_head;
-use encode_head::put_marks;
 use encode_sections::Section;
 use encode_sections::put_section;
+use section_heads::put_marks;
 
 // How many bytes were written; the refusal's number; or how many bytes the output needs.
 pub enum Answer {

@@ -1,11 +1,11 @@
 -- Two fields.
 use Prim.Native.Nat.{_+_}
-use mathlib.Core.List.{[], _∷_}
+use mathlib.Core.Path.{refl}
 use denote.Ref.{now}
-use Rattle.encode_head.proofs.Laws.{field-then, field-last}
+use Rattle.section_heads.proofs.Stored.{field-then, field-last}
 use borrow.Author.Needs.{needs}
-use Rattle.encode_head.proofs.put_marks.Statement.{statement}
-use Rattle.encode_head.proofs.put_marks.Tie as tie
+use Rattle.section_heads.proofs.put_marks.Statement.{statement}
+use Rattle.section_heads.proofs.put_marks.Tie as tie
 
 put-u32-requires : tie.Need-put-u32-requires
 put-u32-requires c κs = search needs
@@ -22,7 +22,7 @@ same-length c = search needs
 returns : tie.Need-returns
 returns c =
     let a = c .before .before .before .before .before .before .before .before .before .args in
-    field-then (now (a .out)) (a .at) 4 2 (2 ∷ []) (0 ∷ []) (c .before .before .before .before .before .before .put-u32 .ensures)
+    field-then (now (a .out)) (a .at) 4 2 _ refl (c .before .before .before .before .before .before .put-u32 .ensures)
     (field-last _ (a .at + 4) 2 0 (c .before .before .put-u16 .ensures))
 
 pub put-marks-spec : {M : Type 1} → statement M

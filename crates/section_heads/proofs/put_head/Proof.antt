@@ -3,10 +3,10 @@ use Prim.Native.Nat.{_+_}
 use mathlib.Core.Path.{refl, sym}
 use native.Mathlib.Nat.{add-assoc}
 use denote.Ref.{now}
-use Rattle.row_bytes.proofs.Fields.{field-then, field-last}
+use Rattle.section_heads.proofs.Stored.{field-then, field-last}
 use borrow.Author.Needs.{needs}
-use Rattle.row_bytes.proofs.put_head.Statement.{statement}
-use Rattle.row_bytes.proofs.put_head.Tie as tie
+use Rattle.section_heads.proofs.put_head.Statement.{statement}
+use Rattle.section_heads.proofs.put_head.Tie as tie
 
 put-u32-requires : tie.Need-put-u32-requires
 put-u32-requires c κs = search needs
