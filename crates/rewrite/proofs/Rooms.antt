@@ -16,8 +16,8 @@ use Rattle.rewrite_sections.specs.Sections.{newSequences, newPrograms, Sequence
 use Rattle.rewrite_sections.proofs.Groups.{sequences-of, programs-of}
 use Rattle.rewrite_sections.proofs.Lengths.{sequences-long}
 use Rattle.rewrite_cpi.specs.Cpi.{Section, CpiRoom}
-use Rattle.encode.specs.Writing.{programsPlace, cpiPlace, marksPlace}
-use Rattle.encode.proofs.Parts.{place-programs, place-cpi, place-marks, InOrder, placed-order}
+use Rattle.encode_measure.specs.Places.{programsPlace, cpiPlace, marksPlace}
+use Rattle.encode_measure.proofs.Parts.{place-programs, place-cpi, place-marks, InOrder, placed-order}
 use Rattle.rewrite.specs.Rewrite.{rewriteRefusal, Ready}
 use Rattle.rewrite.proofs.Refusals.{passed, marks-short}
 

@@ -1,9 +1,9 @@
 -- One pair of tables after the other.
 use borrow.Author.Needs.{needs}
 use Rattle.limits.proofs.Clips.{first-fails, then-second}
-use Rattle.encode.specs.Writing.{pairsCounted}
-use Rattle.encode.proofs.measure.counts_add.Statement.{statement}
-use Rattle.encode.proofs.measure.counts_add.Tie as tie
+use Rattle.encode_measure.specs.Places.{pairsCounted}
+use Rattle.encode_measure.proofs.counts_add.Statement.{statement}
+use Rattle.encode_measure.proofs.counts_add.Tie as tie
 
 adds-up-requires : tie.Need-adds-up-requires
 adds-up-requires c κs = search needs

@@ -6,7 +6,7 @@ ghost use Rattle.format.specs.Bytes.{fits};
 ghost use Rattle.format.specs.Tables.{clipIn};
 ghost use Rattle.clip_information.specs.Read.{scalarsBy};
 ghost use Rattle.queries.specs.Asked.{stated, noScalars, tablesWith};
-ghost use Rattle.encode.specs.Writing.{pairsCounted, scalarWidths, refusalIn, measuredBy};
+ghost use Rattle.encode_measure.specs.Places.{pairsCounted, scalarWidths, refusalIn, measuredBy};
 use clip_sections::info::ClipInfo;
 use encode_cpi::Length;
 use encode_cpi::cpi_length;
@@ -73,7 +73,7 @@ fn scalars_fit(
 }
 
 // The refusal of a record that is handed over, or the places of its sections.
-pub(crate) fn measure(
+pub fn measure(
     info: ClipInfo,
     atcs: &[u8],
     atc_rows: u32,

@@ -11,8 +11,8 @@ use Rattle.format.specs.ClipRecord.{Clip}
 use Rattle.format.specs.Tables.{ClipTables, clipIn}
 use Rattle.format.specs.Refusals.{allStated, countsAdd, cellsFit, runsFit, writeRefusal}
 use Rattle.limits.proofs.Clips.{all-counted}
-use Rattle.encode.specs.declared.measure.Measured.{Measured}
-use Rattle.encode.specs.Writing.{refusalIn, pairsCounted, programsPlace, cpiPlace, marksPlace, measuredBy, Placed}
+use Rattle.encode_measure.specs.declared.Measured.{Measured}
+use Rattle.encode_measure.specs.Places.{refusalIn, pairsCounted, programsPlace, cpiPlace, marksPlace, measuredBy, Placed}
 
 -- two tests of one number are one test
 unless-both : (a b : Bool) (n later : ℕ) → unless a n (unless b n later) ≡ unless (both a b) n later

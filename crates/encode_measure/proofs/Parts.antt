@@ -12,7 +12,7 @@ use Rattle.format.proofs.Lengths.{sequences-bound, programs-bound, cpi-bound}
 use Rattle.format.proofs.Stores.{sets-append}
 use Rattle.encode_head.specs.Heads.{headOf}
 use Rattle.encode_head.proofs.Laws.{head-is, head-length, marks-length}
-use Rattle.encode.specs.Writing.{programsPlace, cpiPlace, marksPlace, Placed}
+use Rattle.encode_measure.specs.Places.{programsPlace, cpiPlace, marksPlace, Placed}
 
 -- the new file, with the places of its sections
 pub encode-is : (c : Clip)

@@ -7,13 +7,13 @@ use lib.ListN.{length}
 use Rattle.format.specs.Tables.{clipIn}
 use Rattle.clip_information.specs.Read.{scalarsBy}
 use Rattle.queries.specs.Asked.{stated, tablesWith}
-use Rattle.encode.specs.Writing.{refusalIn, programsPlace, cpiPlace, marksPlace}
-use Rattle.encode.proofs.Tests.{refused-by, places-by}
-use Rattle.encode.proofs.Parts.{place-programs, place-cpi, place-marks}
-use Rattle.encode.proofs.Tables.{pairs, refused-22, counted-by, scalars-refused, tables-refused, fit-by, runs-refused, runs-few, sequences-counted, programs-counted, sequences-long, programs-long, cpi-there, cpi-counted, none-refused, marks-bound}
+use Rattle.encode_measure.specs.Places.{refusalIn, programsPlace, cpiPlace, marksPlace}
+use Rattle.encode_measure.proofs.Tests.{refused-by, places-by}
+use Rattle.encode_measure.proofs.Parts.{place-programs, place-cpi, place-marks}
+use Rattle.encode_measure.proofs.Tables.{pairs, refused-22, counted-by, scalars-refused, tables-refused, fit-by, runs-refused, runs-few, sequences-counted, programs-counted, sequences-long, programs-long, cpi-there, cpi-counted, none-refused, marks-bound}
 use borrow.Author.Needs.{needs}
-use Rattle.encode.proofs.measure.measure.Statement.{statement}
-use Rattle.encode.proofs.measure.measure.Tie as tie
+use Rattle.encode_measure.proofs.measure.Statement.{statement}
+use Rattle.encode_measure.proofs.measure.Tie as tie
 
 counts-add-requires : tie.Need-counts-add-requires
 counts-add-requires c κs = search needs

@@ -2,8 +2,8 @@
 use lib.Dec.{ltb}
 use borrow.Author.Tests.{lt-ltb, le-ltb}
 use Rattle.row_limits.proofs.Fits.{last-test}
-use Rattle.encode.proofs.measure.scalars_fit.Statement.{statement}
-use Rattle.encode.proofs.measure.scalars_fit.Tie as tie
+use Rattle.encode_measure.proofs.scalars_fit.Statement.{statement}
+use Rattle.encode_measure.proofs.scalars_fit.Tie as tie
 
 returns : tie.Need-returns
 returns c = rw (lt-ltb _ _ (c .before .fits .version .fits), le-ltb _ _ (c .if1 .taken))

@@ -25,9 +25,9 @@ use Rattle.encode_sections.specs.Sections as sections
 use Rattle.encode_sections.proofs.Sections.{sequences-are, programs-are}
 use Rattle.encode_cpi.specs.declared.Length.{Length}
 use Rattle.encode_cpi.specs.Cpi as cpi
-use Rattle.encode.specs.Writing.{refusalIn, pairsCounted, scalarWidths, programsPlace, cpiPlace, marksPlace, Placed, Ready}
-use Rattle.encode.proofs.Tests.{refusal-is}
-use Rattle.encode.proofs.Parts.{place-programs, place-cpi, place-marks, InOrder, placed-order, good-short}
+use Rattle.encode_measure.specs.Places.{refusalIn, pairsCounted, scalarWidths, programsPlace, cpiPlace, marksPlace, Placed, Ready}
+use Rattle.encode_measure.proofs.Tests.{refusal-is}
+use Rattle.encode_measure.proofs.Parts.{place-programs, place-cpi, place-marks, InOrder, placed-order, good-short}
 
 -- ---- a record that can be written passes every test
 
