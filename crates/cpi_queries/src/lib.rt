@@ -15,8 +15,8 @@ use ep_map_queries::entries::Nearest;
 use ep_map_queries::entries::closer;
 use ep_map_queries::entries::seek;
 use queries::Found;
-use table_rows::search::Test;
-use table_rows::search::first_row;
+use row_search::Test;
+use row_search::first_row;
 
 // The cells of a map's row: PID, type, entry count.
 const MAP: usize = 3;

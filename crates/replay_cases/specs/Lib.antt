@@ -1,4 +1,2 @@
--- The answer that must be stored with a file, the places in it, and the cases of a sample.
-pub mod Expected
-pub mod Places
+-- The cases of a sample.
 pub mod Sample

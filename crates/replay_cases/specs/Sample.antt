@@ -9,7 +9,7 @@ use Rattle.format.specs.Tables.{cellAt}
 use Rattle.format.specs.Refusals.{flag}
 use Rattle.replay_cases.specs.declared.Tally.{Tally}
 use Rattle.replay_bytes.specs.Parts.{sameBytes, part}
-use Rattle.replay_cases.specs.Expected.{expected}
+use Rattle.replay_case.specs.Expected.{expected}
 
 -- ---- the case at the front
 

@@ -1,12 +1,11 @@
 // A stored sample of the Rust's answers: how many cases it has, and how many of them are read as the Rust read them.
-mod case;
-
 ghost use mathlib.Core.Path.{_≡_};
 ghost use Prim.Native.Nat.{_+_, _^_, _≤_, _<_};
 ghost use lib.ListN.{length};
 ghost use Rattle.format.specs.Refusals.{flag};
 ghost use Rattle.replay_cases.specs.Sample.{caseSame, casesOf, tallyOf};
 use cells::cell_at;
+use replay_case::is_same;
 
 // How many cases a class has, and how many of them are read as the Rust read them.
 pub struct Tally {
@@ -21,7 +20,7 @@ fn is_case_same(sample: &[u8], at: usize, n: usize, m: usize) -> bool
 {
     let middle = at + n;
     let end = middle + m;
-    case::is_same(&sample[at..middle], &sample[middle..end])
+    is_same(&sample[at..middle], &sample[middle..end])
 }
 
 // The count with one more where the case is the same.
