@@ -18,10 +18,10 @@ use Rattle.format.proofs.Rows.{rows-length}
 use Rattle.format.proofs.Tests.{both-true}
 use Rattle.cells.specs.Reads.{CellIs}
 use Rattle.queries.specs.Asked.{stated, onlyMaps, mapsAndEntries}
-use Rattle.table_rows.specs.FirstRow.{askRow}
-use Rattle.table_rows.specs.declared.search.Test.{Test}
+use Rattle.row_search.specs.FirstRow.{askRow}
+use Rattle.row_search.specs.declared.Test.{Test}
 use Rattle.table_rows.proofs.Scans.{rowsLeft, left-all, left-turn, left-done, cell-in}
-use Rattle.table_rows.proofs.FirstRow.{row-answers, through, next-through}
+use Rattle.row_search.proofs.FirstRow.{row-answers, through, next-through}
 use Rattle.queries.proofs.Asking.{through-test}
 use Rattle.ep_map_queries.specs.InMap.{seekIn, seekQuestion, primarySeekQuestion}
 use Rattle.nearest.specs.Nearest.{far, noneYet}

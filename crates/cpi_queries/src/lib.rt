@@ -15,8 +15,8 @@ use nearest::FAR;
 use nearest::closer;
 use nearest::none_yet;
 use queries::Found;
-use table_rows::search::Test;
-use table_rows::search::first_row;
+use row_search::Test;
+use row_search::first_row;
 
 // The cells of a map's row: PID, type, entry count.
 const MAP: usize = 3;

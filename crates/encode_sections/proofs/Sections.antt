@@ -15,7 +15,7 @@ use Rattle.format.proofs.Sections.{section-length}
 use Rattle.format.proofs.Tests.{both-true}
 use Rattle.queries.specs.Asked.{stated}
 use Rattle.table_rows.specs.OwnRows.{headCells, cellIn, isCounted}
-use Rattle.row_bytes.proofs.Fields.{sectionHead}
+use Rattle.section_heads.proofs.Stored.{sectionHead}
 use Rattle.row_values.specs.Kinds.{cellsOf, bytesBy}
 use Rattle.encode_sections.specs.Sections.{headKind, rowKind, countOf, itemsOf, sectionOf, headsIn, ownIn, itemsIn, sectionIn, Counted, Storable}
 use Rattle.encode_sections.specs.declared.Section.{Section}

@@ -7,7 +7,7 @@ use native.Mathlib.Omega.{arith}
 use lib.Dec.{lit<}
 use lib.ListN.{length, getD, length-map}
 use Rattle.format.specs.ClipRecord.{Row, entryCount, time, packet}
-use Rattle.format.specs.Questions.{Question, partsOf, Answer, refused, none, number, Best, nothing, best, rowOr, ofRow, atOrBefore, after, spanOf, ticks90, indexedSpan90k, ownRows, ofMap, answer, ask}
+use Rattle.format.specs.Questions.{Question, partsOf, Answer, refused, none, number, Best, nothing, best, rowOr, ofRow, atOrBefore, after, ownRows, ofMap, answer, ask}
 use Rattle.format.specs.Questions as of
 use Rattle.format.specs.Tables.{Table, rowsOf, cellAt, cellsAt, clipIn, mapCells, entryCells}
 use Rattle.format.proofs.Cell.{item-at}
@@ -17,7 +17,7 @@ use Rattle.cells.specs.Reads.{CellIs}
 use Rattle.queries.specs.Asked.{mapsAndEntries}
 use Rattle.table_rows.specs.OwnRows.{refusal, owns}
 use Rattle.table_rows.proofs.OwnRows.{own-rows, behindTests, tests-fail, tests-pass}
-use Rattle.ep_map_queries.specs.InMap.{entriesOf, entriesAt, findIn, seekIn, endIn, findQuestion, seekQuestion, endQuestion}
+use Rattle.ep_map_queries.specs.InMap.{entriesOf, entriesAt, findIn, seekIn, findQuestion, seekQuestion}
 use Rattle.ep_map_queries.proofs.Nearest.{times-length}
 
 -- ---- the refusals
@@ -56,15 +56,6 @@ module _ (maps entries : Table) (m : ℕ) where
   unfolding answer clipIn
   seek-asks true at = record { two = refl; asks = refl }
   seek-asks false at = record { two = refl; asks = refl }
-
-  pub end-asks : (side : Bool) → AsksMap (endQuestion side m) maps entries m (λ es. endIn side es)
-  unfolding answer clipIn
-  end-asks true = record { two = refl; asks = refl }
-  end-asks false = record { two = refl; asks = refl }
-
-  pub span-asks : AsksMap (indexedSpan90k m) maps entries m (λ es. ticks90 (spanOf es))
-  unfolding answer clipIn
-  span-asks = record { two = refl; asks = refl }
 
 -- ---- the packet of the entry that is found
 

@@ -1,5 +1,5 @@
--- What a section begins with, and the bytes of a stream in the parts in which they are stored.
-use Prim.Native.Nat.{ℕ, _+_, _*_, _/_, _%_, _^_}
+-- The bytes of a stream in the parts in which they are stored.
+use Prim.Native.Nat.{ℕ, _*_, _/_, _%_, _^_}
 use mathlib.Core.Path.{_≡_, sym, ap, _∙_}
 use mathlib.Core.List.{List, [], _∷_, _++_, append-assoc, append-nil}
 use mathlib.Core.Bool.{Bool, true, false}
@@ -12,15 +12,7 @@ use Rattle.format.specs.Rewriting.{streamBytes}
 use Rattle.format.proofs.Numbers.{bytes-length}
 use Rattle.format.proofs.Stores.{bytes-low, bytes-parts}
 
--- ---- what a section's and a row's bytes begin with
-
--- a section's length, a spare byte, its count
-abbrev pub sectionHead : (size n : ℕ) → List ℕ
-sectionHead size n = fieldBytes (4 ∷ 1 ∷ 1 ∷ []) (size ∷ 0 ∷ n ∷ [])
-
--- its six bytes
-pub section-head : (size n : ℕ) → length (sectionHead size n) ≡ 6
-section-head size n = simp (length-append, bytes-length)
+-- ---- what a row's bytes begin with
 
 -- the fields of a program before its spare byte
 pub program-fields : (a b c : ℕ) → length (fieldBytes (4 ∷ 2 ∷ 1 ∷ []) (a ∷ b ∷ c ∷ [])) ≡ 7
