@@ -15,29 +15,31 @@ KIT = {"io", "libc", "os"}
 LAYERS = [
     ("programs", [
         ("listing", "list_clip listing_test listing_io clip_listing listing text_lines input"),
-        ("a stored sample of the Rust's answers", "replay"),
-    ]),
-    ("for C", [
-        ("libclpi.a, include/clpi.h", "clpi clpi_answers clpi_writing"),
+        ("a stored sample of the Rust's answers", "replay replay_cases replay_case replay_bytes"),
     ]),
     ("theorems on the calls", [
         ("demand 3, from the calls' own promises", "rewriting_theorems query_theorems"),
+        ("both forms of an entry lookup", "entry_theorems"),
+    ]),
+    ("for C", [
+        ("libclpi.a, include/clpi.h", "clpi clpi_answers clpi_reading clpi_writing"),
+        ("lookups over a row of records", "ep_entry_queries ep_entry_steps"),
     ]),
     ("whole files", [
-        ("reading", "clip_information clip_sections"),
-        ("writing", "encode encode_head"),
+        ("reading", "clip_information clip_prepare clip_sections nine_tables"),
+        ("writing", "encode encode_measure encode_head"),
         ("rewriting in one go", "rewrite"),
-        ("questions", "sequence_queries program_queries ep_map_queries cpi_queries clip_info_queries extension_queries"),
+        ("questions", "sequence_queries atc_queries program_queries ep_map_queries ep_map_times cpi_queries clip_info_queries extension_queries"),
     ]),
     ("sections", [
-        ("read", "sequence_info program_info cpi extension extension_entry"),
+        ("read", "sequence_info program_info cpi cpi_fill extension extension_entry"),
         ("written from tables", "encode_sections encode_cpi encode_map limits"),
         ("written from a file", "rewrite_sections rewrite_program rewrite_cpi map_runs"),
-        ("tables, as questions see them", "table_rows queries"),
+        ("tables, as questions see them", "table_rows row_search nearest queries"),
     ]),
     ("rows", [
         ("read", "ep_rows ep_entries stream_coding_info"),
-        ("written", "row_limits row_values row_bytes encode_rows runs map_rows"),
+        ("written", "row_limits row_values row_bytes section_heads encode_rows runs map_rows"),
     ]),
     ("bytes", [
         ("bytes, bits, cells, ticks", "common numbers cells bits ticks stream_coding"),
