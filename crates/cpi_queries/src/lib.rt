@@ -43,11 +43,8 @@ fn least_pid(maps: &[u8], rows: u32) -> Found
     let mut best = none_yet();
     let mut k: u32 = 0;
     while k < rows {
-        best = closer(
-            best,
-            k as usize,
-            cell_at(maps, 4 * MAP * (k as usize)) as u64,
-        );
+        let pid = cell_at(maps, 4 * MAP * (k as usize));
+        best = closer(best, k as usize, pid as u64);
         k += 1;
     }
     if best.distance == FAR {

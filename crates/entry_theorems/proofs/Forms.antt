@@ -1,11 +1,10 @@
 -- Both results have the numbers of one answer, and a result is its numbers.
 use Prim.Native.Nat.{ℕ}
-use mathlib.Core.Path.{_≡_, refl, sym, ap, _∙_}
-use mathlib.Core.List.{List, [], _∷_}
+use mathlib.Core.Path.{_≡_, sym, ap, _∙_}
+use mathlib.Core.List.{List}
 use lib.ListN.{getD}
 use Rattle.format.specs.Questions.{Answer, answerNumbers}
 use Rattle.clpi_answers.specs.declared.ClpiAnswer.{ClpiAnswer}
-use Rattle.clpi_answers.specs.Numbers.{foundNumbers}
 use Rattle.ep_entry_steps.proofs.Alike.{forms-alike}
 use Rattle.query_theorems.specs.Calls.{tableOf, behind}
 use Rattle.entry_theorems.specs.Claims.{Tells}

@@ -1,6 +1,5 @@
 -- The two forms answer alike: behind the refusals both look at the same rows.
 use Prim.Native.Nat.{ℕ}
-use mathlib.Core.Path.{_≡_}
 use mathlib.Core.List.{List}
 use Rattle.format.specs.Tables.{Table, clipIn}
 use Rattle.format.specs.Questions.{ask, answer, ofMap}

@@ -21,6 +21,7 @@ use Rattle.ep_entry_steps.specs.Lookups.{lookUp, rowOrPacket, lastRow, s
 abbrev pub timesOf : List EpEntry → List ℕ
 timesOf es = map time (asRows es)
 
+-- there are as many times as records
 times-length : (es : List EpEntry) → length (timesOf es) ≡ length es
 times-length es = length-map (asRows es) time ∙ length-map es asRow
 
@@ -37,10 +38,12 @@ packet-at (e ∷ es) (suc k) = packet-at es k
 
 -- ---- what is found is the nearest row, or none
 
+-- none, or this row
 data NoneOr (row : ℕ) : Answer → Type 0 where
   no-row : NoneOr row none
   the-row : NoneOr row (number row)
 
+-- what is found of so many rows
 found-or-none : (side : Bool) (rows : ℕ) (n : Nearest) → NoneOr (n .row) (rowFound side rows n)
 found-or-none true rows n = go (eqb rows 0) (eqb (n .distance) far)
   where
@@ -54,6 +57,7 @@ found-or-none false rows n = go (eqb rows 0)
     go true = no-row
     go false = the-row
 
+-- told as it is, or by its packet
 its-row : {row : ℕ} {found : Answer} (e : Row) → NoneOr row found → rowOrPacket false e found ≡ found
 its-row e no-row = refl
 its-row e the-row = refl
@@ -69,9 +73,11 @@ module _ (es : List EpEntry) (side : Bool) (at : ℕ) where
   abbrev pub Looked : ℕ → Nearest → Type 0
   Looked k n = Scan (timesOf es) side at k n
 
+  -- before the first record
   pub look-first : Looked 0 noneYet
   look-first = scan-first (timesOf es) side at
 
+  -- a record more
   pub look-turn : at < far → (k : ℕ) (n r : Nearest) (e : EpEntry) → k < length es → e ≡ getD es k noEntry → time (asRow e) < far → r ≡ closerOf side at n k (time (asRow e)) → Looked k n → Looked (suc k) r
   look-turn small k n r e h is below chose i =
       let l : k < length (timesOf es) = subst (λ (m : ℕ). k < m) (sym (times-length es)) h in
@@ -94,10 +100,12 @@ module _ (es : List EpEntry) (side : Bool) (at : ℕ) where
 
 -- ---- the span
 
+-- the last time behind a record
 last-at : (t : Ticks90) (es : List EpEntry) (d : EpEntry) → t ≡ entryTime (asRow d) → lastOf t (asRows es) ≡ entryTime (asRow (getD (d ∷ es) (length es) noEntry))
 last-at t [] d h = h
 last-at t (e ∷ es) d h = last-at (entryTime (asRow e)) es e refl
 
+-- from the first record to the last; without records both are the one past the end
 pub span-is : (es : List EpEntry) {first last : EpEntry} → first ≡ getD es 0 noEntry → last ≡ getD es (lastRow (length es)) noEntry → spanBetween (asRow first) (asRow last) ≡ spanOf (asRows es)
 unfolding spanOf
 span-is [] f l = rw (f, l)

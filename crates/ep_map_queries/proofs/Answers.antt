@@ -1,18 +1,17 @@
 -- What the entries of a map answer, and the refusals in front of it.
-use Prim.Native.Nat.{ℕ, suc, _+_, _*_, _-_, _<_, _≤_}
+use Prim.Native.Nat.{ℕ, _+_, _*_, _-_, _<_, _≤_}
 use mathlib.Core.Path.{_≡_, refl, sym, ap, _∙_}
 use mathlib.Core.List.{List, [], _∷_, map}
 use mathlib.Core.Bool.{Bool, true, false}
 use native.Mathlib.Omega.{arith}
 use lib.Dec.{lit<}
-use lib.ListN.{length, getD, length-map}
+use lib.ListN.{length}
 use Rattle.format.specs.ClipRecord.{Row, entryCount, time, packet}
-use Rattle.format.specs.Questions.{Question, partsOf, Answer, refused, none, number, Best, nothing, best, rowOr, ofRow, atOrBefore, after, ownRows, ofMap, answer, ask}
+use Rattle.format.specs.Questions.{Question, partsOf, Answer, refused, number, ofRow, ownRows, ofMap, answer, ask}
 use Rattle.format.specs.Questions as of
 use Rattle.format.specs.Tables.{Table, rowsOf, cellAt, cellsAt, clipIn, mapCells, entryCells}
 use Rattle.format.proofs.Cell.{item-at}
 use Rattle.format.proofs.Lookups.{before-row, after-row}
-use Rattle.format.proofs.Rows.{rows-length}
 use Rattle.cells.specs.Reads.{CellIs}
 use Rattle.queries.specs.Asked.{mapsAndEntries}
 use Rattle.table_rows.specs.OwnRows.{refusal, owns}

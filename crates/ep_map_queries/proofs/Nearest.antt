@@ -1,5 +1,5 @@
 -- The nearest entry while a loop goes over the entries of a map.
-use Prim.Native.Nat.{ℕ, suc, _+_, _*_, _-_, _<_, _≤_}
+use Prim.Native.Nat.{ℕ, _+_, _*_, _-_, _<_}
 use mathlib.Core.Path.{_≡_, sym, ap, _∙_, subst}
 use mathlib.Core.List.{List, [], map}
 use mathlib.Core.Bool.{Bool}
@@ -18,6 +18,7 @@ use Rattle.nearest.proofs.Steps.{Scan, scan-first, scan-turn, scan-done, found-
 use Rattle.ep_map_queries.specs.InMap.{entriesAt, findIn}
 
 module _ (entries : List ℕ) (first count : ℕ) where
+  -- their times
   abbrev times : List ℕ
   times = map time (entriesAt entries first count)
 
@@ -38,17 +39,21 @@ module _ (entries : List ℕ) (first count : ℕ) where
     abbrev pub Looked : ℕ → Nearest → Type 0
     Looked k n = Scan times side at k n
 
+    -- before the first entry
     pub look-first : {n : Nearest} → n ≡ noneYet → Looked 0 n
     look-first e = rw e (scan-first times side at)
 
+    -- an entry more
     pub look-turn : at < far → (k : ℕ) (n : Nearest) {x : ℕ} {r : Nearest} → k < count → CellIs entries (20 * first + 8 + 20 * k) x → r ≡ closerOf side at n k x → Looked k n → Looked (k + 1) r
     look-turn small k n {x} {r} h c chose i =
         let l : k < length times = rw times-length h in
         let next = scan-turn times side at small k n l (time-at k h c) (c .below) i in
         rw (add-one, chose) next
 
+    -- behind the last
     pub look-done : (k : ℕ) (n : Nearest) → k ≡ count → Looked k n → NearestIn side times at n
     look-done k n e i = scan-done times side at n (subst (λ (m : ℕ). Looked m n) (e ∙ sym times-length) i)
 
+    -- what is found of them
     pub find-is : (n : Nearest) → NearestIn side times at n → rowFound side count n ≡ findIn side (entriesAt entries first count) at
     find-is n s = rw times-length at (found-is times side at n s)

@@ -1,16 +1,15 @@
 -- The nearest of some times by distances is the best of them by the definitions.
-use Prim.Native.Nat.{ℕ, suc, _+_, _-_, _<_, _≤_}
-use mathlib.Core.Path.{_≡_, refl, sym, ap, _∙_}
+use Prim.Native.Nat.{ℕ, suc, _-_, _<_, _≤_}
+use mathlib.Core.Path.{_≡_, refl, sym, _∙_}
 use mathlib.Core.List.{List, [], _∷_}
 use mathlib.Core.Bool.{Bool, true, false}
-use native.Mathlib.Numerals.{add-one}
 use native.Mathlib.Omega.{arith}
 use lib.Dec.{leb, ltb, eqb}
 use lib.ListN.{length, getD, drop}
 use lib.Seq.{drop-cons, drop-length}
-use borrow.Author.Tests.{leb-true, leb-false, ltb-true, ltb-false, lt-ltb, le-ltb, le-leb, lt-leb, eq-eqb, ne-eqb}
+use borrow.Author.Tests.{leb-true, ltb-true, ltb-false, lt-ltb, le-ltb, le-leb, lt-leb, eq-eqb, ne-eqb}
 use Rattle.format.specs.Bytes.{pick}
-use Rattle.format.specs.Questions.{Answer, number, Best, nothing, best, better, bestOf, rowOr, atOrBefore, after}
+use Rattle.format.specs.Questions.{number, Best, nothing, best, better, bestOf, rowOr, atOrBefore, after}
 use Rattle.format.specs.Questions as of
 use Rattle.nearest.specs.Nearest.{rowIn, onSide, nearer, bestIn, far, distanceTo, noneYet, closerOf, rowFound, Says, NearestIn}
 use Rattle.nearest.specs.declared.Nearest.{Nearest}
@@ -112,9 +111,11 @@ module _ (times : List ℕ) (side : Bool) (at : ℕ) where
     pub says : Says side at so-far (n .row) (n .distance)
     pub rest : bestOf (onSide side at) (nearer side) k (drop k times) so-far ≡ bestIn side times at
 
+  -- before the first row
   pub scan-first : Scan 0 noneYet
   scan-first = record { so-far = nothing; says = Says.none; rest = refl }
 
+  -- a row more
   pub scan-turn : at < far → (k : ℕ) (n : Nearest) {x : ℕ} → k < length times → x ≡ getD times k 0 → x < far → Scan k n → Scan (suc k) (closerOf side at n k x)
   scan-turn small k n {x} h e below i =
       record {
@@ -123,6 +124,7 @@ module _ (times : List ℕ) (side : Bool) (at : ℕ) where
         rest = rw (drop-cons times k 0 h, ← e) at (i .rest);
       }
 
+  -- behind the last
   pub scan-done : (n : Nearest) → Scan (length times) n → NearestIn side times at n
   scan-done n i =
       let e : i .so-far ≡ bestIn side times at = rw (drop-length times) at (i .rest) in
@@ -130,6 +132,7 @@ module _ (times : List ℕ) (side : Bool) (at : ℕ) where
 
 -- ---- what is found at the end
 
+-- where one at or before is asked for, and where one after
 row-or : {side : Bool} {at row d : ℕ} {b : Best} → Says side at b row d → number row ≡ rowOr (number 0) b
 row-or Says.none = refl
 row-or (Says.some k x d xb e near) = refl
@@ -146,7 +149,7 @@ found-is [] false at n s = refl
 found-is (x ∷ xs) true at n s = rw (ne-eqb (length (x ∷ xs)) 0 (λ z. omega arith)) (far-or s)
 found-is (x ∷ xs) false at n s = rw (ne-eqb (length (x ∷ xs)) 0 (λ z. omega arith)) (row-or s)
 
--- ---- found, by its tests
+-- ---- found, by its tests: no rows; one at or before; none after; one after
 
 pub no-rows : (side : Bool) (n : Nearest) {rows : ℕ} → rows ≡ 0 → of.none ≡ rowFound side rows n
 no-rows true n {rows} z = rw (eq-eqb rows 0 z)

@@ -19,9 +19,6 @@ none-yet-requires c κs = search needs
 loop-holds : tie.Need-loop-holds Inv-loop μ-loop
 loop-holds c = let a = c .before .before .args in (omega arith, pids-first (now (a .maps)) (a .rows) (c .none-yet .ensures))
 
-cast-closer : tie.Need-cast-closer Inv-loop μ-loop
-cast-closer c = search needs
-
 mul-cell-at : tie.Need-mul-cell-at Inv-loop μ-loop
 mul-cell-at c = search needs
 
@@ -33,6 +30,9 @@ mul-cell-at-2 c = search needs
 
 cell-at-requires : tie.Need-cell-at-requires Inv-loop μ-loop
 cell-at-requires c κs = search needs
+
+cast-closer : tie.Need-cast-closer Inv-loop μ-loop
+cast-closer c = search needs
 
 cast-closer-2 : tie.Need-cast-closer-2 Inv-loop μ-loop
 cast-closer-2 c = search needs
@@ -72,11 +72,11 @@ least-pid-spec =
     μ-loop
     none-yet-requires
     loop-holds
-    cast-closer
     mul-cell-at
     cast-cell-at
     mul-cell-at-2
     cell-at-requires
+    cast-closer
     cast-closer-2
     closer-requires
     add-k

@@ -1,6 +1,6 @@
 -- `entry_at` meets its contract: a walk of its MIR, by hand. Entry k lies k * 16 past the slice's pointer and is copied from there; past the end `no_entry` is called. Assumes nothing.
 use mathlib.Core.Path.{_≡_, refl, sym, _∙_, subst}
-use Prim.Native.Nat.{ℕ, _<_, _≤_, _*_, _+_, _^_}
+use Prim.Native.Nat.{ℕ, _<_, _≤_, _^_}
 use mathlib.Core.Bool.{Bool, true, false}
 use mathlib.Core.List.{List, [], _∷_}
 use lib.Dec.{ltb}
@@ -18,7 +18,7 @@ use prog.Wp.{Heap, Env, Calls, Loops, Wp, atReturn, WpFn, Tables}
 use ghost.Atoms.{Atoms, sem}
 use contract.Monad.{Fun, fact}
 use contract.Running.{givenOf, tables, tablesOf}
-use types.Kit.{Given, Item, ‵, raw, _⊛_, ⋆, atRet, _$_, _∵_, !, qed, by, move, keep, drop, use1, split, join, rewrite, fsplit, fjoin, suffices, frame, done}
+use types.Kit.{Given, Item, ‵, raw, _⊛_, ⋆, atRet, _$_, _∵_, !, qed, by, move, keep, use1, split, join, rewrite, fsplit, fjoin, suffices, frame, done}
 use types.Part.{whole, sub, look-in}
 use types.Run.{look, look-raw, init, forget, stop, hop, fld, from, load, lit, of-opd, bin, no-more, land, assigns, first, branches, skips, exec, returns, returns-within, enter, alloc1, alloc0, params1, pass1, pass0, free1, free0}
 use sound.WpLaws.{FmC, fmOf, WpFn-mono}

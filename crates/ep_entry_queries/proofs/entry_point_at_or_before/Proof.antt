@@ -1,5 +1,5 @@
 -- `entry_point_at_or_before` meets its contract: it is the call of `look_up` for the row at or before.
-use mathlib.Core.Bool.{true, false}
+use mathlib.Core.Bool.{false}
 use contract.Running.{givenOf, tables, tablesOf}
 use denote.Triple.Spec.{tripleOf}
 use denote.Triple.Table.{entered, cited}

@@ -1,5 +1,5 @@
 -- `indexed_span_90k` meets its contract: a walk of its MIR, by hand. `entry_at` gives the first entry and the last, `span` the time between them. Assumes nothing.
-use mathlib.Core.Path.{_≡_, refl, sym, ap, _∙_}
+use mathlib.Core.Path.{_≡_, refl, ap, _∙_}
 use Prim.Native.Nat.{ℕ, _<_, _^_}
 use mathlib.Core.List.{List, [], _∷_}
 use lib.Dec.{lit<}

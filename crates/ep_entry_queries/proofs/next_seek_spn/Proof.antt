@@ -1,5 +1,5 @@
 -- `next_seek_spn` meets its contract: it is the call of `look_up` for the packet after.
-use mathlib.Core.Bool.{true, false}
+use mathlib.Core.Bool.{true}
 use contract.Running.{givenOf, tables, tablesOf}
 use denote.Triple.Spec.{tripleOf}
 use denote.Triple.Table.{entered, cited}
