@@ -130,15 +130,15 @@ impl EntryRows {
             self.counts.asked += 1;
             let wanted = plain_answers::answer(question, &lent, WrongAnswer::Right);
             let table = Library.ask(question, &lent);
-            must(table == wanted, || format!("{question:?}: of tables {table:?}, not {wanted:?}, of {made:?}"))?;
+            must(table == wanted, || format!("{question:?}: of tables {table:?}, not {wanted:?}, of {}", told(&made)))?;
             if let Some(rust) = rust_answers::of_map(question, &rust) {
                 self.counts.of_the_rust += 1;
-                must(rust == wanted, || format!("{question:?}: the Rust's {rust:?}, not {wanted:?}, of {made:?}"))?;
+                must(rust == wanted, || format!("{question:?}: the Rust's {rust:?}, not {wanted:?}, of {}", told(&made)))?;
             }
             let given = answerer.ask_rows(question, rows, &lent);
-            must(given == wanted, || format!("{question:?}: of records {given:?}, not {wanted:?}, of {made:?}"))?;
+            must(given == wanted, || format!("{question:?}: of records {given:?}, not {wanted:?}, of {}", told(&made)))?;
         }
-        must(black_box(held) == &bytes[..], || format!("the records have changed: {made:?}"))
+        must(black_box(held) == &bytes[..], || format!("the records have changed: {}", told(&made)))
     }
 }
 
@@ -153,10 +153,14 @@ fn number(random: &mut Random) -> u32 {
     }
 }
 
-/// Entries: none, any, many of equal times, or strictly ascending.
+/// Entries: none, any, many of equal times, or strictly ascending; seldom more than 16 bits can count.
 fn entries(random: &mut Random) -> Vec<EpEntry> {
     let few: [u32; 4] = std::array::from_fn(|_| number(random));
-    let most = if random.one_in(64) { 300 } else { 9 };
+    let most = match random.below(1 << 16) {
+        0 => 1 << 18,
+        n if n < 1 << 10 => 300,
+        _ => 9,
+    };
     let any = random.pick(&[1, 3, 8]);
     let count = if random.one_in(8) { 0 } else { random.below(most) };
     let mut times: Vec<u32> =
@@ -213,6 +217,11 @@ fn questions(map: u32, made: &[EpEntry], random: &mut Random) -> Vec<Question> {
     }
     let by_time = |at| [EntryAtOrBefore(map, at), EntryAfter(map, at), SeekSpn(map, at), NextSeekSpn(map, at)];
     times.into_iter().flat_map(by_time).chain([IndexedSpan(map)]).collect()
+}
+
+/// Entries in words; of many only how many.
+fn told(made: &[EpEntry]) -> String {
+    if made.len() <= 20 { format!("{made:?}") } else { format!("{} entries", made.len()) }
 }
 
 /// Compares the rows of `count` seeds; tells the questions and the differences.
