@@ -90,11 +90,12 @@ pub const MISREAD: &[(&str, fn(&mut Vec<Entry>))] = &[
     ("packets of 16 bits", |rows| rows.iter_mut().for_each(|e| e.spn_ep_start &= 0xFFFF)),
 ];
 
-/// How many questions were asked of records, and of these beside the Rust.
+/// How many questions were asked of records, of these beside the Rust, and the records of the longest row.
 #[derive(Clone, Copy, Default)]
 pub struct Counts {
     pub asked: u64,
     pub of_the_rust: u64,
+    pub longest: usize,
 }
 
 /// Rows of records and tables of the same entries, each of which ends right before a page that can't be read.
@@ -115,6 +116,7 @@ impl EntryRows {
     pub fn compare(&mut self, seed: u64, answerer: &mut impl RowAnswerer) -> Result<(), Difference> {
         let random = &mut Random::new(seed.rotate_left(16));
         let made = entries(random);
+        self.counts.longest = self.counts.longest.max(made.len());
         let (map, cells) = tables(&made, random);
         let [maps, entries] = &mut self.tables;
         let mut tables = [Table::default(); 9];
@@ -130,15 +132,19 @@ impl EntryRows {
             self.counts.asked += 1;
             let wanted = plain_answers::answer(question, &lent, WrongAnswer::Right);
             let table = Library.ask(question, &lent);
-            must(table == wanted, || format!("{question:?}: of tables {table:?}, not {wanted:?}, of {made:?}"))?;
+            must(table == wanted, || format!("{question:?}: of tables {table:?}, not {wanted:?}, of {}", told(&made)))?;
             if let Some(rust) = rust_answers::of_map(question, &rust) {
                 self.counts.of_the_rust += 1;
-                must(rust == wanted, || format!("{question:?}: the Rust's {rust:?}, not {wanted:?}, of {made:?}"))?;
+                must(rust == wanted, || {
+                    format!("{question:?}: the Rust's {rust:?}, not {wanted:?}, of {}", told(&made))
+                })?;
             }
             let given = answerer.ask_rows(question, rows, &lent);
-            must(given == wanted, || format!("{question:?}: of records {given:?}, not {wanted:?}, of {made:?}"))?;
+            must(given == wanted, || {
+                format!("{question:?}: of records {given:?}, not {wanted:?}, of {}", told(&made))
+            })?;
         }
-        must(black_box(held) == &bytes[..], || format!("the records have changed: {made:?}"))
+        must(black_box(held) == &bytes[..], || format!("the records have changed: {}", told(&made)))
     }
 }
 
@@ -153,10 +159,14 @@ fn number(random: &mut Random) -> u32 {
     }
 }
 
-/// Entries: none, any, many of equal times, or strictly ascending.
+/// Entries: none, any, many of equal times, or strictly ascending; seldom more than 16 bits can count.
 fn entries(random: &mut Random) -> Vec<EpEntry> {
     let few: [u32; 4] = std::array::from_fn(|_| number(random));
-    let most = if random.one_in(64) { 300 } else { 9 };
+    let most = match random.below(1 << 16) {
+        0 => 1 << 18,
+        n if n < 1 << 10 => 300,
+        _ => 9,
+    };
     let any = random.pick(&[1, 3, 8]);
     let count = if random.one_in(8) { 0 } else { random.below(most) };
     let mut times: Vec<u32> =
@@ -215,6 +225,11 @@ fn questions(map: u32, made: &[EpEntry], random: &mut Random) -> Vec<Question> {
     times.into_iter().flat_map(by_time).chain([IndexedSpan(map)]).collect()
 }
 
+/// Entries in words; of many only how many.
+fn told(made: &[EpEntry]) -> String {
+    if made.len() <= 20 { format!("{made:?}") } else { format!("{} entries", made.len()) }
+}
+
 /// Compares the rows of `count` seeds; tells the questions and the differences.
 pub fn rows(first: u64, count: u64) -> bool {
     let mut rows = EntryRows::new();
@@ -222,8 +237,8 @@ pub fn rows(first: u64, count: u64) -> bool {
         .filter_map(|seed| rows.compare(seed, &mut Library).err().map(|why| format!("seed {seed}: {why}")))
         .collect();
     differences.iter().take(20).for_each(|difference| println!("{difference}"));
-    let Counts { asked, of_the_rust } = rows.counts;
+    let Counts { asked, of_the_rust, longest } = rows.counts;
     println!("questions on rows of records: {asked} answered, the Rust's answers beside them: {of_the_rust}");
-    println!("{count} rows of records compared, {} differences", differences.len());
+    println!("{count} rows of up to {longest} records compared, {} differences", differences.len());
     differences.is_empty()
 }
