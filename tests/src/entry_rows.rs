@@ -1,6 +1,6 @@
-//! The command `rows`: entry lookups over a lent row of records, beside the table calls, the plain definitions and the Rust.
+//! The command `rows`: entry lookups over a row of records, beside the table calls, the plain definitions and the Rust.
 
-use crate::answers::{Answer, Answerer, Lent, Question, Question::*, Table};
+use crate::answers::{Answer, Answerer, Input, Question, Question::*, Table};
 use crate::compare::{Difference, must};
 use crate::guarded::Guarded;
 use crate::ours::Library;
@@ -37,12 +37,12 @@ unsafe extern "C" {
 /// Something that answers as the library does about a row of records, which are the entries of one map of the tables.
 pub trait RowAnswerer {
     /// The answer to a question about that map, asked of the records.
-    fn ask_rows(&mut self, question: Question, rows: &[Entry], lent: &Lent) -> Answer;
+    fn ask_rows(&mut self, question: Question, rows: &[Entry], input: &Input) -> Answer;
 }
 
 impl RowAnswerer for Library {
     /// Makes the question's call; the tables aren't looked at.
-    fn ask_rows(&mut self, question: Question, rows: &[Entry], _: &Lent) -> Answer {
+    fn ask_rows(&mut self, question: Question, rows: &[Entry], _: &Input) -> Answer {
         let (first, count) = (rows.as_ptr(), rows.len());
         // SAFETY: the pointer has as many records behind it as the count says; the calls only read.
         unsafe {
@@ -60,8 +60,8 @@ impl RowAnswerer for Library {
 
 impl RowAnswerer for Plain {
     /// The plain answer about the map of the tables, with this answerer's wrong rule.
-    fn ask_rows(&mut self, question: Question, _: &[Entry], lent: &Lent) -> Answer {
-        self.ask(question, lent)
+    fn ask_rows(&mut self, question: Question, _: &[Entry], input: &Input) -> Answer {
+        self.ask(question, input)
     }
 }
 
@@ -70,10 +70,10 @@ pub struct Misread(pub fn(&mut Vec<Entry>));
 
 impl RowAnswerer for Misread {
     /// The library's answer about the other records.
-    fn ask_rows(&mut self, question: Question, rows: &[Entry], lent: &Lent) -> Answer {
+    fn ask_rows(&mut self, question: Question, rows: &[Entry], input: &Input) -> Answer {
         let mut others = rows.to_vec();
         (self.0)(&mut others);
-        Library.ask_rows(question, &others, lent)
+        Library.ask_rows(question, &others, input)
     }
 }
 
@@ -122,7 +122,7 @@ impl EntryRows {
         let mut tables = [Table::default(); 9];
         tables[MAPS] = Table { bytes: maps.hold(&cells[0]), rows: (cells[0].len() / 12) as u32 };
         tables[ENTRIES] = Table { bytes: entries.hold(&cells[1]), rows: (cells[1].len() / 20) as u32 };
-        let lent = Lent { rate: 0, packets: 0, tables, null: random.one_in(2) };
+        let input = Input { rate: 0, packets: 0, tables, null: random.one_in(2) };
         let bytes = record_bytes(&made);
         let held = self.records.hold(&bytes);
         // SAFETY: the bytes of whole records, each laid out by `record_bytes`; their end is that of a page, so they are aligned.
@@ -130,8 +130,8 @@ impl EntryRows {
         let rust = EpMap { stream_pid: 0, ep_stream_type: 0, entries: made.clone() };
         for question in questions(map, &made, random) {
             self.counts.asked += 1;
-            let wanted = plain_answers::answer(question, &lent, WrongAnswer::Right);
-            let table = Library.ask(question, &lent);
+            let wanted = plain_answers::answer(question, &input, WrongAnswer::Right);
+            let table = Library.ask(question, &input);
             must(table == wanted, || format!("{question:?}: of tables {table:?}, not {wanted:?}, of {}", told(&made)))?;
             if let Some(rust) = rust_answers::of_map(question, &rust) {
                 self.counts.of_the_rust += 1;
@@ -139,7 +139,7 @@ impl EntryRows {
                     format!("{question:?}: the Rust's {rust:?}, not {wanted:?}, of {}", told(&made))
                 })?;
             }
-            let given = answerer.ask_rows(question, rows, &lent);
+            let given = answerer.ask_rows(question, rows, &input);
             must(given == wanted, || {
                 format!("{question:?}: of records {given:?}, not {wanted:?}, of {}", told(&made))
             })?;
