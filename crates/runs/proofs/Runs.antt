@@ -1,14 +1,16 @@
 -- Runs of entries: one run and those behind it, and the loops that walk over them.
-use Prim.Native.Nat.{ℕ, suc, _+_, _*_, _-_, _/_, _<_, _≤_}
-use mathlib.Core.Path.{_≡_, refl, sym, ap, _∙_}
+use Prim.Native.Nat.{ℕ, suc, _+_, _*_, _-_, _/_, _^_, _<_, _≤_}
+use mathlib.Core.Path.{_≡_, refl, sym, ap, ap₂, _∙_}
 use mathlib.Core.List.{List, [], _∷_}
 use mathlib.Core.Bool.{Bool, true, false, not}
 use native.Mathlib.Numerals.{add-one}
 use native.Mathlib.Omega.{arith}
-use borrow.Author.Tests.{eqb-true, eq-eqb, ne-eqb, not-true, not-false}
+use borrow.Author.Tests.{eqb-true, eqb-false, eq-eqb, ne-eqb, not-true, not-false}
 use lib.ListN.{length, getD, drop}
-use lib.Dec.{eqb}
-use Rattle.format.specs.Bytes.{pick}
+use lib.Bits.{bitAnd, and-block, and-high}
+use lib.Pow.{shr-mod}
+use lib.Dec.{eqb, lit<}
+use Rattle.format.specs.Bytes.{both, pick}
 use Rattle.format.specs.ClipRecord.{Row, time, packet}
 use Rattle.format.specs.Rewriting.{timeKey, packetKey, sameRun, coarseRow, unlessSame, coarseAfter, coarseRows, runs}
 use Rattle.format.specs.Tables.{cellAt, cellsAt}
@@ -17,18 +19,38 @@ use Rattle.format.proofs.Loops.{one-left, none-left}
 use Rattle.format.proofs.Rows.{rows-length, drop-rows}
 use Rattle.format.proofs.Tests.{both-true}
 use Rattle.cells.specs.Reads.{CellIs}
-use Rattle.runs.specs.Runs.{entriesAt, entriesFrom, keyed, runEnd, endFrom, coarseFrom}
+use Rattle.runs.specs.Runs.{entriesAt, entriesFrom, keyed, runKey, runEnd, endFrom, coarseFrom}
 
 -- ---- keys
 
-module _ {a b : ℕ} (time packet time′ packet′ : ℕ) (left : a ≡ time / 524288) (right : b ≡ time′ / 524288) where
-  -- equal time keys leave the test to the packet keys
-  pub same-time : {c d : ℕ} → a ≡ b → c ≡ packet / 131072 → d ≡ packet′ / 131072 → eqb c d ≡ sameRun (keyed time packet) (keyed time′ packet′)
-  same-time h e f = rw (← left, ← right, eq-eqb a b h, e, f)
+-- the mask clears the bits below both keys
+pub key-masked : (time packet : ℕ) → time < 2 ^ 32 → packet < 2 ^ 32 → bitAnd (packet * 4294967296 + time) 0xfffe0000fff80000 ≡ runKey time packet
+key-masked time packet h g =
+    let high : bitAnd packet 0xfffe0000 ≡ packet / 131072 * 131072 = and-high packet 15 17 ∙ rw (shr-mod 15 17 g) in
+    let low : bitAnd time 0xfff80000 ≡ time / 524288 * 524288 = and-high time 13 19 ∙ rw (shr-mod 13 19 h) in
+    and-block 32 packet 0xfffe0000 time 0xfff80000 h (lit< tt) ∙ ap₂ (λ (x y : ℕ). x * 4294967296 + y) high low
 
-  -- other time keys end it
-  pub other-time : (a ≡ b → ⊥) → eqb a b ≡ sameRun (keyed time packet) (keyed time′ packet′)
-  other-time h = rw (← left, ← right, ne-eqb a b h)
+-- numbers with equal words of 32 bits side by side have equal upper words
+upper-same : (x y l r : ℕ) → l < 4294967296 → r < 4294967296 → x * 4294967296 + l ≡ y * 4294967296 + r → x ≡ y
+upper-same x y l r h g e = omega arith
+
+-- equal numbers are equal keys
+pub same-keys : (time packet time′ packet′ : ℕ) → time < 2 ^ 32 → time′ < 2 ^ 32
+    → eqb (runKey time packet) (runKey time′ packet′) ≡ sameRun (keyed time packet) (keyed time′ packet′)
+same-keys time packet time′ packet′ h g = go (eqb (time / 524288) (time′ / 524288)) refl (eqb (packet / 131072) (packet′ / 131072)) refl
+  where
+    go : (b : Bool) → eqb (time / 524288) (time′ / 524288) ≡ b → (c : Bool) → eqb (packet / 131072) (packet′ / 131072) ≡ c
+        → eqb (runKey time packet) (runKey time′ packet′) ≡ both b c
+    go true t true p =
+        let e = eqb-true (time / 524288) (time′ / 524288) t in
+        let f = eqb-true (packet / 131072) (packet′ / 131072) p in
+        eq-eqb (runKey time packet) (runKey time′ packet′) (rw (e, f))
+    go true t false p =
+        ne-eqb (runKey time packet) (runKey time′ packet′) (λ same. eqb-false (packet / 131072) (packet′ / 131072) p (omega arith))
+    go false t c p =
+        ne-eqb (runKey time packet) (runKey time′ packet′) (λ same.
+        let upper = upper-same (packet / 131072 * 131072) (packet′ / 131072 * 131072) (time / 524288 * 524288) (time′ / 524288 * 524288) (omega arith) (omega arith) same in
+        eqb-false (time / 524288) (time′ / 524288) t (omega arith))
 
 -- ---- lists of entries
 

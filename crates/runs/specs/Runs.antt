@@ -1,5 +1,5 @@
 -- Runs of entries that stand in a table: where one ends, and the coarse rows from one on.
-use Prim.Native.Nat.{ℕ, suc, _+_, _*_, _-_}
+use Prim.Native.Nat.{ℕ, suc, _+_, _*_, _-_, _/_}
 use mathlib.Core.List.{List, [], _∷_}
 use Rattle.format.specs.Bytes.{pick, rowsAt}
 use Rattle.format.specs.ClipRecord.{Row}
@@ -17,6 +17,10 @@ entriesFrom t p n k = entriesAt t (p + 20 * k) (n - k)
 -- an entry of which only time and packet count
 abbrev pub keyed : ℕ → ℕ → Row
 keyed time packet = 0 ∷ 0 ∷ time ∷ packet ∷ []
+
+-- both keys of an entry in one number, each where it stands in its cell
+abbrev pub runKey : ℕ → ℕ → ℕ
+runKey time packet = packet / 131072 * 131072 * 4294967296 + time / 524288 * 524288
 
 -- where the run of entry e ends, of which xs are the entries behind, the first of them number k
 unfoldable pub runEnd : Row → ℕ → List Row → ℕ

@@ -1,28 +1,26 @@
 // Runs: a longest stretch of entries of one map with equal keys, told by the row where it begins and the row where it ends.
 ghost use mathlib.Core.Path.{_≡_};
-ghost use Prim.Native.Nat.{_+_, _*_, _/_, _≤_, _<_};
+ghost use Prim.Native.Nat.{_+_, _*_, _≤_, _<_};
 ghost use lib.ListN.{length};
 ghost use Rattle.format.specs.Rewriting.{sameRun, runs};
-ghost use Rattle.runs.specs.Runs.{entriesAt, entriesFrom, keyed, endFrom};
+ghost use Rattle.runs.specs.Runs.{entriesAt, entriesFrom, keyed, runKey, endFrom};
 use cells::cell_at;
-use ep_rows::coarse_time_of;
 
 // The bytes of an entry.
 const ENTRY: usize = 20;
 
-// The packet's key: what is above the bits of the fine packet.
-fn packet_key(packet: u32) -> u32
-    ensures { λ r. ⌜ r ≡ packet / 131072 ⌝ }
+// Both keys in one number: packet and time side by side, with the bits below each key cleared. One load and one mask where the two cells are neighbours.
+fn run_key(time: u32, packet: u32) -> u64
+    ensures { λ r. ⌜ r ≡ runKey time packet ⌝ }
 {
-    packet >> 17
+    ((packet as u64) * 4294967296 + time as u64) & 0xfffe0000fff80000
 }
 
 // Whether two entries with these times and packets have equal keys.
 pub fn same_run(time: u32, packet: u32, other_time: u32, other_packet: u32) -> bool
     ensures { λ r. ⌜ r ≡ sameRun (keyed time packet) (keyed «other_time» «other_packet») ⌝ }
 {
-    coarse_time_of(time) == coarse_time_of(other_time)
-        && packet_key(packet) == packet_key(other_packet)
+    run_key(time, packet) == run_key(other_time, other_packet)
 }
 
 // The row at which the run ends that begins at row `from`, of the n entries at byte p. Each next entry is compared with the run's first.

@@ -1,38 +1,24 @@
--- Equal time keys leave the test to the packet keys.
-use Rattle.runs.proofs.Runs.{same-time, other-time}
+-- Equal numbers are equal keys.
 use borrow.Author.Needs.{needs}
+use mathlib.Core.Path.{_∙_, ap₂}
+use Prim.Native.Nat.{ℕ}
+use lib.Dec.{eqb}
+use Rattle.runs.proofs.Runs.{same-keys}
 use Rattle.runs.proofs.same_run.Statement.{statement}
 use Rattle.runs.proofs.same_run.Tie as tie
 
-coarse-time-of-requires : tie.Need-coarse-time-of-requires
-coarse-time-of-requires c κs = search needs
+run-key-requires : tie.Need-run-key-requires
+run-key-requires c κs = search needs
 
-coarse-time-of-requires-2 : tie.Need-coarse-time-of-requires-2
-coarse-time-of-requires-2 c κs = search needs
-
-packet-key-requires : tie.Need-packet-key-requires
-packet-key-requires c κs = search needs
-
-packet-key-requires-2 : tie.Need-packet-key-requires-2
-packet-key-requires-2 c κs = search needs
+run-key-requires-2 : tie.Need-run-key-requires-2
+run-key-requires-2 c κs = search needs
 
 returns : tie.Need-returns
 returns c =
-    let a = c .before .before .before .before .before .args in
-    same-time (a .time) (a .packet) (a .other-time) (a .other-packet) (c .before .before .before .before .coarse-time-of .ensures) (c .before .before .before .coarse-time-of2 .ensures) (c .before .before .if1 .taken) (c .before .packet-key .ensures) (c .packet-key2 .ensures)
-
-returns-2 : tie.Need-returns-2
-returns-2 c =
-    let a = c .before .before .before .args in
-    other-time (a .time) (a .packet) (a .other-time) (a .other-packet) (c .before .before .coarse-time-of .ensures) (c .before .coarse-time-of2 .ensures) (c .if1 .left)
+    let s = c .before .before in
+    let a = s .args in
+    ap₂ eqb (c .before .run-key .ensures) (c .run-key2 .ensures)
+    ∙ same-keys (a .time) (a .packet) (a .other-time) (a .other-packet) (s .fits .time .fits) (s .fits .other-time .fits)
 
 pub same-run-spec : {M : Type 1} → statement M
-same-run-spec =
-    tie.close
-    (tie.spec
-    coarse-time-of-requires
-    coarse-time-of-requires-2
-    packet-key-requires
-    packet-key-requires-2
-    returns
-    returns-2)
+same-run-spec = tie.close (tie.spec run-key-requires run-key-requires-2 returns)
