@@ -1,20 +1,20 @@
 -- Runs of entries: one run and those behind it, and the loops that walk over them.
 use Prim.Native.Nat.{ℕ, suc, _+_, _*_, _-_, _/_, _^_, _<_, _≤_}
-use mathlib.Core.Path.{_≡_, refl, sym, ap, ap₂, _∙_}
+use mathlib.Core.Path.{_≡_, refl, sym, ap, _∙_}
 use mathlib.Core.List.{List, [], _∷_}
 use mathlib.Core.Bool.{Bool, true, false, not}
 use native.Mathlib.Numerals.{add-one}
 use native.Mathlib.Omega.{arith}
 use borrow.Author.Tests.{eqb-true, eqb-false, eq-eqb, ne-eqb, not-true, not-false}
 use lib.ListN.{length, getD, drop}
-use lib.Bits.{bitAnd, and-block, and-high}
-use lib.Pow.{shr-mod}
-use lib.Dec.{eqb, lit<}
+use lib.Bits.{bitAnd}
+use lib.Dec.{eqb}
 use Rattle.format.specs.Bytes.{both, pick}
 use Rattle.format.specs.ClipRecord.{Row, time, packet}
 use Rattle.format.specs.Rewriting.{timeKey, packetKey, sameRun, coarseRow, unlessSame, coarseAfter, coarseRows, runs}
 use Rattle.format.specs.Tables.{cellAt, cellsAt}
 use Rattle.format.proofs.Cell.{item-at}
+use Rattle.format.proofs.Fields.{words-masked}
 use Rattle.format.proofs.Loops.{one-left, none-left}
 use Rattle.format.proofs.Rows.{rows-length, drop-rows}
 use Rattle.format.proofs.Tests.{both-true}
@@ -25,10 +25,7 @@ use Rattle.runs.specs.Runs.{entriesAt, entriesFrom, keyed, runKey, runEn
 
 -- the mask clears the bits below both keys
 pub key-masked : (time packet : ℕ) → time < 2 ^ 32 → packet < 2 ^ 32 → bitAnd (packet * 4294967296 + time) 0xfffe0000fff80000 ≡ runKey time packet
-key-masked time packet h g =
-    let high : bitAnd packet 0xfffe0000 ≡ packet / 131072 * 131072 = and-high packet 15 17 ∙ rw (shr-mod 15 17 g) in
-    let low : bitAnd time 0xfff80000 ≡ time / 524288 * 524288 = and-high time 13 19 ∙ rw (shr-mod 13 19 h) in
-    and-block 32 packet 0xfffe0000 time 0xfff80000 h (lit< tt) ∙ ap₂ (λ (x y : ℕ). x * 4294967296 + y) high low
+key-masked time packet h g = words-masked packet time 17 19 (omega arith) (omega arith) g h
 
 -- numbers with equal words of 32 bits side by side have equal upper words
 upper-same : (x y l r : ℕ) → l < 4294967296 → r < 4294967296 → x * 4294967296 + l ≡ y * 4294967296 + r → x ≡ y
