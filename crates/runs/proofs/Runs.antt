@@ -1,5 +1,5 @@
 -- Runs of entries: one run and those behind it, and the loops that walk over them.
-use Prim.Native.Nat.{ℕ, suc, _+_, _*_, _-_, _/_, _^_, _<_, _≤_}
+use Prim.Native.Nat.{ℕ, zero, suc, _+_, _*_, _-_, _/_, _%_, _^_, _<_, _≤_}
 use mathlib.Core.Path.{_≡_, refl, sym, ap, _∙_}
 use mathlib.Core.List.{List, [], _∷_}
 use mathlib.Core.Bool.{Bool, true, false, not}
@@ -19,13 +19,22 @@ use Rattle.format.proofs.Loops.{one-left, none-left}
 use Rattle.format.proofs.Rows.{rows-length, drop-rows}
 use Rattle.format.proofs.Tests.{both-true}
 use Rattle.cells.specs.Reads.{CellIs}
-use Rattle.runs.specs.Runs.{entriesAt, entriesFrom, keyed, runKey, runEnd, endFrom, coarseFrom}
+use Rattle.runs.specs.Runs.{entriesAt, entriesFrom, keyed, runKey, runEnd, endFrom, coarseFrom, begun}
 
 -- ---- keys
 
 -- the mask clears the bits below both keys
-pub key-masked : (time packet : ℕ) → time < 2 ^ 32 → packet < 2 ^ 32 → bitAnd (packet * 4294967296 + time) 0xfffe0000fff80000 ≡ runKey time packet
-key-masked time packet h g = words-masked packet time 17 19 (omega arith) (omega arith) g h
+pub key-masked : (pair : ℕ) → pair < 2 ^ 64 → bitAnd pair 0xfffe0000fff80000 ≡ runKey (pair % 4294967296) (pair / 4294967296)
+key-masked pair h =
+    let parts : pair ≡ pair / 4294967296 * 4294967296 + pair % 4294967296 = omega arith in
+    ap (λ (x : ℕ). bitAnd x 0xfffe0000fff80000) parts ∙ words-masked (pair / 4294967296) (pair % 4294967296) 17 19 (omega arith) (omega arith) (omega arith) (omega arith)
+
+-- a packet and a time side by side are told apart again
+pub pair-time : (time packet : ℕ) → time < 2 ^ 32 → (packet * 4294967296 + time) % 4294967296 ≡ time
+pair-time time packet h = omega arith
+
+pub pair-packet : (time packet : ℕ) → time < 2 ^ 32 → (packet * 4294967296 + time) / 4294967296 ≡ packet
+pair-packet time packet h = omega arith
 
 -- numbers with equal words of 32 bits side by side have equal upper words
 upper-same : (x y l r : ℕ) → l < 4294967296 → r < 4294967296 → x * 4294967296 + l ≡ y * 4294967296 + r → x ≡ y
@@ -225,3 +234,41 @@ module _ (t : List ℕ) (p n : ℕ) where
   -- all are counted
   pub counted-done : (count k : ℕ) → Counted count k → n ≤ k → count ≡ runs (entriesAt t p n)
   counted-done count k i h = let rest = rw (left-done k h) at (i .rest) in omega arith
+
+  -- ---- from row to row: the runs that begin there or later
+
+  -- behind the last row none begins
+  pub begun-none : begun t p n n ≡ []
+  unfolding coarseAfter
+  begun-none = go n refl
+    where
+      go : (m : ℕ) → n ≡ m → begun t p n m ≡ []
+      go zero e = rw e
+      go (suc m) e = rw (left-done (suc m) (omega arith))
+
+  -- the first row begins one
+  pub begun-first : 0 < n → begun t p n 0 ≡ coarseRow 0 (cellsAt t 5 (p + 20 * 0)) ∷ begun t p n 1
+  begun-first h = ap coarseRows (sym left-all ∙ left-turn 0 h)
+
+  -- a later row does unless it is in the run of the row before it
+  pub begun-later : (k : ℕ) → 0 < k → k < n → begun t p n k
+      ≡ unlessSame (sameRun (cellsAt t 5 (p + 20 * k - 20)) (cellsAt t 5 (p + 20 * k))) (coarseRow k (cellsAt t 5 (p + 20 * k))) (begun t p n (suc k))
+  unfolding coarseAfter
+  begun-later zero h g = absurd (omega arith)
+  begun-later (suc k) h g =
+      let e = add-one (suc k) in
+      let before : p + 20 * suc k - 20 ≡ p + 20 * k = omega arith in
+      rw (left-turn (suc k) g, e, before)
+
+  -- there are not more than all
+  pub begun-few : (k : ℕ) → k ≤ n → length (begun t p n k) ≤ runs (entriesAt t p n)
+  unfolding runs
+  begun-few zero h = omega arith
+  begun-few (suc zero) h = let e = ap length (begun-first h) in omega (arith, e)
+  begun-few (suc (suc k)) h =
+      go (sameRun (cellsAt t 5 (p + 20 * suc k - 20)) (cellsAt t 5 (p + 20 * suc k))) (begun-later (suc k) (omega arith) h) (begun-few (suc k) (omega arith))
+    where
+      go : (b : Bool) → begun t p n (suc k) ≡ unlessSame b (coarseRow (suc k) (cellsAt t 5 (p + 20 * suc k))) (begun t p n (suc (suc k)))
+          → length (begun t p n (suc k)) ≤ runs (entriesAt t p n) → length (begun t p n (suc (suc k))) ≤ runs (entriesAt t p n)
+      go true e few = let l = ap length e in omega arith
+      go false e few = let l = ap length e in omega arith
