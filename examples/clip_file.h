@@ -124,14 +124,15 @@ static inline int same_record(
            same_rows(s->entries, a->entries, t->entries, b->entries, sizeof *s->entries);
 }
 
-/* Reads two clips and tells whether they have the same record. `refusal` is that of the first one that isn't read. */
+/* Reads two clips and tells whether they have the same record; the refusals are those of the two readings. */
 static inline int same_clip(
-    const uint8_t *a, size_t a_bytes, const uint8_t *b, size_t b_bytes, uint32_t *refusal)
+    const uint8_t *a, size_t a_bytes, const uint8_t *b, size_t b_bytes, uint32_t *a_refusal, uint32_t *b_refusal)
 {
     struct clpi_tables s = {0}, t = {0};
     struct clpi_reading p = read_clip(a, a_bytes, &s), q = read_clip(b, b_bytes, &t);
     int same = same_record(&p, &s, &q, &t);
-    *refusal = p.refusal ? p.refusal : q.refusal;
+    *a_refusal = p.refusal;
+    *b_refusal = q.refusal;
     free_tables(&s);
     free_tables(&t);
     return same;

@@ -32,5 +32,9 @@ int main(int argc, char **argv)
     }
     free_tables(&t);
     free(file);
+    if (fflush(stdout) != 0 || ferror(stdout)) {
+        perror("standard output");
+        return 2;
+    }
     return r.refusal != 0;
 }

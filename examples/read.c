@@ -48,5 +48,9 @@ int main(int argc, char **argv)
         list(&r, &t);
     free_tables(&t);
     free(file);
+    if (fflush(stdout) != 0 || ferror(stdout)) {
+        perror("standard output");
+        return 2;
+    }
     return r.refusal != 0;
 }

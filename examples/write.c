@@ -9,7 +9,8 @@
 #include "clip_file.h"
 #include "clpi.h"
 
-/* Writes the record into an output of the length that it needs, which the caller frees. */
+/* Writes the record into an output of the length that it needs, which the caller frees. 23 is left where there is no
+ * memory for it. */
 static struct clpi_writing write_clip(const struct clpi_reading *r, const struct clpi_tables *t, uint8_t **output)
 {
     struct clpi_writing w = clpi_write_tables(r, t, NULL, 0);
@@ -40,6 +41,8 @@ int main(int argc, char **argv)
     if (w.refusal)
         fprintf(stderr, "refused %" PRIu32 "\n", w.refusal);
     done = !w.refusal && fwrite(output, 1, w.bytes_written, stdout) == w.bytes_written && fflush(stdout) == 0;
+    if (!w.refusal && !done)
+        perror("standard output");
     free(output);
     free_tables(&t);
     free(file);

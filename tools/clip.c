@@ -1,11 +1,7 @@
-/* clip: rewrites a clip file, and tells the minutes remaining in one. The rules of rewriting are in docs/DECISIONS.md.
+/* clip: lists a clip file, rewrites one, and tells the minutes remaining in one. The rules of rewriting are in
+ * docs/DECISIONS.md; how it is called, and with what it ends, is in words.h.
  *
- *     clip rewrite OLD NEW
- *     clip minutes FILE TIME
- *
- * It ends with 0 where all is done; 1 where the file is refused, by the number that is printed; 2 where it is not
- * called as above, or NEW is there already; 3 where the system fails it. But for 0, it leaves no NEW behind, unless it
- * says that it could not take it back, or that another file has the name. */
+ * Compiled with two strings: VERSION, and LIST_PROGRAM, the path of the listing program. */
 #define _POSIX_C_SOURCE 200809L
 #include <errno.h>
 #include <inttypes.h>
@@ -16,48 +12,9 @@
 
 #include "clip_file.h"
 #include "clpi.h"
+#include "list.h"
 #include "new_file.h"
-
-enum status { DONE = 0, REFUSED = 1, WRONG_USE = 2, FAILED = 3 };
-
-/* The refusals in plain words. */
-static const struct {
-    uint32_t refusal;
-    const char *words;
-} refusals[] = {
-    {CLPI_HEADER_SHORT, "the file is too short for the header of a clip file"},
-    {CLPI_LETTERS, "the file is no clip file: it begins neither with HDMV nor with CLPI"},
-    {CLPI_CLIP_INFO, "the clip information passes the file's end"},
-    {CLPI_SEQUENCES, "the sequences pass the file's end"},
-    {CLPI_PROGRAMS, "the programs pass the file's end"},
-    {CLPI_CPI, "the length or the map headers of the entry index pass the file's end"},
-    {CLPI_EP_MAP, "the address, the fine address or the rows of an entry map pass their end"},
-    {CLPI_MARKS, "the marks pass the file's end"},
-    {CLPI_FILE_TOO_LONG, "the file is longer than 536870912 bytes"},
-    {CLPI_TABLE_SHORT, "there is no memory for a table as long as the file's rows need"},
-    {CLPI_ROWS, "rows are stated that are not there"},
-    {CLPI_OUTPUT_SHORT, "there is no room for the new file"},
-    {CLPI_CELLS, "a number is too large for its field in a clip file"},
-    {CLPI_RUNS, "an entry map has over 65535 runs, more than a clip file can hold"},
-};
-
-/* Says why a file is refused. */
-static int refused(const char *path, uint32_t refusal)
-{
-    const char *words = "";
-    for (size_t i = 0; i < sizeof refusals / sizeof *refusals; i++)
-        if (refusals[i].refusal == refusal)
-            words = refusals[i].words;
-    fprintf(stderr, "clip: %s: refused %" PRIu32 ": %s\n", path, refusal, words);
-    return REFUSED;
-}
-
-/* Says what the system could not do. */
-static int failed(const char *path)
-{
-    fprintf(stderr, "clip: %s: %s\n", path, strerror(errno));
-    return FAILED;
-}
+#include "words.h"
 
 /* Tells whether something has a name, be it a link that leads nowhere. */
 static int is_there(const char *path)
@@ -75,7 +32,7 @@ static int in_the_way(const char *path)
 
 /* The signals that end the program, the draft that they take away then, and whether NEW has its name. */
 static const int ends[] = {SIGINT, SIGTERM, SIGHUP, SIGQUIT, SIGALRM, SIGXCPU};
-static const char *volatile unfinished;
+static const struct new_file *volatile unfinished;
 static volatile sig_atomic_t finished;
 static sigset_t held, callers; /* these signals; and those that the caller holds back */
 
@@ -84,8 +41,8 @@ static void interrupted(int number)
 {
     if (finished)
         _exit(DONE);
-    if (unfinished)
-        unlink(unfinished);
+    if (unfinished && unfinished->draft && is_the_file(unfinished, unfinished->draft))
+        unlink(unfinished->draft);
     signal(number, SIG_DFL);
     raise(number);
 }
@@ -120,40 +77,55 @@ static void let_signals(void)
     sigprocmask(SIG_SETMASK, &callers, NULL);
 }
 
+/* A file in memory: OLD, or what is to be NEW. */
+struct image {
+    const char *path;
+    uint8_t *bytes;
+    size_t count;
+};
+
 /* Makes the new file's bytes; the caller frees them. */
-static int rewritten(const char *path, const uint8_t *old, size_t bytes, uint8_t **output, size_t *output_bytes)
+static int rewritten(const struct image *old, struct image *new)
 {
-    struct clpi_length length = clpi_rewritten_length(old, bytes);
+    struct clpi_length length = clpi_rewritten_length(old->bytes, old->count);
     struct clpi_writing w;
     if (length.refusal)
-        return refused(path, length.refusal);
-    if (!(*output = malloc(length.bytes)))
-        return failed(path);
-    w = clpi_rewrite(old, bytes, *output, length.bytes);
+        return refused(old->path, length.refusal);
+    if (!(new->bytes = malloc(length.bytes)))
+        return failed(old->path);
+    w = clpi_rewrite(old->bytes, old->count, new->bytes, length.bytes);
     if (w.refusal)
-        return refused(path, w.refusal);
-    *output_bytes = w.bytes_written;
+        return refused(old->path, w.refusal);
+    new->count = w.bytes_written;
     return DONE;
 }
 
-/* Reads the draft back: its bytes must be those written, and its record the old file's. */
-static int checked(const struct new_file *f, const uint8_t *old, size_t bytes, const uint8_t *output, size_t output_bytes)
+/* Tells whether the copy has the old file's record; where one of them is refused, says which. */
+static int is_same(const struct image *old, const struct image *copy)
 {
-    size_t copy_bytes;
-    uint32_t refusal = CLPI_OK;
-    uint8_t *copy = load(f->draft, &copy_bytes);
+    uint32_t of_old, of_copy;
+    int same = same_clip(old->bytes, old->count, copy->bytes, copy->count, &of_old, &of_copy);
+    if (of_old)
+        refused(old->path, of_old);
+    if (of_copy)
+        refused(copy->path, of_copy);
+    if (!same && !of_old && !of_copy)
+        fprintf(stderr, "clip: %s: the copy's record is not the old file's\n", copy->path);
+    return same;
+}
+
+/* Reads the draft back: its bytes must be those written, and its record the old file's. */
+static int checked(const char *draft, const struct image *old, const struct image *new)
+{
+    struct image copy = {new->path, NULL, 0};
     int status = FAILED;
-    if (!copy)
-        return failed(f->path);
-    if (copy_bytes != output_bytes || memcmp(copy, output, copy_bytes) != 0)
-        fprintf(stderr, "clip: %s: the copy reads back with other bytes than were written\n", f->path);
-    else if (same_clip(old, bytes, copy, copy_bytes, &refusal))
+    if (!(copy.bytes = load(draft, &copy.count)))
+        return failed(new->path);
+    if (copy.count != new->count || memcmp(copy.bytes, new->bytes, copy.count) != 0)
+        fprintf(stderr, "clip: %s: the copy reads back with other bytes than were written\n", new->path);
+    else if (is_same(old, &copy))
         status = DONE;
-    else if (refusal)
-        refused(f->path, refusal);
-    else
-        fprintf(stderr, "clip: %s: the copy's record is not the old file's\n", f->path);
-    free(copy);
+    free(copy.bytes);
     return status;
 }
 
@@ -173,17 +145,17 @@ static int placed(struct new_file *f)
 }
 
 /* Writes the new file beside its place, checks it, and gives it its name. */
-static int put_new(const char *path, const uint8_t *old, size_t bytes, const uint8_t *output, size_t output_bytes)
+static int put_new(const struct image *old, const struct image *new)
 {
     struct new_file f;
     int status, started;
     hold_signals();
-    started = start_file(&f, path);
-    unfinished = f.draft;
+    started = start_file(&f, new->path);
+    unfinished = &f;
     let_signals();
-    if (!started || !write_file(&f, output, output_bytes))
-        status = failed(path);
-    else if ((status = checked(&f, old, bytes, output, output_bytes)) == DONE)
+    if (!started || !write_file(&f, new->bytes, new->count))
+        status = failed(new->path);
+    else if ((status = checked(f.draft, old, new)) == DONE)
         status = placed(&f);
     hold_signals();
     unfinished = NULL;
@@ -196,20 +168,20 @@ static int put_new(const char *path, const uint8_t *old, size_t bytes, const uin
 /* clip rewrite OLD NEW. Once NEW is there all is done, whether or not the line that says so can be printed. */
 static int rewrite(const char *old_path, const char *new_path)
 {
-    uint8_t *old, *output = NULL;
-    size_t bytes, output_bytes = 0;
+    struct image old = {old_path, NULL, 0}, new = {new_path, NULL, 0};
     int status;
+    catch_signals();
     if (is_there(new_path))
         return in_the_way(new_path);
-    if (!(old = load(old_path, &bytes)))
+    if (!(old.bytes = load(old_path, &old.count)))
         return failed(old_path);
-    status = rewritten(old_path, old, bytes, &output, &output_bytes);
+    status = rewritten(&old, &new);
     if (status == DONE)
-        status = put_new(new_path, old, bytes, output, output_bytes);
+        status = put_new(&old, &new);
     if (status == DONE)
-        printf("%s: %zu bytes, read back; the record is that of %s\n", new_path, output_bytes, old_path);
-    free(output);
-    free(old);
+        printf("%s: %zu bytes, read back; the record is that of %s\n", new_path, new.count, old_path);
+    free(new.bytes);
+    free(old.bytes);
     return status;
 }
 
@@ -229,23 +201,42 @@ static int minutes(const char *path, uint64_t at)
         status = refused(path, r.refusal);
     } else {
         left = clpi_minutes_remaining((const uint8_t *)t.stcs, t.stcs_room * sizeof *t.stcs, r.stcs, at);
-        if (printf("%" PRIu64 "\n", left.value) < 0 || fflush(stdout) != 0)
-            status = failed("standard output");
+        printf("%" PRIu64 "\n", left.value);
+        status = printed();
     }
     free_tables(&t);
     free(file);
     return status;
 }
 
+/* Tells whether a word asks for help. */
+static int asks_help(const char *word)
+{
+    return strcmp(word, "--help") == 0 || strcmp(word, "-h") == 0;
+}
+
+/* Prints the version. */
+static int version(void)
+{
+    printf("clip %s\n", VERSION);
+    return printed();
+}
+
 int main(int argc, char **argv)
 {
+    const char *command = argc > 1 ? argv[1] : "";
     uint64_t at;
-    catch_signals();
-    if (argc == 4 && strcmp(argv[1], "rewrite") == 0)
+    if ((argc == 2 || argc == 3) && (strcmp(command, "help") == 0 || asks_help(command)))
+        return help(argv[2]);
+    if (argc == 3 && asks_help(argv[2]))
+        return help(command);
+    if (argc == 2 && strcmp(command, "--version") == 0)
+        return version();
+    if ((argc == 2 || argc == 3) && strcmp(command, "list") == 0)
+        return list(argv[2]);
+    if (argc == 4 && strcmp(command, "rewrite") == 0)
         return rewrite(argv[2], argv[3]);
-    if (argc == 4 && strcmp(argv[1], "minutes") == 0 && number(argv[3], &at))
+    if (argc == 4 && strcmp(command, "minutes") == 0 && number(argv[3], &at))
         return minutes(argv[2], at);
-    fprintf(stderr, "usage: clip rewrite OLD NEW     write the record of a clip file as a new file\n"
-                    "       clip minutes FILE TIME   minutes remaining at a time in 90 kHz ticks, 0 to 2^64 - 1\n");
-    return WRONG_USE;
+    return wrong_use();
 }

@@ -2,6 +2,7 @@
 #define _POSIX_C_SOURCE 200809L
 #include <errno.h>
 #include <signal.h>
+#include <stdio.h>
 #include <stdlib.h>
 #include <string.h>
 #include <sys/stat.h>
@@ -19,6 +20,10 @@ int __real_link(const char *from, const char *to);
 int __wrap_link(const char *from, const char *to);
 int __real_unlink(const char *path);
 int __wrap_unlink(const char *path);
+void *__real_malloc(size_t bytes);
+void *__wrap_malloc(size_t bytes);
+void *__real_realloc(void *old, size_t bytes);
+void *__wrap_realloc(void *old, size_t bytes);
 
 /* Tells whether a fault is the one asked for. */
 static int is(const char *fault)
@@ -55,11 +60,29 @@ ssize_t __wrap_write(int fd, const void *bytes, size_t count)
     return __real_write(fd, bytes, count < 7 ? count : 7);
 }
 
-/* A file or a folder that doesn't reach the medium; a program that is ended while it waits. */
+/* Another file in the place of the one that is open. */
+static void take_name(int fd)
+{
+    char open_file[32], name[4096];
+    ssize_t n;
+    snprintf(open_file, sizeof open_file, "/proc/self/fd/%d", fd);
+    if ((n = readlink(open_file, name, sizeof name - 1)) > 0) {
+        name[n] = 0;
+        __real_unlink(name);
+        __real_link("old", name);
+    }
+}
+
+/* A file or a folder that doesn't reach the medium; a program that is ended while it waits, also where another file has
+ * got the draft's name. */
 int __wrap_fsync(int fd)
 {
     struct stat s;
     int folder = fstat(fd, &s) == 0 && S_ISDIR(s.st_mode);
+    if (is("ended beside another draft")) {
+        take_name(fd);
+        raise(SIGTERM);
+    }
     if (is("ended while waiting"))
         raise(SIGTERM);
     if (is("alarm while waiting"))
@@ -103,4 +126,25 @@ int __wrap_unlink(const char *path)
         return -1;
     }
     return __real_unlink(path);
+}
+
+/* No memory for the new file's bytes. */
+void *__wrap_malloc(size_t bytes)
+{
+    if (is("no memory")) {
+        errno = ENOMEM;
+        return NULL;
+    }
+    return __real_malloc(bytes);
+}
+
+/* No memory for the first table that is needed, which is one of OLD's; a file's own bytes are given more than that. */
+void *__wrap_realloc(void *old, size_t bytes)
+{
+    static int calls;
+    if (bytes < 65536 && is("no table") && calls++ == 0) {
+        errno = ENOMEM;
+        return NULL;
+    }
+    return __real_realloc(old, bytes);
 }

@@ -210,7 +210,7 @@ pub struct Table<'a> {
 
 /// What the questions are asked of: the rate, the packet count, and tables by their numbers.
 #[derive(Clone, Copy)]
-pub struct Lent<'a> {
+pub struct Input<'a> {
     pub rate: u32,
     pub packets: u32,
     pub tables: [Table<'a>; 9],
@@ -224,9 +224,9 @@ fn number(bytes: &[u8]) -> u32 {
     u32::from_le_bytes(bytes.try_into().expect("four bytes"))
 }
 
-impl<'a> Lent<'a> {
+impl<'a> Input<'a> {
     /// The whole rows that a table's bytes hold.
-    pub fn lent_rows(&self, table: usize) -> usize {
+    pub fn room(&self, table: usize) -> usize {
         self.tables[table].bytes.len() / row_bytes(table)
     }
 
@@ -269,5 +269,5 @@ impl<'a> Lent<'a> {
 /// Something that answers as the library does: the library itself, or a wrong answerer that must be caught.
 pub trait Answerer {
     /// The answer to a question asked of the tables.
-    fn ask(&mut self, question: Question, lent: &Lent) -> Answer;
+    fn ask(&mut self, question: Question, input: &Input) -> Answer;
 }

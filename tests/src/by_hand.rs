@@ -1,7 +1,7 @@
 //! Tables made by hand, with cells that no file gives. Where they fit the Rust's fields it is asked too, on a record with
 //! these rows; elsewhere the plain answers alone stand beside the library's.
 
-use crate::answers::{Answerer, Lent, Table};
+use crate::answers::{Answerer, Input, Table};
 use crate::compare::{Difference, must};
 use crate::guarded::Guarded;
 use crate::make::Maker;
@@ -60,14 +60,14 @@ impl ByHand {
             tables[table] = Table { bytes: guarded.hold(&self.made[table]), rows: self.rows[table] };
         }
         let [rate, packets] = [(); 2].map(|()| cell(&mut random));
-        let lent = Lent { rate, packets, tables, null: random.one_in(2) };
+        let input = Input { rate, packets, tables, null: random.one_in(2) };
         if narrow {
-            rust_answers::hold(&lent, &mut self.clip);
+            rust_answers::hold(&input, &mut self.clip);
         }
         let clip = narrow.then_some(&self.clip);
-        self.questions.compare(&lent, clip, &mut random, answerer).map_err(|why| format!("made by hand: {why}"))?;
+        self.questions.compare(&input, clip, &mut random, answerer).map_err(|why| format!("made by hand: {why}"))?;
         for (table, made) in self.made.iter().enumerate() {
-            must(black_box(lent.tables[table].bytes) == &made[..], || {
+            must(black_box(input.tables[table].bytes) == &made[..], || {
                 format!("made by hand: table {} has changed", table + 1)
             })?;
         }

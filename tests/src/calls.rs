@@ -1,6 +1,6 @@
 //! The library's questions as include/clpi.h declares them.
 
-use crate::answers::{Answer, Answerer, Lent, Question, Question::*, Table};
+use crate::answers::{Answer, Answerer, Input, Question, Question::*, Table};
 use crate::ours::Library;
 use crate::record::{ATCS, ENTRIES, EXTENSIONS, MAPS, PROGRAMS, STCS, STREAMS};
 
@@ -71,7 +71,7 @@ calls! {
 }
 
 /// Tables as the library takes them.
-struct Calls<'a>(&'a Lent<'a>);
+struct Calls<'a>(&'a Input<'a>);
 
 impl Calls<'_> {
     /// A table's first byte, its length and its stated rows.
@@ -129,8 +129,8 @@ fn seconds(seconds: Seconds) -> Answer {
 
 impl Answerer for Library {
     /// Makes the question's call.
-    fn ask(&mut self, question: Question, lent: &Lent) -> Answer {
-        let calls = Calls(lent);
+    fn ask(&mut self, question: Question, input: &Input) -> Answer {
+        let calls = Calls(input);
         let (atcs, programs, maps) = ([ATCS, STCS], [PROGRAMS, STREAMS], [MAPS, ENTRIES]);
         match question {
             ExtensionEntry(id1, id2) => calls.extension_entry(id1, id2),
@@ -162,10 +162,10 @@ impl Answerer for Library {
             MapByKind(kind) => calls.one_with(MAPS, clpi_ep_map_by_kind, kind),
             NextVideoMap(from) => calls.one_with(MAPS, clpi_next_video_ep_map, from),
             // SAFETY: these take numbers alone.
-            ClipByteLen => Answer::of(unsafe { clpi_clip_byte_len(lent.packets) }),
-            SpnToByte(spn) => unsafe { clpi_spn_to_byte(lent.packets, spn) },
-            ByteToSpn(byte) => unsafe { clpi_byte_to_spn(lent.packets, byte) },
-            TransferDuration => seconds(unsafe { clpi_transfer_duration_secs(lent.rate, lent.packets) }),
+            ClipByteLen => Answer::of(unsafe { clpi_clip_byte_len(input.packets) }),
+            SpnToByte(spn) => unsafe { clpi_spn_to_byte(input.packets, spn) },
+            ByteToSpn(byte) => unsafe { clpi_byte_to_spn(input.packets, byte) },
+            TransferDuration => seconds(unsafe { clpi_transfer_duration_secs(input.rate, input.packets) }),
         }
     }
 }

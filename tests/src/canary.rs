@@ -41,8 +41,8 @@ pub struct Canary {
 }
 
 impl Canary {
-    /// Lends so many bytes; they and what is about them are filled with the pattern.
-    pub fn lend(&mut self, length: usize, place: Place) {
+    /// A buffer of so many bytes; they and what is about them are filled with the pattern.
+    pub fn reset(&mut self, length: usize, place: Place) {
         (self.length, self.place) = (length, place);
         let whole = place.front + length + EDGE;
         if self.buffer.len() < whole {
@@ -66,11 +66,11 @@ impl Canary {
     /// Whether a byte has changed, but for the bytes given of the front of what is lent.
     pub fn changed_beyond(&self, written: usize) -> bool {
         let front = self.place.front;
-        !self.as_lent(0, front) || !self.as_lent(front + written, front + self.length + EDGE)
+        !self.is_untouched(0, front) || !self.is_untouched(front + written, front + self.length + EDGE)
     }
 
     /// Whether the bytes of the buffer between two places are as they were lent.
-    fn as_lent(&self, from: usize, to: usize) -> bool {
+    fn is_untouched(&self, from: usize, to: usize) -> bool {
         let mut at = from;
         while at < to {
             let next = to.min(at + PERIOD);

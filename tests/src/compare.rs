@@ -1,7 +1,7 @@
 //! The comparison of one file: a reader, an answerer and a writer against the Rust, refusals against the plain reader of the
 //! rules.
 
-use crate::answers::{Answerer, Lent, Table};
+use crate::answers::{Answerer, Input, Table};
 use crate::expected;
 use crate::model;
 use crate::mutation::Mutation;
@@ -43,8 +43,8 @@ pub fn must(holds: bool, difference: impl FnOnce() -> Difference) -> Result<(), 
 }
 
 /// The tables as a reader has filled them, of these lengths in bytes, with the rows of the record stated.
-fn filled<'a>(tables: &'a Tables, record: &Record, lengths: [usize; 9], null: bool) -> Lent<'a> {
-    Lent {
+fn filled<'a>(tables: &'a Tables, record: &Record, lengths: [usize; 9], null: bool) -> Input<'a> {
+    Input {
         rate: record.scalars.ts_recording_rate,
         packets: record.scalars.number_of_source_packets,
         tables: std::array::from_fn(|table| Table {
@@ -178,7 +178,7 @@ impl Comparison {
 
     /// Lends tables that suffice: the answer and every cell must be the Rust's, and nothing else may change.
     fn must_read(&mut self, file: &[u8], lengths: [usize; 9], reader: &mut impl Reader) -> Result<(), Difference> {
-        self.tables.lend(lengths, &mut self.random);
+        self.tables.reset(lengths, &mut self.random);
         let reading = reader.read(file, self.tables.slices());
         let wanted = Reading::accepted(&self.expected);
         must(reading == wanted, || format!("answered {reading:?}\nnot {wanted:?}"))?;
@@ -202,8 +202,8 @@ impl Comparison {
         lengths: [usize; 9],
         answerer: &mut impl Answerer,
     ) -> Result<(), Difference> {
-        let lent = filled(&self.tables, &self.expected, lengths, self.random.one_in(2));
-        self.questions.compare(&lent, Some(clip), &mut self.random, answerer)?;
+        let input = filled(&self.tables, &self.expected, lengths, self.random.one_in(2));
+        self.questions.compare(&input, Some(clip), &mut self.random, answerer)?;
         self.must_be_filled().map_err(|why| format!("after the questions: {why}"))
     }
 
@@ -215,9 +215,9 @@ impl Comparison {
         lengths: [usize; 9],
         writer: &mut impl Writer,
     ) -> Result<(), Difference> {
-        let lent = filled(&self.tables, &self.expected, lengths, self.random.one_in(2));
+        let input = filled(&self.tables, &self.expected, lengths, self.random.one_in(2));
         let info = Info::of(&self.expected.scalars);
-        self.writings.accepted(file, clip, info, &lent, &mut self.random, writer)?;
+        self.writings.accepted(file, clip, info, &input, &mut self.random, writer)?;
         self.must_be_filled().map_err(|why| format!("after writing: {why}"))
     }
 
@@ -267,7 +267,7 @@ impl Comparison {
         wanted: Reading,
         reader: &mut impl Reader,
     ) -> Result<(), Difference> {
-        self.tables.lend(lengths, &mut self.random);
+        self.tables.reset(lengths, &mut self.random);
         let reading = reader.read(file, self.tables.slices());
         must(reading == wanted, || format!("lent {lengths:?} bytes, answered {reading:?}\nnot {wanted:?}"))?;
         let changed = self.tables.changed_beyond([0; 9]);
@@ -292,9 +292,9 @@ impl Comparison {
     fn some_short(&mut self, file: &[u8], reader: &mut impl Reader) -> Result<(), Difference> {
         let rows = self.expected.all_rows();
         let any = std::array::from_fn(|table| rows[table] - self.random.below(1 + rows[table].min(2) as u64) as usize);
-        for lent in [any, [0; 9]] {
-            let lengths = std::array::from_fn(|table| lent[table] * row_bytes(table));
-            match (0..9).find(|&table| lent[table] < rows[table]) {
+        for input in [any, [0; 9]] {
+            let lengths = std::array::from_fn(|table| input[table] * row_bytes(table));
+            match (0..9).find(|&table| input[table] < rows[table]) {
                 Some(table) => self.must_refuse(file, lengths, Reading::too_short(table, rows[table]), reader)?,
                 None => self.must_read(file, lengths, reader)?,
             }

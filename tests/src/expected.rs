@@ -1,7 +1,7 @@
 //! What the Rust's record is as nine tables of cells.
 
 use crate::record::{ATCS, ENTRIES, EXTENSIONS, MAPS, Record, STCS, Scalars};
-use oracle::bdmv::clpi::{ClipInformation, Cpi, ProgramInfo, SequenceInfo};
+use oracle::bdmv::clpi::{ClipInformation, Cpi, ProgramInfo, SequenceInfo, StreamCodingInfo};
 use oracle::bdmv::extension::ExtensionDataEntry;
 
 /// Puts the Rust's record into `out`. The starts of table 7 are 0: the Rust keeps the data, not its place.
@@ -57,15 +57,16 @@ fn programs(info: &ProgramInfo, program_rows: &mut Vec<u32>, stream_rows: &mut V
                 stream.stream_coding_type.into(),
                 stream.format_info_byte.into(),
                 stream.aspect_ratio_nibble.into(),
-                language(stream.language_code),
+                language(stream),
             ]);
         }
     }
 }
 
-/// A language as one number: A to Z lowered byte by byte, the first byte highest; three zero bytes are 0.
-fn language(code: [u8; 3]) -> u32 {
-    code.iter().fold(0, |number, byte| number << 8 | u32::from(byte.to_ascii_lowercase()))
+/// A language as one number, by the code points of the Rust's, the first one highest; none is 0.
+fn language(stream: &StreamCodingInfo) -> u32 {
+    let text = stream.language().unwrap_or_default();
+    text.chars().fold(0, |number, letter| number << 8 | u32::from(letter))
 }
 
 /// Tables 5 and 6.

@@ -2,7 +2,7 @@
 
 use crate::answers::Answerer;
 use crate::compare::{Comparison, Difference, must};
-use crate::made::{Lender, Made, of_the_rust, small};
+use crate::made::{Buffers, Made, of_the_rust, small};
 use crate::make::Maker;
 use crate::ours::{Library, Reader};
 use crate::random::Random;
@@ -283,23 +283,23 @@ pub struct Limits<R, A, W> {
 impl<R: Reader, A: Answerer, W: Writer> Limits<R, A, W> {
     /// Compares one record.
     fn record(&mut self, case: &Case) -> Result<(), Difference> {
-        let (mut lender, mut writings, mut random) = (Lender::new(), Writings::default(), Random::new(7));
+        let (mut buffers, mut writings, mut random) = (Buffers::new(), Writings::default(), Random::new(7));
         let mut made = small();
         (case.change)(&mut made);
-        let (lent, clip) = lender.lend(&made);
+        let (input, clip) = buffers.hold(&made);
         let writer = &mut self.writer;
         match (case.wanted, case.no_output) {
-            (0, _) => writings.made(&made, &lent, clip, &mut random, &mut self.reader, writer),
+            (0, _) => writings.made(&made, &input, clip, &mut random, &mut self.reader, writer),
             (23, _) => {
-                of_the_rust(&made.info, &lent, clip);
+                of_the_rust(&made.info, &input, clip);
                 let wanted = Writing::too_short(clip.encode().len());
-                writings.must_answer(0, wanted, &mut random, |output| writer.write(made.info, &lent, output))
+                writings.must_answer(0, wanted, &mut random, |output| writer.write(made.info, &input, output))
             }
             (refusal, true) => writings.must_answer(0, Writing::refused(refusal), &mut random, |output| {
-                writer.write(made.info, &lent, output)
+                writer.write(made.info, &input, output)
             }),
             (refusal, false) => writings.must_answer(4096, Writing::refused(refusal), &mut random, |output| {
-                writer.write(made.info, &lent, output)
+                writer.write(made.info, &input, output)
             }),
         }
     }
@@ -319,9 +319,9 @@ impl<R: Reader, A: Answerer, W: Writer> Limits<R, A, W> {
         let mut output = [0; 300];
         let answer = self.writer.rewrite(example, &mut output);
         must(answer == Writing::written(274) && output[..274] == example[..], || format!("one_map.clpi: {answer:?}"))?;
-        let (mut lender, made) = (Lender::new(), Made::default());
-        let (lent, _) = lender.lend(&made);
-        let answer = self.writer.write(made.info, &lent, &mut output);
+        let (mut buffers, made) = (Buffers::new(), Made::default());
+        let (input, _) = buffers.hold(&made);
+        let answer = self.writer.write(made.info, &input, &mut output);
         let start = |at: usize| u32::from_be_bytes(output[at..at + 4].try_into().expect("four bytes"));
         let starts = [8, 12, 16, 20, 24].map(start);
         must(answer == Writing::written(242) && starts == [220, 226, 232, 236, 0], || {

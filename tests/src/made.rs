@@ -1,6 +1,6 @@
 //! A record made by hand, as it is lent to writing: its cells, the rows stated, and what is lent beyond them or cut off.
 
-use crate::answers::{Lent, Table};
+use crate::answers::{Input, Table};
 use crate::compare::{Difference, must};
 use crate::guarded::Guarded;
 use crate::make::Maker;
@@ -91,20 +91,20 @@ impl Made {
 }
 
 /// Where records made by hand are lent from: each table ends right before a page that can't be read.
-pub struct Lender {
+pub struct Buffers {
     guarded: [Guarded; TABLES],
     clip: ClipInformation,
 }
 
-impl Lender {
-    /// A lender with little room, and a record of the Rust to put rows into.
+impl Buffers {
+    /// Buffers with little room, and a record of the Rust to put rows into.
     pub fn new() -> Self {
         let clip = ClipInformation::parse(Maker::new().make(0)).expect("a conventional file is accepted");
-        Lender { guarded: std::array::from_fn(|_| Guarded::new(4096)), clip }
+        Buffers { guarded: std::array::from_fn(|_| Guarded::new(4096)), clip }
     }
 
-    /// Lends a record.
-    pub fn lend<'a>(&'a mut self, made: &Made) -> (Lent<'a>, &'a mut ClipInformation) {
+    /// A record as a call is given it, and the Rust's record to fill.
+    pub fn hold<'a>(&'a mut self, made: &Made) -> (Input<'a>, &'a mut ClipInformation) {
         let mut tables = [Table::default(); 9];
         for (k, guarded) in self.guarded.iter_mut().enumerate() {
             let mut bytes: Vec<u8> = made.cells[k].iter().flat_map(|cell| cell.to_le_bytes()).collect();
@@ -114,12 +114,12 @@ impl Lender {
             tables[k] = Table { bytes: guarded.hold(&bytes), rows: rows as u32 };
         }
         let Info { ts_recording_rate: rate, number_of_source_packets: packets, .. } = made.info;
-        (Lent { rate, packets, tables, null: made.null }, &mut self.clip)
+        (Input { rate, packets, tables, null: made.null }, &mut self.clip)
     }
 }
 
 /// A reader must read the new file of a record to the same record, its languages lowered, with no marks and no extensions.
-pub fn read_back(new: &[u8], info: &Info, lent: &Lent, reader: &mut impl Reader) -> Result<(), Difference> {
+pub fn read_back(new: &[u8], info: &Info, input: &Input, reader: &mut impl Reader) -> Result<(), Difference> {
     let mut record = Record::default();
     record.scalars = Scalars {
         version: info.version,
@@ -132,8 +132,8 @@ pub fn read_back(new: &[u8], info: &Info, lent: &Lent, reader: &mut impl Reader)
         ..Scalars::default()
     };
     for (table, cells) in record.tables[..TABLES].iter_mut().enumerate() {
-        let rows = 0..lent.tables[table].rows as usize;
-        cells.extend(rows.flat_map(|row| (0..CELLS[table]).map(move |column| lent.cell(table, row, column))));
+        let rows = 0..input.tables[table].rows as usize;
+        cells.extend(rows.flat_map(|row| (0..CELLS[table]).map(move |column| input.cell(table, row, column))));
     }
     for stream in record.tables[STREAMS].chunks_exact_mut(CELLS[STREAMS]) {
         stream[4] = u32::from_be_bytes(stream[4].to_be_bytes().map(|byte| byte.to_ascii_lowercase()));
@@ -151,8 +151,8 @@ pub fn read_back(new: &[u8], info: &Info, lent: &Lent, reader: &mut impl Reader)
 }
 
 /// The record as the Rust has it; the cells must fit its fields.
-pub fn of_the_rust(info: &Info, lent: &Lent, clip: &mut ClipInformation) {
-    rust_answers::hold(lent, clip);
+pub fn of_the_rust(info: &Info, input: &Input, clip: &mut ClipInformation) {
+    rust_answers::hold(input, clip);
     clip.version = info.version.to_be_bytes();
     clip.clip_info.clip_stream_type = info.clip_stream_type as u8;
     clip.clip_info.application_type = info.application_type as u8;

@@ -1,10 +1,11 @@
-//! Compares libclpi.a with the Rust it is a port of, on files made by seed. See README.md.
+//! Compares libclpi.a and libep_entry_queries.a with the Rust they are ports of, on files made by seed. See README.md.
 
 mod answers;
 mod by_hand;
 mod calls;
 mod canary;
 mod compare;
+mod entry_rows;
 mod expected;
 mod guarded;
 mod large;
@@ -36,6 +37,7 @@ use std::process::ExitCode;
 
 const USAGE: &str = "usage: compare compare FIRST COUNT   the files and tables of COUNT seeds from FIRST on
        compare mutants COUNT         wrong readers, answerers and writers must be caught by one of the first COUNT seeds
+       compare rows FIRST COUNT      lookups over rows of records of COUNT seeds from FIRST on
        compare limits                writing at each limit and one over it, each by its name
        compare large                 the longest file, tables and new file (needs 8 GB)
        compare libbluray COUNT       libbluray, where it is installed, reads the new files of the first COUNT seeds
@@ -49,6 +51,7 @@ fn main() -> ExitCode {
     let alike = match (words.first().map(String::as_str), words.len(), number(1), number(2)) {
         (Some("compare"), 3, Some(first), Some(count)) => run::compare(first, count),
         (Some("mutants"), 2, Some(count), None) => mutants::mutants(count),
+        (Some("rows"), 3, Some(first), Some(count)) => entry_rows::rows(first, count),
         (Some("limits"), 1, None, None) => limits::limits(),
         (Some("large"), 1, None, None) => large::large(),
         (Some("libbluray"), 2, Some(count), None) => libbluray::libbluray(count),

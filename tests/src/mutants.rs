@@ -4,6 +4,7 @@
 use crate::answers::Question;
 use crate::by_hand::ByHand;
 use crate::compare::Comparison;
+use crate::entry_rows::{EntryRows, MISREAD, Misread, RowAnswerer};
 use crate::limits::Limits;
 use crate::make::{CLASSES, Maker};
 use crate::mutation::{Mutation, WRONG};
@@ -11,7 +12,7 @@ use crate::plain_answers::Plain;
 use crate::plain_writer;
 use crate::records::Records;
 use crate::wrong::Wrong;
-use crate::wrong_answers::{NOT_BY_FILES, WRONG_ANSWERS, WrongAnswer, questions_of};
+use crate::wrong_answers::{NOT_BY_FILES, OF_RECORDS, WRONG_ANSWERS, WrongAnswer, of_records, questions_of};
 use crate::wrong_writes::{BY_FILES, NOT_BY_RECORDS, WrongWrite, by_hand as by_limits};
 
 /// The first seed below `count` whose file catches a reader, an answerer or a writer.
@@ -58,6 +59,33 @@ fn writers_not_caught(count: u64) -> [usize; 2] {
 fn by_hand(mut answerer: Plain, count: u64) -> Option<u64> {
     let mut by_hand = ByHand::new();
     (0..count).find(|&seed| by_hand.compare(seed, &mut answerer).is_err())
+}
+
+/// The first seed below `count` whose row of records catches an answerer.
+fn by_row(mut answerer: impl RowAnswerer, count: u64) -> Option<u64> {
+    let mut rows = EntryRows::new();
+    (0..count).find(|&seed| rows.compare(seed, &mut answerer).is_err())
+}
+
+/// How many wrong answerers about rows of records there are, and how many aren't caught: those with a rule wrong in one
+/// lookup, and those that take the records for others.
+fn row_answerers_not_caught(count: u64) -> [usize; 2] {
+    let (mut answerers, mut missed) = (0, 0);
+    let mut tell = |words: &str, seed: Option<u64>| {
+        answerers += 1;
+        missed += usize::from(seed.is_none());
+        let caught = seed.map_or("NOT CAUGHT".into(), |seed| format!("row of records {seed} catches"));
+        println!("{caught}: {words}");
+    };
+    for (answer, words, of) in WRONG_ANSWERS.iter().filter(|(answer, ..)| OF_RECORDS.contains(answer)) {
+        for question in questions_of(*of).filter(|question| of_records(*question)) {
+            tell(&format!("{question:?}: {words}"), by_row(Plain::wrong(*answer, question), count));
+        }
+    }
+    for (words, misread) in MISREAD {
+        tell(words, by_row(Misread(*misread), count));
+    }
+    [answerers, missed]
 }
 
 /// A seed and its class, in words.
@@ -108,9 +136,11 @@ pub fn mutants(count: u64) -> bool {
         answerers += questions.len();
         caught += rule_caught(*answer, words, &questions, count);
     }
+    let [row_answerers, rows_missed] = row_answerers_not_caught(count);
     let [writers, missed] = writers_not_caught(count);
     let right = by_file(Mutation::Right, Plain::right(), WrongWrite::Right, count)
         .or(by_hand(Plain::right(), count))
+        .or(by_row(Plain::right(), count))
         .or(by_record(WrongWrite::Right, count))
         .map(|seed| format!("seed {seed}"))
         .or(by_limit(WrongWrite::Right));
@@ -118,10 +148,10 @@ pub fn mutants(count: u64) -> bool {
         println!("{name} accuses the reader, the answerer or the writer with no wrong rule");
     }
     println!(
-        "{} wrong readers, {readers} not caught; {answerers} wrong answerers, {} not caught; {writers} wrong writers, {missed} not caught; the right ones {}",
+        "{} wrong readers, {readers} not caught; {answerers} wrong answerers, {} not caught; {row_answerers} about rows of records, {rows_missed} not caught; {writers} wrong writers, {missed} not caught; the right ones {}",
         WRONG.len(),
         answerers - caught,
         if right.is_none() { "are not accused" } else { "are accused" }
     );
-    readers == 0 && caught == answerers && missed == 0 && right.is_none()
+    readers == 0 && caught == answerers && rows_missed == 0 && missed == 0 && right.is_none()
 }

@@ -91,7 +91,7 @@ pub enum Mutation {
     TablesUntouched,
     // an extension's data
     RowAtTheEnd,
-    MoreStatedThanLent,
+    MoreStatedThanThere,
     DataOutsideFile,
 }
 
@@ -177,6 +177,6 @@ pub const WRONG: &[(Mutation, &str)] = &[
     (SurplusCleared, "the rows beyond the last one cleared"),
     (TablesUntouched, "the tables never filled"),
     (RowAtTheEnd, "an extension row equal to the rows stated"),
-    (MoreStatedThanLent, "more extension rows stated than lent"),
+    (MoreStatedThanThere, "more extension rows stated than lent"),
     (DataOutsideFile, "extension data outside the file"),
 ];

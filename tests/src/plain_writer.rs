@@ -4,7 +4,7 @@
 pub mod bytes;
 pub mod refusals;
 
-use crate::answers::{Lent, Table};
+use crate::answers::{Input, Table};
 use crate::model;
 use crate::mutation::Mutation;
 use crate::record::Record;
@@ -68,23 +68,23 @@ impl Plain {
     }
 
     /// The tables that were read, as they are lent to writing.
-    fn lent(&self) -> Lent<'_> {
+    fn input(&self) -> Input<'_> {
         let mut tables = [Table::default(); 9];
         for (k, bytes) in self.tables.iter().enumerate() {
             tables[k] = Table { bytes, rows: self.record.rows(k) as u32 };
         }
-        Lent { rate: 0, packets: 0, tables, null: false }
+        Input { rate: 0, packets: 0, tables, null: false }
     }
 }
 
 impl Writer for Plain {
     /// Every refusal in its order, then the bytes.
-    fn write(&mut self, info: Info, lent: &Lent, output: &mut [u8]) -> Writing {
+    fn write(&mut self, info: Info, input: &Input, output: &mut [u8]) -> Writing {
         if self.wrong == AllRefused {
             return Writing::refused(31);
         }
-        let short = || bytes::encode(&info, lent, self.wrong).len() > output.len();
-        let refusal = refusals::refusal(&info, lent, short, self.wrong);
+        let short = || bytes::encode(&info, input, self.wrong).len() > output.len();
+        let refusal = refusals::refusal(&info, input, short, self.wrong);
         if refusal != 0 && refusal != 23 {
             let touched = [(TouchedBefore22, 22), (TouchedBefore30, 30), (TouchedBefore31, 31)];
             if touched.contains(&(self.wrong, refusal)) && !output.is_empty() {
@@ -92,7 +92,7 @@ impl Writer for Plain {
             }
             return Writing::refused(refusal);
         }
-        self.put(&bytes::encode(&info, lent, self.wrong), output)
+        self.put(&bytes::encode(&info, input, self.wrong), output)
     }
 
     /// Reads, then writes.
@@ -113,11 +113,11 @@ impl Writer for Plain {
         let info = Info::of(&self.record.scalars);
         let tables = std::mem::take(&mut self.tables);
         let rows: [u32; TABLES] = std::array::from_fn(|k| self.record.rows(k) as u32);
-        let mut lent = Lent { rate: 0, packets: 0, tables: [Table::default(); 9], null: false };
+        let mut input = Input { rate: 0, packets: 0, tables: [Table::default(); 9], null: false };
         for k in 0..TABLES {
-            lent.tables[k] = Table { bytes: &tables[k], rows: rows[k] };
+            input.tables[k] = Table { bytes: &tables[k], rows: rows[k] };
         }
-        let answer = self.write(info, &lent, output);
+        let answer = self.write(info, &input, output);
         self.tables = tables;
         answer
     }
@@ -132,11 +132,11 @@ impl Writer for Plain {
         if self.wrong == LengthOfOldFile {
             return Length { refusal: 0, bytes: file.len() as u32 };
         }
-        let (info, lent) = (Info::of(&self.record.scalars), self.lent());
-        let refusal = refusals::refusal(&info, &lent, || false, self.wrong);
+        let (info, input) = (Info::of(&self.record.scalars), self.input());
+        let refusal = refusals::refusal(&info, &input, || false, self.wrong);
         if refusal != 0 && self.wrong != LengthWithoutRuns {
             return Length { refusal, bytes: told };
         }
-        Length { refusal: 0, bytes: bytes::encode(&info, &lent, self.wrong).len() as u32 }
+        Length { refusal: 0, bytes: bytes::encode(&info, &input, self.wrong).len() as u32 }
     }
 }

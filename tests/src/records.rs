@@ -2,7 +2,7 @@
 //! the plain writer's, and the bytes are the Rust's too and read back to the record.
 
 use crate::compare::{Difference, must};
-use crate::made::{Lender, Made};
+use crate::made::{Buffers, Made};
 use crate::ours::Reader;
 use crate::plain_writer::refusals;
 use crate::random::Random;
@@ -14,14 +14,14 @@ use std::hint::black_box;
 
 /// Records lent, and what was compared of them.
 pub struct Records {
-    lender: Lender,
+    buffers: Buffers,
     writings: Writings,
 }
 
 impl Records {
     /// Empty tables.
     pub fn new() -> Self {
-        Records { lender: Lender::new(), writings: Writings::default() }
+        Records { buffers: Buffers::new(), writings: Writings::default() }
     }
 
     /// What was compared.
@@ -44,14 +44,14 @@ impl Records {
         reader: &mut impl Reader,
         writer: &mut impl Writer,
     ) -> Result<(), Difference> {
-        let (lent, clip) = self.lender.lend(made);
-        let refusal = refusals::refusal(&made.info, &lent, || false, Right);
+        let (input, clip) = self.buffers.hold(made);
+        let refusal = refusals::refusal(&made.info, &input, || false, Right);
         if refusal != 0 {
-            return self.writings.must_refuse(refusal, random, |output| writer.write(made.info, &lent, output));
+            return self.writings.must_refuse(refusal, random, |output| writer.write(made.info, &input, output));
         }
-        self.writings.made(made, &lent, clip, random, reader, writer)?;
+        self.writings.made(made, &input, clip, random, reader, writer)?;
         for table in 0..TABLES {
-            let cells = black_box(lent.tables[table].bytes).chunks_exact(4).zip(&made.cells[table]);
+            let cells = black_box(input.tables[table].bytes).chunks_exact(4).zip(&made.cells[table]);
             must(cells.clone().all(|(bytes, cell)| bytes == cell.to_le_bytes()), || {
                 format!("table {} has changed", table + 1)
             })?;

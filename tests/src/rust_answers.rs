@@ -1,6 +1,6 @@
 //! The Rust's answers, for the questions that it has and where the scope document compares it.
 
-use crate::answers::{Answer, Counted, Lent, OF_ATCS, OF_MAPS, OF_PROGRAMS, Question, Question::*};
+use crate::answers::{Answer, Counted, Input, OF_ATCS, OF_MAPS, OF_PROGRAMS, Question, Question::*};
 use crate::record::{ATCS, ENTRIES, EXTENSIONS, MAPS, PROGRAMS, STCS, STREAMS};
 use oracle::bdmv::clpi::{AtcSequence, ClipExtension, ClipInfo, ClipInformation, Cpi, EpEntry, EpMap, EpStreamType};
 use oracle::bdmv::clpi::{ProgramEntry, ProgramInfo, SequenceInfo, StcSequence, StreamCodingInfo};
@@ -79,21 +79,31 @@ fn of_maps(question: Question, cpi: &Cpi) -> Option<Answer> {
     let row_of_map = |found: Option<&EpMap>| Some(row_of(cpi.ep_map.iter(), found));
     let time = |time: Option<u32>| Some(Answer::of_option(time.map(u64::from)));
     match question {
-        EntryAtOrBefore(row, at) => in_map(map(row)?, |map| map.entry_point_at_or_before(at)),
-        EntryAfter(row, at) => in_map(map(row)?, |map| map.entry_point_after(at)),
-        SeekSpn(row, at) => packet_in(map(row), |map| map.seek_spn(at)),
-        NextSeekSpn(row, at) => packet_in(map(row), |map| map.next_seek_spn(at)),
+        EntryAtOrBefore(row, _) | EntryAfter(row, _) | SeekSpn(row, _) | NextSeekSpn(row, _) | IndexedSpan(row) => {
+            of_map(question, map(row)?)
+        }
         PrimarySeekSpn(at) => packet_in_primary(cpi, cpi.seek_spn(at)),
         PrimaryNextSeekSpn(at) => {
             packet_in_primary(cpi, cpi.primary_video_ep_map().and_then(|map| map.next_seek_spn(at)))
         }
         FirstPts(row) => time(map(row)?.first_pts()),
         LastPts(row) => time(map(row)?.last_pts()),
-        IndexedSpan(row) => Some(Answer::of(map(row)?.indexed_span_90k().into())),
         EntriesOfMap(row) => own_rows(cpi.ep_map.iter().map(|map| map.entry_point_count()), row),
         PrimaryMap => row_of_map(cpi.primary_video_ep_map()),
         MapByKind(kind) => row_of_map(cpi.ep_map_by_kind(EpStreamType::from_raw(kind))),
         NextVideoMap(from) => Some(next_of(cpi.ep_map.iter(), cpi.video_ep_maps(), from)),
+        _ => None,
+    }
+}
+
+/// The answer about the entries of one map, whatever its row.
+pub fn of_map(question: Question, map: &EpMap) -> Option<Answer> {
+    match question {
+        EntryAtOrBefore(_, at) => in_map(map, |map| map.entry_point_at_or_before(at)),
+        EntryAfter(_, at) => in_map(map, |map| map.entry_point_after(at)),
+        SeekSpn(_, at) => packet_in(map, |map| map.seek_spn(at)),
+        NextSeekSpn(_, at) => packet_in(map, |map| map.next_seek_spn(at)),
+        IndexedSpan(_) => Some(Answer::of(map.indexed_span_90k().into())),
         _ => None,
     }
 }
@@ -115,8 +125,8 @@ fn in_map<'a>(map: &'a EpMap, found: impl Fn(&'a EpMap) -> Option<&'a EpEntry>) 
 }
 
 /// The packet that the Rust finds in a map, on the same terms.
-fn packet_in(map: Option<&EpMap>, found: impl Fn(&EpMap) -> Option<u32>) -> Option<Answer> {
-    map.filter(|map| ascends(map)).map(|map| Answer::of_option(found(map).map(u64::from)))
+fn packet_in(map: &EpMap, found: impl Fn(&EpMap) -> Option<u32>) -> Option<Answer> {
+    ascends(map).then(|| Answer::of_option(found(map).map(u64::from)))
 }
 
 /// The packet that the Rust finds in its primary map, on the same terms; without maps none.
@@ -152,43 +162,43 @@ fn own_rows(mut counts: impl Iterator<Item = usize>, head: u32) -> Option<Answer
 }
 
 /// Puts the rows of tables made by hand into the Rust's record. The cells that are looked at must fit the Rust's fields.
-pub fn hold(lent: &Lent, clip: &mut ClipInformation) {
-    clip.clip_info.ts_recording_rate = lent.rate;
-    clip.clip_info.number_of_source_packets = lent.packets;
-    clip.sequence_info.atc_sequences = heads(lent, OF_ATCS, |row, own| AtcSequence {
-        spn_atc_start: lent.cell(ATCS, row, 0),
-        stc_sequences: own.map(|row| stc(lent, row)).collect(),
-        offset_stc_id: lent.cell(ATCS, row, 2) as u8,
+pub fn hold(input: &Input, clip: &mut ClipInformation) {
+    clip.clip_info.ts_recording_rate = input.rate;
+    clip.clip_info.number_of_source_packets = input.packets;
+    clip.sequence_info.atc_sequences = heads(input, OF_ATCS, |row, own| AtcSequence {
+        spn_atc_start: input.cell(ATCS, row, 0),
+        stc_sequences: own.map(|row| stc(input, row)).collect(),
+        offset_stc_id: input.cell(ATCS, row, 2) as u8,
     });
-    clip.program_info.programs = heads(lent, OF_PROGRAMS, |row, own| {
-        let [packet, pid] = [0, 1].map(|column| lent.cell(PROGRAMS, row, column));
-        ProgramEntry::new(packet, pid as u16, own.map(|row| stream(lent, row)).collect())
+    clip.program_info.programs = heads(input, OF_PROGRAMS, |row, own| {
+        let [packet, pid] = [0, 1].map(|column| input.cell(PROGRAMS, row, column));
+        ProgramEntry::new(packet, pid as u16, own.map(|row| stream(input, row)).collect())
     });
-    clip.cpi.ep_map = heads(lent, OF_MAPS, |row, own| EpMap {
-        stream_pid: lent.cell(MAPS, row, 0) as u16,
-        ep_stream_type: lent.cell(MAPS, row, 1) as u8,
-        entries: own.map(|row| entry(lent, row)).collect(),
+    clip.cpi.ep_map = heads(input, OF_MAPS, |row, own| EpMap {
+        stream_pid: input.cell(MAPS, row, 0) as u16,
+        ep_stream_type: input.cell(MAPS, row, 1) as u8,
+        entries: own.map(|row| entry(input, row)).collect(),
     });
-    let ids = |row: usize| [0, 1].map(|column| lent.cell(EXTENSIONS, row, column) as u16);
-    let rows = 0..lent.tables[EXTENSIONS].rows as usize;
+    let ids = |row: usize| [0, 1].map(|column| input.cell(EXTENSIONS, row, column) as u16);
+    let rows = 0..input.tables[EXTENSIONS].rows as usize;
     clip.extension.entries = rows.map(ids).map(|[id1, id2]| ExtensionDataEntry::new(id1, id2, Vec::new())).collect();
     clip.extension.program_info_ss = None;
 }
 
 /// A thing of the Rust for each row of a table of counts, made of the row and its own rows.
-fn heads<T>(lent: &Lent, counted: Counted, make: impl Fn(usize, std::ops::Range<usize>) -> T) -> Vec<T> {
+fn heads<T>(input: &Input, counted: Counted, make: impl Fn(usize, std::ops::Range<usize>) -> T) -> Vec<T> {
     let mut first = 0;
-    let rows = 0..lent.tables[counted.heads].rows as usize;
+    let rows = 0..input.tables[counted.heads].rows as usize;
     rows.map(|row| {
-        let end = first + lent.cell(counted.heads, row, counted.column) as usize;
+        let end = first + input.cell(counted.heads, row, counted.column) as usize;
         make(row, std::mem::replace(&mut first, end)..end)
     })
     .collect()
 }
 
 /// An STC of the Rust.
-fn stc(lent: &Lent, row: usize) -> StcSequence {
-    let [pid, packet, start, end] = [0, 1, 2, 3].map(|column| lent.cell(STCS, row, column));
+fn stc(input: &Input, row: usize) -> StcSequence {
+    let [pid, packet, start, end] = [0, 1, 2, 3].map(|column| input.cell(STCS, row, column));
     StcSequence {
         pcr_pid: pid as u16,
         spn_stc_start: packet,
@@ -198,8 +208,8 @@ fn stc(lent: &Lent, row: usize) -> StcSequence {
 }
 
 /// A stream of the Rust.
-fn stream(lent: &Lent, row: usize) -> StreamCodingInfo {
-    let [pid, kind, format, aspect, language] = [0, 1, 2, 3, 4].map(|column| lent.cell(STREAMS, row, column));
+fn stream(input: &Input, row: usize) -> StreamCodingInfo {
+    let [pid, kind, format, aspect, language] = [0, 1, 2, 3, 4].map(|column| input.cell(STREAMS, row, column));
     let [_, letters @ ..] = language.to_be_bytes();
     StreamCodingInfo::new(pid as u16, kind as u8)
         .with_format_info_byte(format as u8)
@@ -208,8 +218,8 @@ fn stream(lent: &Lent, row: usize) -> StreamCodingInfo {
 }
 
 /// An entry of the Rust.
-fn entry(lent: &Lent, row: usize) -> EpEntry {
-    let [angle, i_end, time, packet, kind] = [0, 1, 2, 3, 4].map(|column| lent.cell(ENTRIES, row, column));
+fn entry(input: &Input, row: usize) -> EpEntry {
+    let [angle, i_end, time, packet, kind] = [0, 1, 2, 3, 4].map(|column| input.cell(ENTRIES, row, column));
     EpEntry {
         is_angle_change_point: angle % 2 == 1,
         i_end_position_offset: i_end as u8,

@@ -52,7 +52,8 @@ fn altered(cases: &[u8]) -> Vec<u8> {
 
 /// A class's name as a file's: letters and digits, all else an underscore.
 fn file_name(class: &str) -> String {
-    let plain: String = class.chars().map(|c| if c.is_ascii_alphanumeric() { c.to_ascii_lowercase() } else { ' ' }).collect();
+    let plain: String =
+        class.chars().map(|c| if c.is_ascii_alphanumeric() { c.to_ascii_lowercase() } else { ' ' }).collect();
     plain.split_whitespace().collect::<Vec<_>>().join("_")
 }
 

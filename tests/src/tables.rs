@@ -9,9 +9,9 @@ pub struct Tables([Canary; 9]);
 
 impl Tables {
     /// Makes tables of these lengths in bytes, each of them and what is about it filled with the pattern.
-    pub fn lend(&mut self, lengths: [usize; 9], random: &mut Random) {
+    pub fn reset(&mut self, lengths: [usize; 9], random: &mut Random) {
         let place = Place::any(random);
-        self.0.iter_mut().zip(lengths).for_each(|(table, length)| table.lend(length, place));
+        self.0.iter_mut().zip(lengths).for_each(|(table, length)| table.reset(length, place));
     }
 
     /// The tables as they are handed to a reader.

@@ -1,6 +1,6 @@
 //! The library's calls that write, as include/clpi.h declares them, and what a writer is to the comparison.
 
-use crate::answers::{Lent, Table};
+use crate::answers::{Input, Table};
 use crate::ours::Library;
 use crate::record::Scalars;
 use std::ptr::{null, null_mut};
@@ -73,7 +73,7 @@ pub struct Length {
 /// Something that writes as the library does: the library itself, or a wrong writer that must be caught.
 pub trait Writer {
     /// Writes the record of the first six lent tables into a lent output.
-    fn write(&mut self, info: Info, lent: &Lent, output: &mut [u8]) -> Writing;
+    fn write(&mut self, info: Info, input: &Input, output: &mut [u8]) -> Writing;
 
     /// Rewrites a file into a lent output.
     fn rewrite(&mut self, file: &[u8], output: &mut [u8]) -> Writing;
@@ -122,14 +122,14 @@ fn output_byte(output: &mut [u8], null: bool) -> *mut u8 {
 
 impl Writer for Library {
     /// Calls `clpi_write`.
-    fn write(&mut self, info: Info, lent: &Lent, output: &mut [u8]) -> Writing {
-        let first_byte = |t: &Table| if t.bytes.is_empty() && lent.null { null() } else { t.bytes.as_ptr() };
+    fn write(&mut self, info: Info, input: &Input, output: &mut [u8]) -> Writing {
+        let first_byte = |t: &Table| if t.bytes.is_empty() && input.null { null() } else { t.bytes.as_ptr() };
         let tables: [_; TABLES] = std::array::from_fn(|k| {
-            let table = &lent.tables[k];
+            let table = &input.tables[k];
             (first_byte(table), table.bytes.len(), table.rows)
         });
         let [a, b, c, d, e, f] = tables;
-        let (out, bytes) = (output_byte(output, lent.null), output.len());
+        let (out, bytes) = (output_byte(output, input.null), output.len());
         // SAFETY: each pointer has as many bytes behind it as its length says; the output is borrowed by nothing else.
         unsafe {
             clpi_write(

@@ -1,6 +1,6 @@
 //! The comparison of writing and rewriting: the answer, every byte of the output, and every byte about it.
 
-use crate::answers::{Lent, OF_MAPS};
+use crate::answers::{Input, OF_MAPS};
 use crate::canary::{Canary, Place};
 use crate::compare::{Difference, must};
 use crate::made::{Made, of_the_rust, read_back};
@@ -64,18 +64,18 @@ impl Writings {
         file: &[u8],
         clip: &ClipInformation,
         info: Info,
-        lent: &Lent,
+        input: &Input,
         random: &mut Random,
         writer: &mut impl Writer,
     ) -> Result<(), Difference> {
         self.new.clear();
-        let wanted = if runs_fit(lent) { 0 } else { 31 };
+        let wanted = if runs_fit(input) { 0 } else { 31 };
         if wanted == 31 {
-            self.must_refuse(31, random, |output| writer.write(info, lent, output))
+            self.must_refuse(31, random, |output| writer.write(info, input, output))
                 .map_err(|why| format!("writing: {why}"))?;
             return self.refused(file, 31, random, writer);
         }
-        self.record(clip, info, lent, random, writer)?;
+        self.record(clip, info, input, random, writer)?;
         self.must_rewrite(file, random, writer)
     }
 
@@ -83,16 +83,16 @@ impl Writings {
     pub fn made(
         &mut self,
         made: &Made,
-        lent: &Lent,
+        input: &Input,
         clip: &mut ClipInformation,
         random: &mut Random,
         reader: &mut impl Reader,
         writer: &mut impl Writer,
     ) -> Result<(), Difference> {
-        of_the_rust(&made.info, lent, clip);
-        self.record(clip, made.info, lent, random, writer)?;
+        of_the_rust(&made.info, input, clip);
+        self.record(clip, made.info, input, random, writer)?;
         self.same_for_the_rust(clip)?;
-        read_back(&self.new, &made.info, lent, reader)?;
+        read_back(&self.new, &made.info, input, reader)?;
         lower_languages(clip);
         let old = std::mem::replace(&mut self.new, clip.encode());
         self.must_rewrite(&old, random, writer)
@@ -103,13 +103,13 @@ impl Writings {
         &mut self,
         clip: &ClipInformation,
         info: Info,
-        lent: &Lent,
+        input: &Input,
         random: &mut Random,
         writer: &mut impl Writer,
     ) -> Result<(), Difference> {
         self.new = clip.encode();
-        must(self.new == encode(&info, lent, Right), || "the plain writer's bytes and the Rust's differ".into())?;
-        self.must_give(random, |output| writer.write(info, lent, output)).map_err(|why| format!("writing: {why}"))
+        must(self.new == encode(&info, input, Right), || "the plain writer's bytes and the Rust's differ".into())?;
+        self.must_give(random, |output| writer.write(info, input, output)).map_err(|why| format!("writing: {why}"))
     }
 
     /// Rewrites a file whose new file is known, in full and by its length.
@@ -143,7 +143,7 @@ impl Writings {
     fn must_give(&mut self, random: &mut Random, mut call: impl FnMut(&mut [u8]) -> Writing) -> Result<(), Difference> {
         let bytes = self.new.len();
         let more = if random.one_in(2) { 0 } else { random.between(1, 40) as usize };
-        self.output.lend(bytes + more, Place::any(random));
+        self.output.reset(bytes + more, Place::any(random));
         let answer = call(self.output.slice());
         let wanted = Writing::written(bytes);
         must(answer == wanted, || format!("answered {answer:?}, not {wanted:?}"))?;
@@ -189,7 +189,7 @@ impl Writings {
         random: &mut Random,
         mut call: impl FnMut(&mut [u8]) -> Writing,
     ) -> Result<(), Difference> {
-        self.output.lend(room, Place::any(random));
+        self.output.reset(room, Place::any(random));
         let answer = call(self.output.slice());
         must(answer == wanted, || format!("an output of {room} bytes: answered {answer:?}, not {wanted:?}"))?;
         must(!self.output.changed_beyond(0), || format!("a byte has changed beside refusal {}", wanted.refusal))?;
@@ -199,10 +199,10 @@ impl Writings {
 }
 
 /// Whether no map has more runs than can be written.
-fn runs_fit(lent: &Lent) -> bool {
-    (0..lent.tables[MAPS].rows as usize).all(|map| {
-        let [first, end] = [map, map + 1].map(|heads| lent.sum(OF_MAPS, heads) as usize);
-        end - first <= MOST_RUNS || runs(lent, first..end, Right).len() <= MOST_RUNS
+fn runs_fit(input: &Input) -> bool {
+    (0..input.tables[MAPS].rows as usize).all(|map| {
+        let [first, end] = [map, map + 1].map(|heads| input.sum(OF_MAPS, heads) as usize);
+        end - first <= MOST_RUNS || runs(input, first..end, Right).len() <= MOST_RUNS
     })
 }
 

@@ -80,12 +80,12 @@ impl Reader for Wrong {
 
     /// Looks a row up, and tests that it is there and that its data is inside the file.
     fn extension_data(&mut self, file: &[u8], extensions: &[u8], rows: u32, row: u32) -> Part {
-        let lent = extensions.chunks_exact(4 * CELLS[6]);
+        let whole = extensions.chunks_exact(4 * CELLS[6]);
         let at_end = self.mutation == RowAtTheEnd && row == rows;
-        if rows as usize > lent.len() && self.mutation != MoreStatedThanLent || row >= rows && !at_end {
+        if rows as usize > whole.len() && self.mutation != MoreStatedThanThere || row >= rows && !at_end {
             return Part::REFUSED;
         }
-        let Some(cells) = lent.clone().nth(row as usize) else {
+        let Some(cells) = whole.clone().nth(row as usize) else {
             return Part::REFUSED;
         };
         let cell = |k: usize| {

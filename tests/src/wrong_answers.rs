@@ -132,7 +132,7 @@ pub enum WrongAnswer {
     SumsNotAbove,
     SumsNotBelow,
     RowAtTheEnd,
-    MoreStatedThanLent,
+    MoreStatedThanThere,
     PartialRowCounts,
     FirstTableNotTested,
     SecondTableNotTested,
@@ -143,6 +143,34 @@ use WrongAnswer::*;
 
 /// The wrong rules that no file can show: its cells are never wide enough.
 pub const NOT_BY_FILES: &[WrongAnswer] = &[TypeNotMasked, PidOf16Bits, CodingOf8Bits, OffsetOf8Bits, IdsOf16Bits];
+
+/// The wrong rules that an answerer about a row of records can have too: those of lookups by time, of packets and spans.
+pub const OF_RECORDS: &[WrongAnswer] = &[
+    LatestOfEquals,
+    LatestOfEqualsAfter,
+    BeforeOnly,
+    AfterIncludesEqual,
+    AllLaterNone,
+    AllLaterLeast,
+    SearchedByHalves,
+    FirstAfter,
+    SignedTimes,
+    EmptyMapRowZero,
+    EmptyMapPacketZero,
+    RowForPacket,
+    TimeForPacket,
+    ByteForPacket,
+    SpanGreatestLessLeast,
+    SpanWraps,
+    EmptySpanNone,
+    NothingLookedAt,
+    ValueBesideNone,
+];
+
+/// Whether a question is asked of a row of records.
+pub fn of_records(question: Question) -> bool {
+    ROWS_BY_TIME(question) || MAP_SPAN(question) || matches!(question, SeekSpn(..) | NextSeekSpn(..))
+}
 
 /// The questions that a rule is a rule of.
 type Of = fn(Question) -> bool;
@@ -313,7 +341,7 @@ pub const WRONG_ANSWERS: &[(WrongAnswer, &str, Of)] = &[
     (SumsNotAbove, "counts that add up to less accepted", COUNTED),
     (SumsNotBelow, "counts that add up to more accepted", COUNTED),
     (RowAtTheEnd, "a row number equal to the rows stated", NAMED_ROW),
-    (MoreStatedThanLent, "more rows stated than lent", TABLES),
+    (MoreStatedThanThere, "more rows stated than lent", TABLES),
     (PartialRowCounts, "a partial row counted as a row", TABLES),
     (FirstTableNotTested, "more rows stated than lent of the table of counts", COUNTED),
     (SecondTableNotTested, "more rows stated than lent of the table counted", COUNTED),

@@ -21,10 +21,10 @@ use Rattle.extension.specs.Block.{foundIn}
 use Rattle.extension.specs.declared.ListData.{ListData}
 use Rattle.sequence_info.specs.Sequences as Sequences
 use Rattle.program_info.specs.Programs.{Fillable}
-use Rattle.cpi.specs.Maps as Maps
+use Rattle.cpi_fill.specs.Fill as Maps
 use Rattle.clip_information.specs.Fill.{SectionsFit, ListFits, MarksThere}
 use Rattle.clip_sections.proofs.Laws.{both-pass}
-use Rattle.clip_sections.proofs.PrepareLaws.{accepted-bounds}
+use Rattle.clip_sections.proofs.Laws.{accepted-bounds}
 
 -- ---- the sections
 

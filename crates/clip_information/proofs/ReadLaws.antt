@@ -16,16 +16,16 @@ use Rattle.format.specs.Tables.{Nine, rowRoom, extensionCells}
 use Rattle.format.proofs.Tests.{ap-pick}
 use Rattle.extension.specs.declared.ListData.{ListData}
 use Rattle.clip_sections.specs.Infos.{clipInfoOf}
-use Rattle.clip_sections.specs.Room.{roomOf, roomBehind}
-use Rattle.clip_sections.specs.Prepare.{neededRows, roomAnswer, answerFor, preparedAnswer, ReadyIs, PreparedIs}
+use Rattle.nine_tables.specs.Room.{roomOf, roomBehind}
+use Rattle.clip_prepare.specs.Prepare.{neededRows, roomAnswer, answerFor, preparedAnswer, ReadyIs, PreparedIs}
 use Rattle.clip_information.specs.Fill.{SectionsFit, ListFits, MarksThere}
 use Rattle.clip_information.specs.Read.{lengthsOf, nineBy, scalarsBy, answerOf}
 use Rattle.clip_sections.specs.declared.info.ClipInfo.{ClipInfo}
-use Rattle.clip_sections.specs.declared.tables.Rows.{Rows}
-use Rattle.clip_sections.specs.declared.tables.Room.{Room}
-use Rattle.clip_sections.specs.declared.prepare.Prepared.{Prepared}
+use Rattle.nine_tables.specs.declared.Rows.{Rows}
+use Rattle.nine_tables.specs.declared.Room.{Room}
+use Rattle.clip_prepare.specs.declared.Prepared.{Prepared}
 use Rattle.clip_information.specs.declared.read.Answer.{Answer}
-use Rattle.clip_sections.proofs.PrepareLaws.{accepted-bounds}
+use Rattle.clip_sections.proofs.Laws.{accepted-bounds}
 use Rattle.clip_information.proofs.FillLaws.{sound}
 
 -- ---- the answer

@@ -6,7 +6,7 @@ use Rattle.format.specs.ClipRecord.{Scalars}
 use Rattle.format.specs.Tables.{Nine}
 use Rattle.format.specs.Refusals.{ReadAnswer, refused, tooShort, accepted}
 use Rattle.clip_sections.specs.declared.info.ClipInfo.{ClipInfo}
-use Rattle.clip_sections.specs.declared.tables.Rows.{Rows}
+use Rattle.nine_tables.specs.declared.Rows.{Rows}
 use Rattle.clip_information.specs.declared.read.Answer.{Answer}
 
 -- the nine lent tables

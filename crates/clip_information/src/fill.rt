@@ -29,7 +29,7 @@ pub(crate) fn fill_sections(
 {
     sequence_info::fill(file, u32_at(file, 8) as usize, atcs, stcs);
     program_info::fill(file, u32_at(file, 12) as usize, programs, streams);
-    cpi::maps::fill(file, u32_at(file, 16) as usize, count, maps, entries);
+    cpi_fill::fill(file, u32_at(file, 16) as usize, count, maps, entries);
 }
 
 // Tables 8 and 9; without a list they are left as they are.

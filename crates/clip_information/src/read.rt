@@ -5,11 +5,11 @@ ghost use Rattle.clip_information.specs.Read.{answerOf, nineTables};
 use crate::fill::fill_list;
 use crate::fill::fill_sections;
 use crate::fill::mark_count;
+use clip_prepare::Prepared;
+use clip_prepare::prepare;
 use clip_sections::info::ClipInfo;
 use clip_sections::info::clip_info;
-use clip_sections::prepare::Prepared;
-use clip_sections::prepare::prepare;
-use clip_sections::tables::Rows;
+use nine_tables::Rows;
 use numbers::u32_at;
 
 // What is stated of an accepted file beside its rows: the scalars, the number of marks, the rows of each table, and whether it has a (2, 5) list; or a refusal's number; or the lowest table that is too short and the rows it needs.

@@ -15,7 +15,7 @@ use Rattle.format.specs.Listing.{line, refusedWord, linesBy, listing, listingTa
 use Rattle.format.proofs.Listing.{accepted-is, maps-back, entries-back, entries-add, maps-room, entries-room, few}
 use Rattle.clip_information.specs.Read.{answerOf, nineTables}
 use Rattle.clip_sections.specs.declared.info.ClipInfo.{ClipInfo}
-use Rattle.clip_sections.specs.declared.tables.Rows.{Rows}
+use Rattle.nine_tables.specs.declared.Rows.{Rows}
 use Rattle.clip_information.specs.declared.read.Answer.{Answer}
 use Rattle.listing.specs.Text.{Listable, numbers, numbersOf}
 use Rattle.listing.proofs.Laws.{record-text, room-4096}

@@ -5,7 +5,7 @@ use lib.ListN.{length}
 use Rattle.format.specs.Tables.{tableRows, mapCells, entryCells}
 use Rattle.format.specs.Listing.{line, refusedWord}
 use Rattle.clip_sections.specs.declared.info.ClipInfo.{ClipInfo}
-use Rattle.clip_sections.specs.declared.tables.Rows.{Rows}
+use Rattle.nine_tables.specs.declared.Rows.{Rows}
 use Rattle.clip_information.specs.declared.read.Answer.{Answer}
 use Rattle.listing.specs.Text.{Numbers, numbers, recordText, Listable}
 

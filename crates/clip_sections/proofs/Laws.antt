@@ -219,3 +219,40 @@ module _ (f : List ℕ) (c : ℕ) where
       go false b h = let z : _≡_ {A = ℕ} 0 1 = cc in absurd (omega arith)
       go true true h = (refl, refl, cc, cc)
       go true false h = let z : _≡_ {A = ℕ} 0 1 = cc in absurd (omega arith)
+
+-- ---- what was measured
+
+-- what counts of rows say of the file
+pub record SectionsAre (f : List ℕ) (a s p t m e : ℕ) : Type 0 where
+  pub accepts : refusalOf f ≡ 0
+  pub atcs-are : a ≡ length (clipOf f .atcs)
+  pub stcs-are : s ≡ length (clipOf f .stcs)
+  pub programs-are : p ≡ length (clipOf f .programs)
+  pub streams-are : t ≡ length (clipOf f .streams)
+  pub maps-are : m ≡ length (clipOf f .maps)
+  pub entries-are : e ≡ length (clipOf f .entries)
+
+module _ (f : List ℕ) where
+  -- counts are answered for an accepted file
+  pub sections-are : (a s p t m e : ℕ) → sectionsOf f ≡ Sections.Counts a s p t m e → SectionsAre f a s p t m e
+  unfolding sectionsOf
+  sections-are a s p t m e h = go (refusalOf f) refl h
+    where
+      go : (r : ℕ) → refusalOf f ≡ r
+          → pick (eqb r 0) (Sections.Counts (length (clipOf f .atcs)) (length (clipOf f .stcs)) (length (clipOf f .programs)) (length (clipOf f .streams)) (length (clipOf f .maps)) (length (clipOf f .entries))) (Sections.Refused r)
+          ≡ Sections.Counts a s p t m e
+          → SectionsAre f a s p t m e
+      go zero q h = record {
+        accepts = q;
+        atcs-are = cc;
+        stcs-are = cc;
+        programs-are = cc;
+        streams-are = cc;
+        maps-are = cc;
+        entries-are = cc;
+      }
+      go (suc r) q h = let g = rw (eqb·suc-zero r) at h in let z : _≡_ {A = ℕ} 0 1 = cc in absurd (omega arith)
+
+  -- an accepted file's front passes
+  pub accepted-bounds : refusalOf f ≡ 0 → (length f ≤ 536870912) × (194 ≤ length f)
+  accepted-bounds h = front-facts f (both-pass f h .0)

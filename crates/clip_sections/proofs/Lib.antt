@@ -1,5 +1,3 @@
 -- Laws that the proofs of this crate, and of its callers, cite.
 pub mod InfoLaws
 pub mod Laws
-pub mod ListLaws
-pub mod PrepareLaws

@@ -3,10 +3,10 @@ ghost use mathlib.Core.Path.{_≡_};
 ghost use Rattle.format.specs.Questions.{answerNumbers, ask, spnToByte, byteToSpn, clipByteLen, transferDurationSecs, number};
 ghost use Rattle.queries.specs.Asked.{onlyCounts, onlyScalars};
 ghost use Rattle.clpi_answers.specs.Numbers.{foundNumbers, secondsNumbers};
-use clip_info_queries::Duration;
 use clpi_answers::ClpiAnswer;
-use clpi_answers::ClpiSeconds;
 use clpi_answers::answer_of;
+use clpi_answers::seconds::ClpiSeconds;
+use clpi_answers::seconds::seconds_of;
 
 // The clip's length in bytes.
 #[no_mangle]
@@ -37,16 +37,5 @@ pub extern "C" fn clpi_byte_to_spn(packets: u32, byte: u64) -> ClpiAnswer
 pub extern "C" fn clpi_transfer_duration_secs(rate: u32, packets: u32) -> ClpiSeconds
     ensures { λ r. ⌜ secondsNumbers r ≡ answerNumbers (ask transferDurationSecs (onlyScalars (onlyCounts rate packets))) ⌝ }
 {
-    match clip_info_queries::transfer_duration_secs(rate, packets) {
-        Duration::Seconds(seconds) => ClpiSeconds {
-            refusal: 0,
-            found: 1,
-            seconds,
-        },
-        Duration::NoRate => ClpiSeconds {
-            refusal: 0,
-            found: 0,
-            seconds: 0.0,
-        },
-    }
+    seconds_of(clip_info_queries::transfer_duration_secs(rate, packets))
 }

@@ -103,7 +103,7 @@ pub extern "C" fn clpi_first_pts(
 ) -> ClpiAnswer
     ensures { λ r. ⌜ foundNumbers r ≡ answerNumbers (ask (firstPts map) (mapsAndEntries (stated (now (maps .entry)) «map_rows») (stated (now (entries .entry)) «entry_rows»))) ⌝ }
 {
-    answer_of_90(ep_map_queries::spans::first_pts(maps, map_rows, entries, entry_rows, map))
+    answer_of_90(ep_map_times::first_pts(maps, map_rows, entries, entry_rows, map))
 }
 
 // The time of the last entry of a map.
@@ -117,7 +117,7 @@ pub extern "C" fn clpi_last_pts(
 ) -> ClpiAnswer
     ensures { λ r. ⌜ foundNumbers r ≡ answerNumbers (ask (lastPts map) (mapsAndEntries (stated (now (maps .entry)) «map_rows») (stated (now (entries .entry)) «entry_rows»))) ⌝ }
 {
-    answer_of_90(ep_map_queries::spans::last_pts(maps, map_rows, entries, entry_rows, map))
+    answer_of_90(ep_map_times::last_pts(maps, map_rows, entries, entry_rows, map))
 }
 
 // The last time of a map less its first.
@@ -131,7 +131,7 @@ pub extern "C" fn clpi_indexed_span_90k(
 ) -> ClpiAnswer
     ensures { λ r. ⌜ foundNumbers r ≡ answerNumbers (ask (indexedSpan90k map) (mapsAndEntries (stated (now (maps .entry)) «map_rows») (stated (now (entries .entry)) «entry_rows»))) ⌝ }
 {
-    answer_of_90(ep_map_queries::spans::indexed_span_90k(maps, map_rows, entries, entry_rows, map))
+    answer_of_90(ep_map_times::indexed_span_90k(maps, map_rows, entries, entry_rows, map))
 }
 
 // The entries of a map: the first and how many.

@@ -64,7 +64,7 @@ pub extern "C" fn clpi_stcs_of_atc(
 ) -> ClpiRows
     ensures { λ r. ⌜ rowsNumbers r ≡ ownedNumbers (ownedRows 1 stcCells (stated (now (atcs .entry)) «atc_rows») (stated (now (stcs .entry)) «stc_rows») atc) ⌝ }
 {
-    rows_of(sequence_queries::by_atc::stcs_of_atc(atcs, atc_rows, stcs, stc_rows, atc))
+    rows_of(atc_queries::stcs_of_atc(atcs, atc_rows, stcs, stc_rows, atc))
 }
 
 // The row of the STC with an id, through all ATCs.
@@ -78,7 +78,7 @@ pub extern "C" fn clpi_stc_sequence_by_id(
 ) -> ClpiAnswer
     ensures { λ r. ⌜ foundNumbers r ≡ answerNumbers (ask (stcSequenceById id) (atcsAndStcs (stated (now (atcs .entry)) «atc_rows») (stated (now (stcs .entry)) «stc_rows»))) ⌝ }
 {
-    answer_of(sequence_queries::by_atc::stc_sequence_by_id(atcs, atc_rows, stcs, stc_rows, id))
+    answer_of(atc_queries::stc_sequence_by_id(atcs, atc_rows, stcs, stc_rows, id))
 }
 
 // The row of the STC of a packet in one ATC, through all ATCs.
@@ -93,12 +93,5 @@ pub extern "C" fn clpi_stc_sequence_for_spn(
 ) -> ClpiAnswer
     ensures { λ r. ⌜ foundNumbers r ≡ answerNumbers (ask (stcSequenceForSpn atc spn) (atcsAndStcs (stated (now (atcs .entry)) «atc_rows») (stated (now (stcs .entry)) «stc_rows»))) ⌝ }
 {
-    answer_of(sequence_queries::by_atc::stc_sequence_for_spn(
-        atcs,
-        atc_rows,
-        stcs,
-        stc_rows,
-        atc,
-        spn,
-    ))
+    answer_of(atc_queries::stc_sequence_for_spn(atcs, atc_rows, stcs, stc_rows, atc, spn))
 }

@@ -1,4 +1,7 @@
 // The answers of questions as numbers for C.
+pub mod part;
+pub mod seconds;
+
 ghost use mathlib.Core.Path.{_≡_};
 ghost use Rattle.format.specs.Questions.{answerNumbers};
 ghost use Rattle.queries.specs.Answers.{foundOf, time45Of, time90Of};
@@ -15,14 +18,6 @@ pub struct ClpiAnswer {
     pub refusal: u32,
     pub found: u32,
     pub value: u64,
-}
-
-// A refusal, which there is none of; whether there is a rate; the seconds.
-#[repr(C)]
-pub struct ClpiSeconds {
-    pub refusal: u32,
-    pub found: u32,
-    pub seconds: f64,
 }
 
 // A refusal, or how many rows there are and the number of the first.

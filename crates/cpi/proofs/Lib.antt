@@ -1,4 +1,3 @@
 -- Laws that the proofs of this crate cite.
 pub mod Heads
 pub mod Sections
-pub mod Filling

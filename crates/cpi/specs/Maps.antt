@@ -1,12 +1,10 @@
--- The maps of the entry index, measured and put into tables.
+-- The maps of the entry index, measured.
 use Prim.Native.Nat.{ℕ, _+_, _*_, _≤_}
 use mathlib.Core.Path.{_≡_}
 use mathlib.Core.List.{List}
-use mathlib.Core.Bool.{true}
 use lib.ListN.{length}
 use Rattle.format.specs.Bytes.{pick, beAt}
 use Rattle.format.specs.EntryPoints.{cpiEnd, hasMaps, mapCount, cpiIn, mapIn, mapsIn, fineCountAt, mapsFrom, entriesFrom}
-use Rattle.format.specs.Tables.{rowRoom, mapCells, entryCells}
 use Rattle.cpi.specs.declared.maps.Head.{Head}
 use Rattle.cpi.specs.declared.maps.MapRows.{MapRows}
 use Rattle.cpi.specs.declared.maps.Measured.{Measured}
@@ -42,20 +40,3 @@ pub record HeadersIn (f : List ℕ) (c count end : ℕ) : Type 0 where
   pub end-is : end ≡ cpiEnd f c
   pub end-in : end ≤ length f
   pub headers : c + 8 + 12 * count ≤ length f
-
--- a map's header and body are in the file, and the table has room for its entries
-pub record OneMap (f : List ℕ) (c p room at : ℕ) : Type 0 where
-  pub small : length f ≤ 536870912
-  pub end-in : cpiEnd f c ≤ length f
-  pub header : p + 12 ≤ length f
-  pub body : mapIn f c p ≡ true
-  pub fits : at + 20 * fineCountAt f p ≤ room
-
--- the section is in the file, and both tables have room
-pub record Fill (f : List ℕ) (c count : ℕ) (maps entries : List ℕ) : Type 0 where
-  pub small : length f ≤ 536870912
-  pub counted : count ≡ mapCount f c
-  pub head-in : cpiIn f c ≡ true
-  pub maps-in : mapsIn f c ≡ true
-  pub maps-room : length (mapsFrom f c) ≤ rowRoom mapCells maps
-  pub entries-room : length (entriesFrom f c) ≤ rowRoom entryCells entries

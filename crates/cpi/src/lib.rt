@@ -1,2 +1,2 @@
-// The entry index: its maps and all their entries. First measured, then put into tables.
+// The entry index measured: its maps and all their entries.
 pub mod maps;

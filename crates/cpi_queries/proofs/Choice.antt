@@ -18,15 +18,15 @@ use Rattle.format.proofs.Rows.{rows-length}
 use Rattle.format.proofs.Tests.{both-true}
 use Rattle.cells.specs.Reads.{CellIs}
 use Rattle.queries.specs.Asked.{stated, onlyMaps, mapsAndEntries}
-use Rattle.table_rows.specs.FirstRow.{askRow}
-use Rattle.table_rows.specs.declared.search.Test.{Test}
+use Rattle.row_search.specs.FirstRow.{askRow}
+use Rattle.row_search.specs.declared.Test.{Test}
 use Rattle.table_rows.proofs.Scans.{rowsLeft, left-all, left-turn, left-done, cell-in}
-use Rattle.table_rows.proofs.FirstRow.{row-answers, through, next-through}
+use Rattle.row_search.proofs.FirstRow.{row-answers, through, next-through}
 use Rattle.queries.proofs.Asking.{through-test}
 use Rattle.ep_map_queries.specs.InMap.{seekIn, seekQuestion, primarySeekQuestion}
-use Rattle.ep_map_queries.specs.Nearest.{far}
+use Rattle.nearest.specs.Nearest.{far, noneYet}
 use Rattle.cpi_queries.specs.PrimaryMap.{leastPid, videoOrLeast}
-use Rattle.ep_map_queries.specs.declared.entries.Nearest.{Nearest}
+use Rattle.nearest.specs.declared.Nearest.{Nearest}
 use Rattle.ep_map_queries.proofs.Answers.{seek-asks}
 
 -- ---- by type
@@ -81,8 +81,8 @@ module _ (t : List ℕ) (n : ℕ) where
     pub says : Least so-far (s .row) (s .distance)
     pub rest : bestOf (λ y. true) less k (map mapPid (rowsLeft mapCells t n k)) so-far ≡ bestOf (λ y. true) less 0 (map mapPid (tableRows mapCells t n)) nothing
 
-  pub pids-first : Pids 0 (record { row = 0; distance = far })
-  pids-first = record { so-far = nothing; says = Least.no-row; rest = rw (left-all mapCells t n) }
+  pub pids-first : {s : Nearest} → s ≡ noneYet → Pids 0 s
+  pids-first e = rw e (record { so-far = nothing; says = Least.no-row; rest = rw (left-all mapCells t n) })
 
   pub pids-turn : (k : ℕ) (s : Nearest) {x : ℕ} {r : Nearest} → k < n → CellIs t (12 * k) x → r ≡ pick (ltb x (s .distance)) (record { row = k; distance = x }) s → Pids k s → Pids (k + 1) r
   pids-turn k s {x} h c chose i =

@@ -10,13 +10,13 @@ ghost use Rattle.queries.specs.Asked.{stated, onlyMaps, mapsAndEntries};
 ghost use Rattle.ep_map_queries.specs.InMap.{primarySeekQuestion};
 ghost use Rattle.cpi_queries.specs.PrimaryMap.{leastPid, videoOrLeast};
 use cells::cell_at;
-use ep_map_queries::entries::FAR;
-use ep_map_queries::entries::Nearest;
-use ep_map_queries::entries::closer;
 use ep_map_queries::entries::seek;
+use nearest::FAR;
+use nearest::closer;
+use nearest::none_yet;
 use queries::Found;
-use table_rows::search::Test;
-use table_rows::search::first_row;
+use row_search::Test;
+use row_search::first_row;
 
 // The cells of a map's row: PID, type, entry count.
 const MAP: usize = 3;
@@ -40,13 +40,11 @@ fn least_pid(maps: &[u8], rows: u32) -> Found
     requires { ⌜ rows ≤ rowRoom mapCells (now maps) ⌝ }
     ensures { λ r. ⌜ foundOf r ≡ leastPid (map mapPid (tableRows mapCells (now (maps .entry)) rows)) ⌝ }
 {
-    let mut best = Nearest {
-        row: 0,
-        distance: FAR,
-    };
+    let mut best = none_yet();
     let mut k: u32 = 0;
     while k < rows {
-        best = closer(best, k, cell_at(maps, 4 * MAP * (k as usize)) as u64);
+        let pid = cell_at(maps, 4 * MAP * (k as usize));
+        best = closer(best, k as usize, pid as u64);
         k += 1;
     }
     if best.distance == FAR {

@@ -14,9 +14,10 @@ use Rattle.format.specs.Tables.{ClipTables, clipIn, overwritten}
 use Rattle.format.specs.Rewriting.{encode}
 use Rattle.format.specs.Refusals.{WriteAnswer, refused, tooShort, written, unlessRefused, writtenIn, writeAnswer}
 use Rattle.format.proofs.Loops.{sets-front}
-use Rattle.encode.specs.Writing.{refusalIn, marksPlace, bytesIn}
-use Rattle.encode.proofs.Parts.{encode-length}
-use Rattle.encode.proofs.Tables.{marks-bound}
+use Rattle.encode_measure.specs.Places.{refusalIn, marksPlace}
+use Rattle.encode.specs.Writing.{bytesIn}
+use Rattle.encode_measure.proofs.Parts.{encode-length}
+use Rattle.encode_measure.proofs.Tables.{marks-bound}
 
 module _ (refusal : ℕ) (c : Clip) (out : List ℕ) where
   -- the answer, by the refusal and the lengths

@@ -1,57 +1,7 @@
--- Writing as the code goes about it: the refusal and the places of the sections first, then the bytes.
-use Prim.Native.Nat.{ℕ, _+_, _≤_}
-use mathlib.Core.Path.{_≡_}
-use mathlib.Core.List.{List, [], _∷_}
-use lib.ListN.{length}
-use lib.Dec.{eqb}
-use mathlib.Core.Bool.{Bool}
-use Rattle.format.specs.Bytes.{both, pick, unless}
-use Rattle.format.specs.ClipRecord.{Clip}
-use Rattle.format.specs.Tables.{ClipTables, clipIn, stcCells, streamCells, entryCells}
-use Rattle.format.specs.Rewriting.{sequencesBytes, programsBytes, cpiBytes}
-use Rattle.format.specs.Refusals.{allStated, writeRefusal, WriteAnswer, refused, tooShort, written}
-use Rattle.table_rows.specs.OwnRows.{isCounted}
-use Rattle.encode.specs.declared.measure.Measured.{Measured}
+-- The answer of writing, as the code holds it.
+use Prim.Native.Nat.{ℕ}
+use Rattle.format.specs.Refusals.{WriteAnswer, refused, tooShort, written}
 use Rattle.encode.specs.declared.write.Answer.{Answer}
-
--- 22, 30 or 31; 0 where the record can be written
-abbrev pub refusalIn : ClipTables → ℕ
-refusalIn l = unless (allStated l) 22 (writeRefusal (clipIn l))
-
--- the rows are there and the counts add up, pair of tables by pair of tables, else 22
-unfoldable pub pairsCounted : ClipTables → Bool
-pairsCounted l =
-    both (isCounted 1 stcCells (l .atcs) (l .stcs)) (both (isCounted 2 streamCells (l .programs) (l .streams)) (isCounted 2 entryCells (l .maps) (l .entries)))
-
--- the widths of the scalars' fields in bits: version, stream type, application type, rate, packets, validity flags, format id
-abbrev pub scalarWidths : List ℕ
-scalarWidths = 32 ∷ 8 ∷ 8 ∷ 32 ∷ 32 ∷ 8 ∷ 32 ∷ []
-
--- where the sections of the new file stand; the sequences are at 220
-unfoldable pub programsPlace : Clip → ℕ
-programsPlace c = 220 + length (sequencesBytes c)
-
-unfoldable pub cpiPlace : Clip → ℕ
-cpiPlace c = programsPlace c + length (programsBytes c)
-
-unfoldable pub marksPlace : Clip → ℕ
-marksPlace c = cpiPlace c + length (cpiBytes c)
-
--- the refusal, or these places
-unfoldable pub measuredBy : ℕ → Clip → Measured
-measuredBy refusal c = pick (eqb refusal 0) (Measured.Places (programsPlace c) (cpiPlace c) (marksPlace c)) (Measured.Refused refusal)
-
--- the places of a record's sections, and room for its file in an output of so many bytes
-pub record Placed (c : Clip) (programs cpi marks bytes : ℕ) : Type 0 where
-  pub programs-at : programs ≡ programsPlace c
-  pub cpi-at : cpi ≡ cpiPlace c
-  pub marks-at : marks ≡ marksPlace c
-  pub room : marks + 6 ≤ bytes
-
--- a record that can be written
-pub record Ready (l : ClipTables) (programs cpi marks bytes : ℕ) : Type 0 where
-  pub writable : refusalIn l ≡ 0
-  pub placed : Placed (clipIn l) programs cpi marks bytes
 
 -- the code's answer as that of the definition
 abbrev pub answerOf : Answer → WriteAnswer

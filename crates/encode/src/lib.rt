@@ -1,3 +1,2 @@
 // Writing a record: every refusal is tested first, then the new file's bytes are stored.
-pub mod measure;
 pub mod write;

@@ -7,15 +7,16 @@ ghost use Rattle.format.specs.Rewriting.{encode};
 ghost use Rattle.format.specs.Tables.{clipIn};
 ghost use Rattle.clip_information.specs.Read.{scalarsBy};
 ghost use Rattle.queries.specs.Asked.{stated, tablesWith};
-ghost use Rattle.encode.specs.Writing.{Ready, answerOf};
-use crate::measure::Measured;
-use crate::measure::measure;
+ghost use Rattle.encode_measure.specs.Places.{Ready};
+ghost use Rattle.encode.specs.Writing.{answerOf};
 use clip_sections::info::ClipInfo;
 use encode_cpi::put_cpi;
 use encode_head::put_head;
-use encode_head::put_marks;
+use encode_measure::Measured;
+use encode_measure::measure;
 use encode_sections::Section;
 use encode_sections::put_section;
+use section_heads::put_marks;
 
 // How many bytes were written; the refusal's number; or how many bytes the output needs.
 pub enum Answer {

@@ -1,4 +1,4 @@
--- Fields stored one behind the other, zeros, and the head in its two parts.
+-- Zeros, and the head in its two parts.
 use Prim.Native.Nat.{ℕ, zero, suc, _+_, _-_, _*_, _/_, _%_, _^_, _<_, _≤_}
 use mathlib.Core.Path.{_≡_, refl, sym, ap, _∙_}
 use mathlib.Core.List.{List, [], _∷_, _++_, append-nil, append-assoc}
@@ -13,15 +13,6 @@ use Rattle.format.proofs.Numbers.{bytes-length}
 use Rattle.format.proofs.Loops.{put-more}
 use Rattle.format.proofs.Stores.{sets-append, bytes-parts}
 use Rattle.encode_head.specs.Heads.{headerWidths, headerNumbers, infoWidths, infoNumbers, headOf}
-
--- a field stored, and the later fields behind it
-pub field-then : (l : List ℕ) (at w v : ℕ) (ws vs : List ℕ) {l′ l″ : List ℕ} → l′ ≡ sets l at (bytesOf w v) → l″ ≡ sets l′ (at + w) (fieldBytes ws vs)
-    → l″ ≡ sets l at (fieldBytes (w ∷ ws) (v ∷ vs))
-field-then l at w v ws vs e f = f ∙ rw (e, sets-append l at (bytesOf w v) (fieldBytes ws vs), bytes-length w v)
-
--- the last field
-pub field-last : (l : List ℕ) (at w v : ℕ) {l′ : List ℕ} → l′ ≡ sets l at (bytesOf w v) → l′ ≡ sets l at (fieldBytes (w ∷ []) (v ∷ []))
-field-last l at w v e = e ∙ rw (append-nil (bytesOf w v))
 
 -- zeros: one, and the rest
 zeros-more : (n : ℕ) → bytesOf (1 + n) 0 ≡ bytesOf 1 0 ++ bytesOf n 0

@@ -1,11 +1,10 @@
-// The fixed parts of a written file: its first 220 bytes, with the header and ClipInfo, and the empty marks at its end.
+// The first 220 bytes of a written file: the header and ClipInfo.
 ghost use mathlib.Core.Path.{_≡_};
 ghost use mathlib.Core.List.{[], _∷_};
 ghost use Prim.Native.Nat.{_+_, _≤_};
 ghost use lib.ListN.{length};
 ghost use lib.Seq.{sets};
 ghost use Rattle.format.specs.Bytes.{bytesOf, fieldBytes};
-ghost use Rattle.format.specs.Rewriting.{marksBytes};
 ghost use Rattle.clip_information.specs.Read.{scalarsBy};
 ghost use Rattle.encode_head.specs.Heads.{headerWidths, headerNumbers, formatWidths, formatNumbers, infoWidths, infoNumbers, headOf};
 use clip_sections::info::ClipInfo;
@@ -77,13 +76,4 @@ pub fn put_head(info: ClipInfo, programs: u32, cpi: u32, marks: u32, out: &mut [
 {
     put_header(info.version, programs, cpi, marks, out);
     put_clip_info(info, out);
-}
-
-// Empty marks: length 2, count 0.
-pub fn put_marks(out: &mut [u8], at: usize)
-    requires { ⌜ at + 6 ≤ length (now out) ⌝ }
-    ensures { λ _. ⌜ now (out .exit) ≡ sets (now (out .entry)) at marksBytes ⌝ }
-{
-    put_u32(out, at, 2);
-    put_u16(out, at + 4, 0);
 }

@@ -10,12 +10,12 @@ use Rattle.format.specs.Bytes.{both, flat, total}
 use Rattle.format.specs.ClipRecord.{Clip}
 use Rattle.format.specs.Rewriting.{sequencesBytes, programsBytes}
 use Rattle.format.specs.Tables.{cellsAt, tableRows, rowRoom, stcCells, streamCells, isStated, addUp}
-use Rattle.format.proofs.Rows.{rows-length}
+use Rattle.format.proofs.Tables.{rows-stated}
 use Rattle.format.proofs.Sections.{section-length}
 use Rattle.format.proofs.Tests.{both-true}
 use Rattle.queries.specs.Asked.{stated}
 use Rattle.table_rows.specs.OwnRows.{headCells, cellIn, isCounted}
-use Rattle.row_bytes.proofs.Fields.{sectionHead}
+use Rattle.section_heads.proofs.Stored.{sectionHead}
 use Rattle.row_values.specs.Kinds.{cellsOf, bytesBy}
 use Rattle.encode_sections.specs.Sections.{headKind, rowKind, countOf, itemsOf, sectionOf, headsIn, ownIn, itemsIn, sectionIn, Counted, Storable}
 use Rattle.encode_sections.specs.declared.Section.{Section}
@@ -34,11 +34,6 @@ unfolding programsBytes
 programs-are c = refl
 
 -- ---- a section in tables
-
--- a table has as many rows as are asked of it
-rows-stated : (cells : ℕ) (t : List ℕ) (n : ℕ) → length (tableRows cells t n) ≡ n
-unfolding tableRows
-rows-stated cells t n = rows-length (cellsAt t cells) (λ p. p + 4 * cells) 0 n
 
 module _ {section : Section} {heads : List ℕ} {n : ℕ} {rows : List ℕ} {m : ℕ} (c : Counted section heads n rows m) where
   -- six bytes, the header rows and the rows

@@ -7,12 +7,12 @@ ghost use Rattle.row_values.specs.Kinds.{rowOf};
 ghost use Rattle.encode_sections.specs.Sections.{headKind, rowKind, countOf, groupBytes, GroupThere, itemsIn, ItemsThere, sectionIn, Counted, Storable};
 use encode_rows::put_rows;
 use encode_rows::rows_length;
-use row_bytes::put_head;
 use row_bytes::put_row;
 use row_values::Kind;
 use row_values::Row;
 use row_values::cells_of;
 use row_values::table_row;
+use section_heads::put_head;
 
 // The bytes of a header row in its table.
 const HEAD: usize = 12;

@@ -1,24 +1,23 @@
 -- What the entries of a map answer, and the refusals in front of it.
-use Prim.Native.Nat.{ℕ, suc, _+_, _*_, _-_, _<_, _≤_}
+use Prim.Native.Nat.{ℕ, _+_, _*_, _-_, _<_, _≤_}
 use mathlib.Core.Path.{_≡_, refl, sym, ap, _∙_}
 use mathlib.Core.List.{List, [], _∷_, map}
 use mathlib.Core.Bool.{Bool, true, false}
 use native.Mathlib.Omega.{arith}
 use lib.Dec.{lit<}
-use lib.ListN.{length, getD, length-map}
+use lib.ListN.{length}
 use Rattle.format.specs.ClipRecord.{Row, entryCount, time, packet}
-use Rattle.format.specs.Questions.{Question, partsOf, Answer, refused, none, number, Best, nothing, best, rowOr, ofRow, atOrBefore, after, spanOf, ticks90, indexedSpan90k, ownRows, ofMap, answer, ask}
+use Rattle.format.specs.Questions.{Question, partsOf, Answer, refused, number, ofRow, ownRows, ofMap, answer, ask}
 use Rattle.format.specs.Questions as of
 use Rattle.format.specs.Tables.{Table, rowsOf, cellAt, cellsAt, clipIn, mapCells, entryCells}
 use Rattle.format.proofs.Cell.{item-at}
 use Rattle.format.proofs.Lookups.{before-row, after-row}
-use Rattle.format.proofs.Rows.{rows-length}
 use Rattle.cells.specs.Reads.{CellIs}
 use Rattle.queries.specs.Asked.{mapsAndEntries}
 use Rattle.table_rows.specs.OwnRows.{refusal, owns}
 use Rattle.table_rows.proofs.OwnRows.{own-rows, behindTests, tests-fail, tests-pass}
-use Rattle.ep_map_queries.specs.InMap.{entriesOf, entriesAt, findIn, seekIn, endIn, findQuestion, seekQuestion, endQuestion}
-use Rattle.ep_map_queries.specs.Nearest.{far, bestAt, Says}
+use Rattle.ep_map_queries.specs.InMap.{entriesOf, entriesAt, findIn, seekIn, findQuestion, seekQuestion}
+use Rattle.ep_map_queries.proofs.Nearest.{times-length}
 
 -- ---- the refusals
 
@@ -57,65 +56,13 @@ module _ (maps entries : Table) (m : ℕ) where
   seek-asks true at = record { two = refl; asks = refl }
   seek-asks false at = record { two = refl; asks = refl }
 
-  pub end-asks : (side : Bool) → AsksMap (endQuestion side m) maps entries m (λ es. endIn side es)
-  unfolding answer clipIn
-  end-asks true = record { two = refl; asks = refl }
-  end-asks false = record { two = refl; asks = refl }
-
-  pub span-asks : AsksMap (indexedSpan90k m) maps entries m (λ es. ticks90 (spanOf es))
-  unfolding answer clipIn
-  span-asks = record { two = refl; asks = refl }
-
--- ---- the nearest entry as an answer
-
-row-or : {side : Bool} {at row d : ℕ} {b : Best} → Says side at b row d → number row ≡ rowOr (number 0) b
-row-or Says.none = refl
-row-or (Says.some k x d xb e near) = refl
-
-none-or : {side : Bool} {at row d : ℕ} {b : Best} → Says side at b row d → d ≡ far → none ≡ rowOr none b
-none-or Says.none h = refl
-none-or (Says.some k x d xb e near) h = absurd (omega arith)
-
-some-or : {side : Bool} {at row d : ℕ} {b : Best} → Says side at b row d → (d ≡ far → ⊥) → number row ≡ rowOr none b
-some-or Says.none h = absurd (h refl)
-some-or (Says.some k x d xb e near) h = refl
+-- ---- the packet of the entry that is found
 
 module _ (t : List ℕ) (first count at : ℕ) where
-  -- an empty map has none
-  pub empty-map : (side : Bool) → count ≡ 0 → none ≡ findIn side (entriesAt t first count) at
-  unfolding atOrBefore after
-  empty-map true e = rw e
-  empty-map false e = rw e
-
-  -- in any other there is a row at or before
-  pub before-is : (side : Bool) {row d : ℕ} → side ≡ false → (count ≡ 0 → ⊥) → Says side at (bestAt t first count side at) row d → number row ≡ findIn side (entriesAt t first count) at
-  unfolding atOrBefore
-  before-is true e some s = let z : _≡_ {A = ℕ} 0 1 = cc in absurd (omega arith)
-  before-is false o some s =
-      let e : count ≡ suc (count - 1) = omega arith in
-      rw e (rw e at (row-or s))
-
-  -- none is above, or the nearest is
-  pub after-none : (side : Bool) {row d : ℕ} → side ≡ true → Says side at (bestAt t first count side at) row d → d ≡ far → none ≡ findIn side (entriesAt t first count) at
-  unfolding after
-  after-none true o s h = none-or s h
-  after-none false e s h = let z : _≡_ {A = ℕ} 0 1 = cc in absurd (omega arith)
-
-  pub after-some : (side : Bool) {row d : ℕ} → side ≡ true → Says side at (bestAt t first count side at) row d → (d ≡ far → ⊥) → number row ≡ findIn side (entriesAt t first count) at
-  unfolding after
-  after-some true o s h = some-or s h
-  after-some false e s h = let z : _≡_ {A = ℕ} 0 1 = cc in absurd (omega arith)
-
-  -- ---- its packet
-
-  -- there are as many times as entries
-  times : length (map time (entriesAt t first count)) ≡ count
-  times = length-map (entriesAt t first count) time ∙ rows-length (cellsAt t entryCells) (λ p. p + 4 * entryCells) (4 * entryCells * first) count
-
   -- the row that is found is one of them
   pub found-below : (side : Bool) (k : ℕ) → number k ≡ findIn side (entriesAt t first count) at → k < count
-  found-below true k h = rw times at (after-row (map time (entriesAt t first count)) at k (sym h))
-  found-below false k h = rw times at (before-row (map time (entriesAt t first count)) at k (sym h))
+  found-below true k h = rw (times-length t first count) at (after-row (map time (entriesAt t first count)) at k (sym h))
+  found-below false k h = rw (times-length t first count) at (before-row (map time (entriesAt t first count)) at k (sym h))
 
   pub packet-is : (k : ℕ) {v : ℕ} → k < count → CellIs t (20 * (first + k) + 12) v → number v ≡ ofRow packet (entriesAt t first count) (number k)
   packet-is k h c =

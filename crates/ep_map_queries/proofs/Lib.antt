@@ -1,4 +1,3 @@
 -- Laws of the entries of one map.
 pub mod Nearest
 pub mod Answers
-pub mod Lasts

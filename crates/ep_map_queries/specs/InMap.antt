@@ -1,10 +1,11 @@
--- The entries of one map, and what is asked about them: before a time or after it, at the front or at the end.
+-- The entries of one map, and what is asked about them: before a time or after it.
 use Prim.Native.Nat.{ℕ}
 use mathlib.Core.List.{List, map}
 use mathlib.Core.Bool.{Bool, true, false}
 use Rattle.format.specs.ClipRecord.{Row, time, packet}
-use Rattle.format.specs.Questions.{Question, entryPointAtOrBefore, entryPointAfter, seekSpn, nextSeekSpn, primarySeekSpn, primaryNextSeekSpn, firstPts, lastPts, Answer, atOrBefore, after, ofRow, firstTime, lastTime}
+use Rattle.format.specs.Questions.{Question, entryPointAtOrBefore, entryPointAfter, seekSpn, nextSeekSpn, primarySeekSpn, primaryNextSeekSpn, Answer, ofRow}
 use Rattle.format.specs.Tables.{Table, entryCells}
+use Rattle.nearest.specs.Nearest.{rowIn}
 use Rattle.table_rows.specs.OwnRows.{Owned, ownedRows, rowsFrom}
 
 -- the entries of a map, whose count stands in cell 2
@@ -17,17 +18,11 @@ entriesAt t first count = rowsFrom entryCells t first count
 
 -- the entry after a time, or at or before it
 abbrev pub findIn : Bool → List Row → ℕ → Answer
-findIn true es at = after (map time es) at
-findIn false es at = atOrBefore (map time es) at
+findIn side es at = rowIn side (map time es) at
 
 -- its packet
 abbrev pub seekIn : Bool → List Row → ℕ → Answer
 seekIn side es at = ofRow packet es (findIn side es at)
-
--- the last time, or the first
-abbrev pub endIn : Bool → List Row → Answer
-endIn true es = lastTime es
-endIn false es = firstTime es
 
 -- the questions that ask for these
 abbrev pub findQuestion : Bool → ℕ → ℕ → Question
@@ -41,7 +36,3 @@ seekQuestion false m at = seekSpn m (record { ticks = at })
 abbrev pub primarySeekQuestion : Bool → ℕ → Question
 primarySeekQuestion true at = primaryNextSeekSpn (record { ticks = at })
 primarySeekQuestion false at = primarySeekSpn (record { ticks = at })
-
-abbrev pub endQuestion : Bool → ℕ → Question
-endQuestion true m = lastPts m
-endQuestion false m = firstPts m

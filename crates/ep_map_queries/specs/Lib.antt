@@ -1,3 +1,2 @@
--- The entries of one map, and the nearest of them to a time.
+-- The entries of one map, and what is asked about them.
 pub mod InMap
-pub mod Nearest

@@ -1,4 +1,3 @@
 // Questions about the entries of one map.
 pub mod entries;
 pub mod own;
-pub mod spans;

@@ -45,6 +45,20 @@ sets-append l i (v ∷ vs) ws =
     let e : suc i + length vs ≡ i + suc (length vs) = omega arith in
     sets-append (set l i v) (suc i) vs ws ∙ ap (λ (k : ℕ). sets (sets (set l i v) (suc i) vs) k ws) e
 
+-- a part stored, and another behind it
+pub part-then : (l : List ℕ) (at w : ℕ) (part rest : List ℕ) {l′ l″ : List ℕ} {at′ : ℕ} → length part ≡ w → at′ ≡ at + w → l′ ≡ sets l at part → l″ ≡ sets l′ at′ rest
+    → l″ ≡ sets l at (part ++ rest)
+part-then l at w part rest size place e f = f ∙ rw (e, sets-append l at part rest, size, place)
+
+-- a field stored, and the others of its row behind it
+pub field-then : (l : List ℕ) (at w v : ℕ) (rest : List ℕ) {l′ l″ : List ℕ} {at′ : ℕ} → at′ ≡ at + w → l′ ≡ sets l at (bytesOf w v) → l″ ≡ sets l′ at′ rest
+    → l″ ≡ sets l at (bytesOf w v ++ rest)
+field-then l at w v rest place e f = part-then l at w (bytesOf w v) rest (bytes-length w v) place e f
+
+-- the last field of a row
+pub field-last : (l : List ℕ) (at w v : ℕ) {l′ : List ℕ} → l′ ≡ sets l at (bytesOf w v) → l′ ≡ sets l at (bytesOf w v ++ [])
+field-last l at w v e = e ∙ rw (append-nil (bytesOf w v))
+
 -- ---- numbers in either byte order
 
 -- a number read byte by byte is the same from the same bytes

@@ -13,7 +13,7 @@ use Rattle.format.proofs.Lists.{All, none, more, all-map}
 use Rattle.format.proofs.Fields.{Fit, one}
 use Rattle.format.proofs.Numbers.{Stands}
 use Rattle.format.proofs.Cells.{low-length, low-back}
-use Rattle.format.proofs.Rows.{as-is, map-as-is, rows-back}
+use Rattle.format.proofs.Rows.{as-is, map-as-is, rows-back, rows-length}
 use Rattle.format.proofs.Sweep.{row-bytes, table-bytes}
 
 -- a row of so many cells, each of 32 bits
@@ -45,6 +45,11 @@ table-back cells {rows} h beyond =
     let st : Stands t 0 (tableBytes rows) = record { before = []; behind = beyond; place = refl; whole = refl } in
     let r = rows-back t (cellsAt t cells) (λ p. p + 4 * cells) rowBytes as-is (Cells cells) (row-back t cells) h 0 st in
     r .0 ∙ map-as-is rows
+
+-- a table has as many rows as are asked of it
+pub rows-stated : (cells : ℕ) (t : List ℕ) (n : ℕ) → length (tableRows cells t n) ≡ n
+unfolding tableRows
+rows-stated cells t n = rows-length (cellsAt t cells) (λ p. p + 4 * cells) 0 n
 
 -- there is room for what stands there
 pub table-room : (cells : ℕ) {rows : List Row} → 0 < cells → All (Cells cells) rows → (beyond : List ℕ)

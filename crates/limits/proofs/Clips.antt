@@ -17,7 +17,7 @@ use Rattle.table_rows.specs.OwnRows.{isCounted}
 use Rattle.row_limits.specs.Kinds.{cellsOf, fitsBy}
 use Rattle.row_limits.specs.declared.Kind.{Kind}
 use Rattle.limits.specs.Clips.{entriesFit, headsFit, groupsFit, mapsFit, tablesFit}
-use Rattle.limits.proofs.Walks.{rows-stated}
+use Rattle.format.proofs.Tables.{rows-stated}
 
 -- ---- two tests
 
@@ -47,11 +47,11 @@ module _ (kind : Kind) (t : List ℕ) (n : ℕ) where
 
   -- too many
   pub too-many : 255 < n → false ≡ headsFit kind (tableRows (cellsOf kind) t n)
-  too-many h = rw (rows-stated (cellsOf kind) (stated t n), lt-leb n 255 h)
+  too-many h = rw (rows-stated (cellsOf kind) t n, lt-leb n 255 h)
 
   -- few enough
   pub few : {b : Bool} → n ≤ 255 → b ≡ every (fitsBy kind) (tableRows (cellsOf kind) t n) → b ≡ headsFit kind (tableRows (cellsOf kind) t n)
-  few h is = rw (rows-stated (cellsOf kind) (stated t n), le-leb n 255 h) is
+  few h is = rw (rows-stated (cellsOf kind) t n, le-leb n 255 h) is
 
 -- ---- the record
 

@@ -12,7 +12,8 @@ use Rattle.format.specs.ClipRecord.{Row, entryCount}
 use Rattle.format.specs.Refusals.{entryFits, everyMap}
 use Rattle.format.specs.Tables.{Table, rowsOf, cellsAt, tableRows, rowRoom, mapCells, entryCells}
 use Rattle.format.proofs.Loops.{one-left, none-left}
-use Rattle.format.proofs.Rows.{rows-length, take-rows, drop-rows}
+use Rattle.format.proofs.Rows.{take-rows, drop-rows}
+use Rattle.format.proofs.Tables.{rows-stated}
 use Rattle.format.proofs.Tests.{split-both}
 use Rattle.cells.specs.Reads.{CellIs}
 use Rattle.table_rows.specs.OwnRows.{headCells, cellIn, isCounted}
@@ -67,11 +68,6 @@ module _ (test : Row → Bool) (cells : ℕ) (t : List ℕ) (p n : ℕ) where
 
 -- ---- tables whose counts add up
 
--- there are as many rows as stated
-pub rows-stated : (cells : ℕ) (t : Table) → length (rowsOf cells t) ≡ t .rows
-unfolding tableRows
-rows-stated cells t = rows-length (cellsAt (t .bytes) cells) (λ p. p + 4 * cells) 0 (t .rows)
-
 -- the rows of both tables are there, and the counts add up to those counted
 pub record Counts (cell cells : ℕ) (heads rows : Table) : Type 0 where
   pub heads-there : heads .rows ≤ rowRoom headCells (heads .bytes)
@@ -87,7 +83,7 @@ counts cell cells heads rows h =
     record {
       heads-there = leb-true (heads .rows) (rowRoom headCells (heads .bytes)) (there .0);
       rows-there = leb-true (rows .rows) (rowRoom cells (rows .bytes)) (split-both (there .1) .0);
-      adds = eqb-true (total (cellIn cell) (rowsOf headCells heads)) (length (rowsOf cells rows)) (tests .1) ∙ rows-stated cells rows;
+      adds = eqb-true (total (cellIn cell) (rowsOf headCells heads)) (length (rowsOf cells rows)) (tests .1) ∙ rows-stated cells (rows .bytes) (rows .rows);
     }
 
 -- ---- maps, each with its own entries

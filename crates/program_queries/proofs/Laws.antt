@@ -15,10 +15,10 @@ use Rattle.format.proofs.Lookups.{first-row}
 use Rattle.format.proofs.Rows.{rows-length}
 use Rattle.format.proofs.Tests.{both-true}
 use Rattle.queries.specs.Asked.{onlyPrograms, onlyStreams}
-use Rattle.table_rows.specs.FirstRow.{askRow}
-use Rattle.table_rows.specs.declared.search.Test.{Test}
+use Rattle.row_search.specs.FirstRow.{askRow}
+use Rattle.row_search.specs.declared.Test.{Test}
 use Rattle.queries.proofs.Asking.{through-test}
-use Rattle.table_rows.proofs.FirstRow.{row-answers}
+use Rattle.row_search.proofs.FirstRow.{row-answers}
 
 -- a program by its PID
 pub program-asked : (t : Table) (pid : ℕ) → askRow programCells 1 0 (Test.Is pid) t ≡ ask (programByPmtPid pid) (onlyPrograms t)

@@ -7,10 +7,10 @@ ghost use Rattle.queries.specs.Asked.{stated, onlyPrograms, onlyStreams};
 ghost use Rattle.table_rows.specs.OwnRows.{ownedOf, ownedRows};
 use cells::cell_at;
 use queries::Found;
+use row_search::Test;
+use row_search::first_row;
 use table_rows::own::Own;
 use table_rows::own::own_rows;
-use table_rows::search::Test;
-use table_rows::search::first_row;
 
 // The cells of a program's row (packet, PID, stream count), and of a stream's (PID, coding type, format, aspect, language).
 const PROGRAM: usize = 3;

@@ -19,8 +19,9 @@ use Rattle.clip_sections.specs.declared.sections.Sections.{Sections}
 use Rattle.encode_cpi.specs.declared.Length.{Length}
 use Rattle.encode_cpi.specs.Cpi.{cpiLengthOf}
 use Rattle.rewrite_cpi.proofs.Lengths.{length-said, length-refused}
-use Rattle.encode.specs.Writing.{programsPlace, cpiPlace, marksPlace, Placed, bytesIn}
-use Rattle.encode.proofs.Parts.{good-short, encode-length}
+use Rattle.encode_measure.specs.Places.{programsPlace, cpiPlace, marksPlace, Placed}
+use Rattle.encode.specs.Writing.{bytesIn}
+use Rattle.encode_measure.proofs.Parts.{good-short, encode-length}
 use Rattle.encode.proofs.Answers.{bytes-narrow}
 use Rattle.rewrite.specs.declared.measure.Planned.{Planned}
 use Rattle.rewrite.specs.Rewrite.{rewriteRefusal, plannedOf, Ready, LengthAnswer, refused, bytes, lengthAnswer, lengthIn, rewriteAnswer}

@@ -10,14 +10,14 @@ use Rattle.format.specs.EntryPoints.{mapsFrom, entriesFrom}
 use Rattle.format.specs.Reading.{clipOf}
 use Rattle.format.specs.Rewriting.{sequencesBytes, programsBytes, cpiBytes, cpiBytesBy}
 use Rattle.format.specs.Refusals.{refusalOf, runsFit}
-use Rattle.clip_sections.proofs.PrepareLaws.{accepted-bounds}
+use Rattle.clip_sections.proofs.Laws.{accepted-bounds}
 use Rattle.clip_information.proofs.FillLaws.{sound, maps-counted}
 use Rattle.rewrite_sections.specs.Sections.{newSequences, newPrograms, SequencesRoom, ProgramsRoom}
 use Rattle.rewrite_sections.proofs.Groups.{sequences-of, programs-of}
 use Rattle.rewrite_sections.proofs.Lengths.{sequences-long}
 use Rattle.rewrite_cpi.specs.Cpi.{Section, CpiRoom}
-use Rattle.encode.specs.Writing.{programsPlace, cpiPlace, marksPlace}
-use Rattle.encode.proofs.Parts.{place-programs, place-cpi, place-marks, InOrder, placed-order}
+use Rattle.encode_measure.specs.Places.{programsPlace, cpiPlace, marksPlace}
+use Rattle.encode_measure.proofs.Parts.{place-programs, place-cpi, place-marks, InOrder, placed-order}
 use Rattle.rewrite.specs.Rewrite.{rewriteRefusal, Ready}
 use Rattle.rewrite.proofs.Refusals.{passed, marks-short}
 

@@ -8,7 +8,7 @@ use Rattle.format.specs.Bytes.{pick, unless}
 use Rattle.format.specs.Reading.{clipOf}
 use Rattle.format.specs.Rewriting.{encode}
 use Rattle.format.specs.Refusals.{refusalOf, runsFit, WriteAnswer, unlessRefused, writtenIn}
-use Rattle.encode.specs.Writing.{programsPlace, cpiPlace, marksPlace, Placed}
+use Rattle.encode_measure.specs.Places.{programsPlace, cpiPlace, marksPlace, Placed}
 use Rattle.rewrite.specs.declared.measure.Planned.{Planned}
 use Rattle.rewrite.specs.declared.rewrite.NewLength.{NewLength}
 

@@ -12,11 +12,11 @@ use crate::measure::plan;
 use clip_sections::info::clip_info;
 use encode::write::Answer;
 use encode_head::put_head;
-use encode_head::put_marks;
 use numbers::u32_at;
 use rewrite_cpi::put_cpi;
 use rewrite_sections::put_programs;
 use rewrite_sections::put_sequences;
+use section_heads::put_marks;
 
 // How long the new file is, or the refusal's number.
 pub enum NewLength {

@@ -17,7 +17,7 @@ use Rattle.format.proofs.Rows.{rows-length}
 use Rattle.format.proofs.Tests.{split-both}
 use Rattle.ep_rows.specs.Rows.{headerOf}
 use Rattle.ep_rows.specs.declared.MapHeader.{MapHeader}
-use Rattle.cpi.proofs.Filling.{body-in, there}
+use Rattle.cpi_fill.proofs.Filling.{body-in, there}
 use Rattle.cpi.proofs.Sections.{header-read, counts-small, fine-is}
 use Rattle.map_runs.specs.Entries.{RowsIn}
 use Rattle.map_runs.specs.declared.walked.MapBody.{MapBody}

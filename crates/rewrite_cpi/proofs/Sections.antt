@@ -15,7 +15,7 @@ use Rattle.format.specs.Rewriting.{runs, bodyBytes, bodies, headerBytes, header
 use Rattle.format.proofs.Cpi.{header-length, headers-length}
 use Rattle.format.proofs.Read.{own-length}
 use Rattle.format.proofs.Tests.{both-true}
-use Rattle.cpi.proofs.Filling.{there}
+use Rattle.cpi_fill.proofs.Filling.{there}
 use Rattle.cpi.proofs.Sections.{counts-small}
 use Rattle.map_rows.proofs.Puts.{put-behind}
 use Rattle.encode_cpi.specs.Cpi.{fewRuns}

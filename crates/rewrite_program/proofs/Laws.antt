@@ -10,7 +10,7 @@ use Rattle.format.specs.ClipRecord.{Row}
 use Rattle.format.specs.Programs.{programAt, nextStream, nextProgram}
 use Rattle.format.specs.Rewriting.{programBytes}
 use Rattle.row_values.proofs.Lengths.{program-length}
-use Rattle.row_bytes.proofs.Fields.{part-then}
+use Rattle.format.proofs.Stores.{part-then}
 use Rattle.row_bytes.proofs.Storing.{first-room, second-room}
 use Rattle.rewrite_program.specs.Programs.{newStreams, streamsBehind, newProgram, programBehind}
 use Rattle.rewrite_program.specs.declared.Places.{Places}

@@ -15,7 +15,8 @@ use Rattle.format.proofs.Loops.{end-ge}
 use Rattle.format.proofs.Places.{up-stc, atc-head, up-atc, up-program}
 use Rattle.format.proofs.Rows.{rows-length}
 use Rattle.format.proofs.Sweep.{end-steps}
-use Rattle.row_bytes.proofs.Fields.{part-then, sectionHead, section-head}
+use Rattle.format.proofs.Stores.{part-then}
+use Rattle.section_heads.proofs.Stored.{sectionHead, section-head}
 use Rattle.rewrite_sections.specs.Sections.{part, newSequences, newItems, newPrograms}
 use Rattle.rewrite_sections.proofs.Parts.{part-length, part-two, fields-part, items-part}
 

@@ -14,7 +14,7 @@ use Rattle.format.proofs.Stores.{be-below}
 use Rattle.row_values.specs.declared.Kind.{Kind}
 use Rattle.row_values.specs.declared.Row as value
 use Rattle.row_values.proofs.Lengths.{program-length, row-short}
-use Rattle.row_bytes.proofs.Fields.{sectionHead, section-head}
+use Rattle.section_heads.proofs.Stored.{sectionHead, section-head}
 use Rattle.rewrite_program.specs.Programs.{newStreams, newProgram}
 use Rattle.rewrite_sections.specs.Sections.{part, newSequences, newPrograms}
 use Rattle.rewrite_sections.proofs.Parts.{part-length}

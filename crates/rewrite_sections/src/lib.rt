@@ -9,7 +9,7 @@ ghost use Rattle.rewrite_sections.specs.Sections.{part, newSequences, Se
 use numbers::u8_at;
 use rewrite_program::measure_program;
 use rewrite_program::put_program;
-use row_bytes::put_head;
+use section_heads::put_head;
 
 // Copies n bytes of the file, from `from` on, to the output from `at` on.
 fn copy(file: &[u8], from: usize, n: usize, out: &mut [u8], at: usize)

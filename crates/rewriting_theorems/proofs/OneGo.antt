@@ -1,27 +1,29 @@
--- Rewriting in one go: the definition's answer is that of reading and writing through tables, and so is the call's.
-use Prim.Native.Nat.{ℕ}
+-- Rewriting in one go: the definition's answer is that of reading and writing through tables, and so is the call's; demand 3 follows.
+use Prim.Native.Nat.{ℕ, _≤_}
 use mathlib.Core.Path.{_≡_, refl, sym, ap, _∙_}
-use mathlib.Core.List.{List}
-use mathlib.Core.Bool.{false}
-use lib.ListN.{length}
+use mathlib.Core.List.{List, _++_}
+use mathlib.Core.Bool.{Bool, true, false}
+use lib.ListN.{length, drop}
 use lib.Dec.{eqb}
 use denote.Ref.{now}
-use Rattle.format.specs.Bytes.{IsBytes}
+use borrow.Author.Tests.{le-leb}
+use Rattle.format.specs.Bytes.{IsBytes, pick}
 use Rattle.format.specs.ClipRecord.{Clip}
 use Rattle.format.specs.Reading.{clipOf, recordOf}
 use Rattle.format.specs.Rewriting.{encode}
 use Rattle.format.specs.Tables.{Nine, ClipTables, HoldsClip, Room, clipIn}
-use Rattle.format.specs.Refusals.{refusalOf, statedOf, tablesOf, tablesAfter, WriteAnswer, writeAnswer, outputBy, outputAfter}
+use Rattle.format.specs.Refusals.{refusalOf, statedOf, tablesOf, tablesAfter, WriteAnswer, written, writtenIn, writeAnswer, outputBy, outputAfter}
 use Rattle.format.proofs.ClipTables.{Shaped, shaped, clip-held, all-stated}
-use Rattle.theorems.specs.Rewriting.{handOver, handedOver}
-use Rattle.theorems.proofs.Rewriting.{good-of, from-file, reading-holds}
-use Rattle.encode.specs.Writing.{answerOf as writeAnswerOf}
+use Rattle.theorems.specs.Rewriting.{Rewritable, rewritten, handOver, handedOver, RewritingKeeps}
+use Rattle.theorems.proofs.Rewriting.{good-of, from-file, reading-holds, rewriting-keeps}
+use Rattle.encode.specs.Writing.{bytesIn, answerOf as writeAnswerOf}
 use Rattle.encode.proofs.write.write.Reads as write
-use Rattle.rewrite.specs.Rewrite.{rewriteAnswer}
+use Rattle.rewrite.specs.Rewrite.{rewriteRefusal, rewriteAnswer, LengthAnswer, lengthAnswer, lengthOf, lengthIn}
 use Rattle.query_theorems.specs.Calls.{Call}
 use Rattle.rewriting_theorems.specs.Rewriting.{ReadCall, tablesGiven, tablesLeft, givenTo, outputGiven, outputLeft}
-use Rattle.rewriting_theorems.specs.OneGo.{OneGoCall, given, left, AsByTables}
+use Rattle.rewriting_theorems.specs.OneGo.{OneGoCall, given, left, LengthCall, newBytes, SizedCall, answerWith, AsByTables, OneGoKeeps}
 use Rattle.rewriting_theorems.proofs.Promises.{tables-left, write-answer, output-left}
+use Rattle.rewriting_theorems.proofs.Rewriting.{front, rewritable-again, stable, new-read, new-asked}
 
 -- ---- the definitions
 
@@ -65,6 +67,19 @@ module _ (f : List ℕ) (z : OneGoCall f) where
   unfolding rewriteAnswer
   refuses h = rw (h, h)
 
+-- the length that is told
+length-is : (f : List ℕ) (m : LengthCall f) → lengthOf (m .call .result) ≡ lengthAnswer f
+length-is f m = m .call .allowed ∙ ap lengthAnswer (m .file)
+
+-- a choice of two, told first and then answered with
+told-first : (b : Bool) (refusal n room : ℕ) → pick b (writtenIn n room) (WriteAnswer.refused refusal) ≡ answerWith (pick b (LengthAnswer.bytes n) (LengthAnswer.refused refusal)) room
+told-first true refusal n room = refl
+told-first false refusal n room = refl
+
+by-length : (f out : List ℕ) → rewriteAnswer f out ≡ answerWith (lengthAnswer f) (length out)
+unfolding rewriteAnswer lengthAnswer
+by-length f out = told-first (eqb (rewriteRefusal f) 0) (rewriteRefusal f) (length (encode (clipOf f))) (length out)
+
 module _ (f : List ℕ) (bytes : IsBytes f) (accepts : refusalOf f ≡ 0) (z : OneGoCall f) (x : ReadCall f) (w : Call write.Post)
     (same : givenTo w ≡ handOver (statedOf f) (tablesLeft (x .call))) (out : outputGiven w ≡ given z) where
   -- the very tables that reading filled
@@ -97,4 +112,56 @@ as-by-tables f bytes = record {
   refused-output = λ z h. one-output f z ∙ ap (λ (a : WriteAnswer). outputBy a (encode (clipOf f)) (given z)) (refuses f z h);
   same-answer = λ accepts z x w same out. answers f bytes accepts z x w same out;
   same-output = λ accepts z x w same out. outputs f bytes accepts z x w same out;
+  as-told = λ m z. one-answer f z ∙ by-length f (given z) ∙ ap (λ (a : LengthAnswer). answerWith a (length (given z))) (sym (length-is f m));
+}
+
+-- ---- demand 3
+
+module _ {f : List ℕ} (h : Rewritable f) where
+  -- nothing is refused
+  unrefused : rewriteRefusal f ≡ 0
+  unfolding recordOf
+  unrefused = rw (h .accepted, h .runs)
+
+  -- so the length is the new file's
+  length-told : (m : LengthCall f) → lengthOf (m .call .result) ≡ LengthAnswer.bytes (length (rewritten f))
+  unfolding lengthAnswer recordOf
+  length-told m = length-is f m ∙ rw (unrefused)
+
+  module _ (z : SizedCall f) where
+    -- the output has room for it
+    long : length (rewritten f) ≤ length (given (z .one-go))
+    long = rw (ap lengthIn (sym (z .answered) ∙ length-told (z .length-call))) at (z .room)
+
+    -- so all is written
+    answer : writeAnswerOf (z .one-go .call .result) ≡ written (length (rewritten f))
+    unfolding rewriteAnswer recordOf
+    answer = one-answer f (z .one-go) ∙ rw (unrefused, le-leb _ (length (given (z .one-go))) long)
+
+    output : left (z .one-go) ≡ rewritten f ++ drop (length (rewritten f)) (given (z .one-go))
+    unfolding recordOf
+    output =
+        one-output f (z .one-go)
+        ∙ ap (λ (a : WriteAnswer). outputBy a (encode (clipOf f)) (given (z .one-go))) (sym (one-answer f (z .one-go)) ∙ answer)
+
+    new : newBytes (z .one-go) ≡ rewritten f
+    new = front (rewritten f) (drop (length (rewritten f)) (given (z .one-go))) (ap bytesIn answer) output
+
+-- demand 3 for rewriting in one go
+pub one-go-keeps : (f : List ℕ) → Rewritable f → OneGoKeeps f
+one-go-keeps f h = record {
+  length-told = length-told h;
+  answer = answer h;
+  output = output h;
+  new = new h;
+  reads-again = λ z. new-read h (new h z);
+  asked = λ x z. new-asked h (new h z) x;
+  equal-bytes = λ f₂ h₂ z z₂ e. rewriting-keeps f h .equal-bytes f₂ h₂ (sym (new h z) ∙ e ∙ new h₂ z₂);
+  equal-records = λ f₂ h₂ z z₂ e. new h z ∙ rewriting-keeps f h .equal-records f₂ h₂ e ∙ sym (new h₂ z₂);
+  again = λ z. rewritable-again h (new h z);
+  same-length = λ z m.
+      length-told (rewritable-again h (new h z)) m
+      ∙ ap (λ (b : List ℕ). LengthAnswer.bytes (length b)) (stable h (new h z) ∙ new h z)
+      ∙ sym (length-told h (z .length-call));
+  unchanged = λ z v. new (rewritable-again h (new h z)) v ∙ stable h (new h z);
 }

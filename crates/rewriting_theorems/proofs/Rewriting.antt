@@ -14,6 +14,7 @@ use Rattle.theorems.specs.Rewriting.{Rewritable, rewritten, handOver, handedOve
 use Rattle.theorems.proofs.Rewriting.{rewriting-keeps}
 use Rattle.query_theorems.proofs.Alike.{calls-alike}
 use Rattle.rewriting_theorems.specs.Rewriting.{tablesGiven, tablesLeft, givenTo, outputGiven, newFile, ReadCall, WriteCall, kept, Reads, Writes, ReadsAgain, WritesAgain, CallsKeep}
+use Rattle.rewriting_theorems.specs.Asked.{AskedAlike}
 use Rattle.rewriting_theorems.proofs.Promises.{read-answer, tables-left, write-answer, output-left}
 use Rattle.rewriting_theorems.proofs.Asked.{asked-alike}
 use Rattle.rewriting_theorems.proofs.NewFile.{stated-again, room-again}
@@ -25,7 +26,7 @@ statedIn s (tooShort k n) = s
 statedIn s (accepted t) = t
 
 -- the front of an output, as long as what was put there
-front : (new beyond : List ℕ) {n : ℕ} {out : List ℕ} → n ≡ length new → out ≡ new ++ beyond → take n out ≡ new
+pub front : (new beyond : List ℕ) {n : ℕ} {out : List ℕ} → n ≡ length new → out ≡ new ++ beyond → take n out ≡ new
 front new beyond long is = rw (long, is) (take-append-seam new beyond)
 
 module _ {f : List ℕ} (h : Rewritable f) (x : ReadCall f) where
@@ -64,42 +65,48 @@ module _ {f : List ℕ} (h : Rewritable f) (x : ReadCall f) where
         let output = output-left (w .call) ∙ ap (λ (l : ClipTables). outputAfter l (outputGiven (w .call))) given ∙ s .output in
         record { answer = answer; output = output; new = front (rewritten f) (drop (length (rewritten f)) (outputGiven (w .call))) (ap bytesIn answer) output }
 
-module _ {f : List ℕ} (h : Rewritable f) {x : ReadCall f} (w : WriteCall x) where
-  -- the new file is the definition's
-  is-new : newFile (w .call) ≡ rewritten f
-  is-new = writes h x w .new
+-- ---- the new file, whichever call wrote it
 
-  -- and such a file too
-  again : Rewritable (newFile (w .call))
-  again = rw is-new (rewriting-keeps f h .again)
+module _ {f : List ℕ} (h : Rewritable f) {new : List ℕ} (is-new : new ≡ rewritten f) where
+  -- it is such a file too
+  pub rewritable-again : Rewritable new
+  rewritable-again = rw is-new (rewriting-keeps f h .again)
 
-  -- which writing does not change
-  stable : rewritten (newFile (w .call)) ≡ newFile (w .call)
+  -- which rewriting does not change
+  pub stable : rewritten new ≡ new
   stable = rw is-new (rewriting-keeps f h .stable)
 
   -- nor do its rows need more room
-  tables-again : (tables : Nine (List ℕ)) → Room (tablesOf f) tables → Room (tablesOf (newFile (w .call))) tables
+  tables-again : (tables : Nine (List ℕ)) → Room (tablesOf f) tables → Room (tablesOf new) tables
   tables-again tables room = rw is-new (room-again f h tables room)
 
-  module _ (y : ReadCall (newFile (w .call))) where
-    -- the new file read
-    reads-again : ReadsAgain w y
-    reads-again =
-        let r = reads again y in
-        let told : statedOf (newFile (w .call)) ≡ kept (statedOf f) = ap statedOf is-new ∙ stated-again f h in
-        let same = rewriting-keeps f h .same in
-        let new = rw (told, is-new) at (r .holds) in
-        record { answer = r .answer ∙ ap accepted told; same = rw same at new; holds = new }
+  -- it is read
+  pub new-read : (y : ReadCall new) → ReadsAgain f y
+  new-read y =
+      let r = reads rewritable-again y in
+      let told : statedOf new ≡ kept (statedOf f) = ap statedOf is-new ∙ stated-again f h in
+      let same = rewriting-keeps f h .same in
+      let holds = rw (told, is-new) at (r .holds) in
+      record { answer = r .answer ∙ ap accepted told; same = rw same at holds; holds = holds }
 
-    -- and written again
-    writes-again : (v : WriteCall y) → WritesAgain w y v
-    writes-again v =
-        let r = writes again y v in
-        record {
-          answer = r .answer ∙ rw stable (rw is-new (sym (writes h x w .answer)));
-          output = rw stable at (r .output);
-          new = r .new ∙ stable;
-        }
+  -- and every question answers alike
+  pub new-asked : (x : ReadCall f) (y : ReadCall new) → AskedAlike (handOver (statedOf f) (tablesLeft (x .call))) (handOver (kept (statedOf f)) (tablesLeft (y .call)))
+  new-asked x y = asked-alike (calls-alike f h) (reads h x .holds) (new-read y .holds)
+
+module _ {f : List ℕ} (h : Rewritable f) {x : ReadCall f} (w : WriteCall x) where
+  -- what `write` gives is the definition's
+  is-new : newFile (w .call) ≡ rewritten f
+  is-new = writes h x w .new
+
+  -- written again
+  writes-again : (y : ReadCall (newFile (w .call))) (v : WriteCall y) → WritesAgain w y v
+  writes-again y v =
+      let r = writes (rewritable-again h is-new) y v in
+      record {
+        answer = r .answer ∙ rw (stable h is-new) (rw is-new (sym (writes h x w .answer)));
+        output = rw (stable h is-new) at (r .output);
+        new = r .new ∙ stable h is-new;
+      }
 
 -- demand 3 for the calls
 pub calls-keep : (f : List ℕ) → Rewritable f → CallsKeep f
@@ -107,13 +114,13 @@ calls-keep f h = record {
   reads = reads h;
   writes = writes h;
   counts = tables-few f (h .bytes);
-  reads-again = λ x w. reads-again h w;
-  tables-again = λ x w. tables-again h w;
-  output-again = λ x w out long. rw (stable h w, is-new h w) long;
+  reads-again = λ x w. new-read h (is-new h w);
+  tables-again = λ x w. tables-again h (is-new h w);
+  output-again = λ x w out long. rw (stable h (is-new h w), is-new h w) long;
   alike = calls-alike f h;
-  asked = λ x w y. asked-alike (calls-alike f h) (reads h x .holds) (reads-again h w y .holds);
+  asked = λ x w. new-asked h (is-new h w) x;
   equal-bytes = λ f₂ h₂ x w x₂ w₂ e. rewriting-keeps f h .equal-bytes f₂ h₂ (sym (is-new h w) ∙ e ∙ is-new h₂ w₂);
   equal-records = λ f₂ h₂ x w x₂ w₂ e. is-new h w ∙ rewriting-keeps f h .equal-records f₂ h₂ e ∙ sym (is-new h₂ w₂);
-  again = λ x w. again h w;
+  again = λ x w. rewritable-again h (is-new h w);
   writes-again = λ x w. writes-again h w;
 }

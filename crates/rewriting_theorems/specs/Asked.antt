@@ -8,9 +8,9 @@ use Rattle.sequence_queries.proofs.duration_45k.Reads as duration_45k
 use Rattle.sequence_queries.proofs.duration_90k.Reads as duration_90k
 use Rattle.sequence_queries.proofs.presentation_span_90k.Reads as presentation_span_90k
 use Rattle.sequence_queries.proofs.minutes_remaining.Reads as minutes_remaining
-use Rattle.sequence_queries.proofs.by_atc.stcs_of_atc.Reads as stcs_of_atc
-use Rattle.sequence_queries.proofs.by_atc.stc_sequence_by_id.Reads as stc_sequence_by_id
-use Rattle.sequence_queries.proofs.by_atc.stc_sequence_for_spn.Reads as stc_sequence_for_spn
+use Rattle.atc_queries.proofs.stcs_of_atc.Reads as stcs_of_atc
+use Rattle.atc_queries.proofs.stc_sequence_by_id.Reads as stc_sequence_by_id
+use Rattle.atc_queries.proofs.stc_sequence_for_spn.Reads as stc_sequence_for_spn
 use Rattle.program_queries.proofs.program_by_pmt_pid.Reads as program_by_pmt_pid
 use Rattle.program_queries.proofs.streams_of_program.Reads as streams_of_program
 use Rattle.program_queries.proofs.stream_by_pid.Reads as stream_by_pid
@@ -27,9 +27,9 @@ use Rattle.ep_map_queries.proofs.entries.entry_point_at_or_before.Reads as entr
 use Rattle.ep_map_queries.proofs.entries.entry_point_after.Reads as entry_point_after
 use Rattle.ep_map_queries.proofs.entries.seek_spn.Reads as seek_spn
 use Rattle.ep_map_queries.proofs.entries.next_seek_spn.Reads as next_seek_spn
-use Rattle.ep_map_queries.proofs.spans.first_pts.Reads as first_pts
-use Rattle.ep_map_queries.proofs.spans.last_pts.Reads as last_pts
-use Rattle.ep_map_queries.proofs.spans.indexed_span_90k.Reads as indexed_span_90k
+use Rattle.ep_map_times.proofs.first_pts.Reads as first_pts
+use Rattle.ep_map_times.proofs.last_pts.Reads as last_pts
+use Rattle.ep_map_times.proofs.indexed_span_90k.Reads as indexed_span_90k
 use Rattle.cpi_queries.proofs.ep_map_by_kind.Reads as ep_map_by_kind
 use Rattle.cpi_queries.proofs.next_video_ep_map.Reads as next_video_ep_map
 use Rattle.cpi_queries.proofs.primary_video_ep_map.Reads as primary_video_ep_map

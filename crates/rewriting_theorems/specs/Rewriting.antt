@@ -137,8 +137,8 @@ pub record Writes {f : List ℕ} {x : ReadCall f} (w : WriteCall x) : Type 0 whe
   -- so the front that the answer tells is the new file, and no more
   pub new : newFile (w .call) ≡ rewritten f
 
--- a call of `read` on the new file
-pub record ReadsAgain {f : List ℕ} {x : ReadCall f} (w : WriteCall x) (y : ReadCall (newFile (w .call))) : Type 0 where
+-- a call of `read` on the new file of f
+pub record ReadsAgain (f : List ℕ) {new : List ℕ} (y : ReadCall new) : Type 0 where
   -- it accepts, with the scalars and the rows that the first call stated, but no marks, extensions or list
   pub answer : readAnswerOf (y .call .result) ≡ accepted (kept (statedOf f))
   -- tables 1 to 6 hold the rows that the first call put there
@@ -166,7 +166,7 @@ pub record CallsKeep (f : List ℕ) : Type 0 where
   -- the counts that `read` states are numbers of 32 bits, as `write` takes them
   pub counts : AtMost 66846465 (tablesOf f)
   -- 2. and 3. the new file is accepted, and reads to the same scalars and the same rows
-  pub reads-again : (x : ReadCall f) (w : WriteCall x) (y : ReadCall (newFile (w .call))) → ReadsAgain w y
+  pub reads-again : (x : ReadCall f) (w : WriteCall x) (y : ReadCall (newFile (w .call))) → ReadsAgain f y
   -- tables that suffice for the old file suffice for the new one
   pub tables-again : (x : ReadCall f) (w : WriteCall x) (tables : Nine (List ℕ)) → Room (tablesOf f) tables → Room (tablesOf (newFile (w .call))) tables
   -- and so does an output

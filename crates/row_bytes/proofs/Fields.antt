@@ -1,43 +1,18 @@
--- Fields stored one behind the other, what a section begins with, and the bytes of a stream in the parts in which they are stored.
-use Prim.Native.Nat.{ℕ, _+_, _*_, _/_, _%_, _^_}
+-- The bytes of a stream in the parts in which they are stored.
+use Prim.Native.Nat.{ℕ, _*_, _/_, _%_, _^_}
 use mathlib.Core.Path.{_≡_, sym, ap, _∙_}
 use mathlib.Core.List.{List, [], _∷_, _++_, append-assoc, append-nil}
 use mathlib.Core.Bool.{Bool, true, false}
 use native.Mathlib.Omega.{arith}
 use lib.ListN.{length, length-append}
-use lib.Seq.{sets}
 use borrow.Author.Tests.{ne-eqb}
 use Rattle.format.specs.Bytes.{bytesOf, fieldBytes}
 use Rattle.format.specs.Programs.{isVideo}
 use Rattle.format.specs.Rewriting.{streamBytes}
 use Rattle.format.proofs.Numbers.{bytes-length}
-use Rattle.format.proofs.Stores.{sets-append, bytes-low, bytes-parts}
+use Rattle.format.proofs.Stores.{bytes-low, bytes-parts}
 
--- ---- stores
-
--- a part stored, and another behind it
-pub part-then : (l : List ℕ) (at w : ℕ) (part rest : List ℕ) {l′ l″ : List ℕ} {at′ : ℕ} → length part ≡ w → at′ ≡ at + w → l′ ≡ sets l at part → l″ ≡ sets l′ at′ rest
-    → l″ ≡ sets l at (part ++ rest)
-part-then l at w part rest size place e f = f ∙ rw (e, sets-append l at part rest, size, place)
-
--- a field stored, and the others of its row behind it
-pub field-then : (l : List ℕ) (at w v : ℕ) (rest : List ℕ) {l′ l″ : List ℕ} {at′ : ℕ} → at′ ≡ at + w → l′ ≡ sets l at (bytesOf w v) → l″ ≡ sets l′ at′ rest
-    → l″ ≡ sets l at (bytesOf w v ++ rest)
-field-then l at w v rest place e f = part-then l at w (bytesOf w v) rest (bytes-length w v) place e f
-
--- the last field of a row
-pub field-last : (l : List ℕ) (at w v : ℕ) {l′ : List ℕ} → l′ ≡ sets l at (bytesOf w v) → l′ ≡ sets l at (bytesOf w v ++ [])
-field-last l at w v e = e ∙ rw (append-nil (bytesOf w v))
-
--- ---- what a section's and a row's bytes begin with
-
--- a section's length, a spare byte, its count
-abbrev pub sectionHead : (size n : ℕ) → List ℕ
-sectionHead size n = fieldBytes (4 ∷ 1 ∷ 1 ∷ []) (size ∷ 0 ∷ n ∷ [])
-
--- its six bytes
-pub section-head : (size n : ℕ) → length (sectionHead size n) ≡ 6
-section-head size n = simp (length-append, bytes-length)
+-- ---- what a row's bytes begin with
 
 -- the fields of a program before its spare byte
 pub program-fields : (a b c : ℕ) → length (fieldBytes (4 ∷ 2 ∷ 1 ∷ []) (a ∷ b ∷ c ∷ [])) ≡ 7

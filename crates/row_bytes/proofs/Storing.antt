@@ -9,7 +9,7 @@ use lib.Seq.{sets, length-sets}
 use Rattle.format.specs.Bytes.{rowsAt, flat}
 use Rattle.format.specs.ClipRecord.{Row}
 use Rattle.format.proofs.Loops.{one-left, none-left, put-more}
-use Rattle.row_bytes.proofs.Fields.{part-then}
+use Rattle.format.proofs.Stores.{part-then}
 
 -- ---- an output while bytes are stored
 

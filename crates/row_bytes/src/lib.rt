@@ -1,4 +1,4 @@
-// Rows of the sequences and programs, given by value, and what a section begins with, stored as their bytes in a file.
+// Rows of the sequences and programs, given by value, stored as their bytes in a file.
 ghost use mathlib.Core.Path.{_≡_};
 ghost use mathlib.Core.List.{[], _∷_};
 ghost use Prim.Native.Nat.{_+_, _≤_};
@@ -96,14 +96,4 @@ pub fn put_row(kind: Kind, row: Row, out: &mut [u8], at: usize) -> usize
         Kind::Program => put_program(row, out, at),
         Kind::Stream => put_stream(row, out, at),
     }
-}
-
-// Stores what a section begins with: the length of what follows it, a spare byte, and the count of its header rows.
-pub fn put_head(size: u32, n: u32, out: &mut [u8], at: usize)
-    requires { ⌜ at + 6 ≤ length (now out) ⌝ }
-    ensures { λ _. ⌜ now (out .exit) ≡ sets (now (out .entry)) at (fieldBytes (4 ∷ 1 ∷ 1 ∷ []) (size ∷ 0 ∷ n ∷ [])) ⌝ }
-{
-    put_u32(out, at, size);
-    put_u8(out, at + 4, 0);
-    put_u8(out, at + 5, n);
 }

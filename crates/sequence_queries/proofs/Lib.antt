@@ -1,3 +1,2 @@
 -- Laws of the loops over the STCs.
 pub mod Laws
-pub mod Atcs

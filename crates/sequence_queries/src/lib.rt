@@ -1,6 +1,4 @@
 // Questions about the STC sequences: the first, how long they are, and how many minutes remain.
-pub mod by_atc;
-
 ghost use mathlib.Core.Path.{_≡_};
 ghost use mathlib.Core.List.{[]};
 ghost use lib.ListN.{getD};
@@ -19,7 +17,7 @@ use ticks::Ticks45;
 use ticks::Ticks90;
 
 // The cells of a row (PID, packet, start, end), and its bytes.
-pub(crate) const STC: usize = 4;
+const STC: usize = 4;
 
 const ROW: usize = 16;
 

@@ -1,4 +1,3 @@
 -- Laws of the rows of a table that a loop goes over.
 pub mod Scans
 pub mod OwnRows
-pub mod FirstRow

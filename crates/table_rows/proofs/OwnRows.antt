@@ -13,7 +13,8 @@ use Rattle.format.specs.ClipRecord.{Row}
 use Rattle.format.specs.Questions.{Answer, refused, unless22, firstRow, ownRows}
 use Rattle.format.specs.Tables.{Table, isStated, addUp, isRow, rowsOf, cellAt, cellsAt, tableRows, rowRoom}
 use Rattle.format.proofs.Cell.{cell-of}
-use Rattle.format.proofs.Rows.{rows-length, take-rows, drop-rows}
+use Rattle.format.proofs.Rows.{take-rows, drop-rows}
+use Rattle.format.proofs.Tables.{rows-stated}
 use Rattle.format.proofs.Tests.{both-true}
 use Rattle.cells.specs.Reads.{CellIs}
 use Rattle.queries.specs.Asked.{stated}
@@ -61,11 +62,6 @@ own-part cells t n first count h =
     ap (take count) (drop-rows row w 0 n first (omega arith)) ∙ take-rows row (λ q. q + w) (0 + first * w) (n - first) count (omega arith)
     ∙ ap (λ (q : ℕ). rowsAt row (λ x. x + w) q count) p
 
--- there are as many rows as stated
-rows-stated : (cells : ℕ) (t : Table) → length (rowsOf cells t) ≡ t .rows
-unfolding tableRows
-rows-stated cells t = rows-length (cellsAt (t .bytes) cells) (λ p. p + 4 * cells) 0 (t .rows)
-
 -- ---- what an answer tells of the rows
 
 -- the rows of a header row: it may be asked about, they stand in the table, and they are these
@@ -101,7 +97,7 @@ module _ (cell cells : ℕ) (heads rows : Table) (head : ℕ) where
       let there = both-true (isStated cells rows) true (stated .1) .0 in
       let added = eqb-true (total (cellIn cell) hs) (length (rowsOf cells rows)) (tables .1) in
       let within = total-part cell hs head (ltb-true head (length hs) (tests .1)) in
-      let fits : first + count ≤ rows .rows = omega (arith, within, told .1, told .2, added, rows-stated cells rows) in
+      let fits : first + count ≤ rows .rows = omega (arith, within, told .1, told .2, added, rows-stated cells (rows .bytes) (rows .rows)) in
       record {
         may = told .0;
         begins = told .1;
@@ -191,7 +187,7 @@ module _ (heads rows : List ℕ) (n e cell cells : ℕ) where
 
     pub counted : {b : Bool} → b ≡ isStated cells Rows → not b ≡ false → {sum : ℕ} → sum ≡ total (cellIn cell) (tableRows headCells heads n) → eqb sum e ≡ isCounted cell cells Heads Rows
     unfolding isCounted
-    counted {b} is₂ there₂ all = rw (← is, not-false a there, ← is₂, not-false b there₂, ← all, rows-stated cells Rows)
+    counted {b} is₂ there₂ all = rw (← is, not-false a there, ← is₂, not-false b there₂, ← all, rows-stated cells (Rows .bytes) (Rows .rows))
 
   -- rows that are counted are there
   pub heads-there : {a : Bool} → a ≡ isCounted cell cells Heads Rows → not a ≡ false → n ≤ rowRoom headCells heads
@@ -207,7 +203,7 @@ module _ (heads rows : List ℕ) (n e cell cells : ℕ) where
 
     pub no-head : not a ≡ false → n ≤ head → refusal ≡ ownedRows cell cells Heads Rows head
     unfolding ownedRows mayAsk
-    no-head h l = rw (← is, not-false a h, rows-stated headCells Heads, le-ltb head n l)
+    no-head h l = rw (← is, not-false a h, rows-stated headCells (Heads .bytes) (Heads .rows), le-ltb head n l)
 
     -- all pass
     pub owned : not a ≡ false → head < n → cell < headCells → {first count : ℕ} → first ≡ total (cellIn cell) (tableRows headCells heads head) → CellIs heads (12 * head + 4 * cell) count
@@ -216,4 +212,4 @@ module _ (heads rows : List ℕ) (n e cell cells : ℕ) where
     owned h l j {first} {count} f c =
         let counted = cell-of headCells heads n head cell l j (omega arith) (c .same) in
         let before : first ≡ firstRow (cellIn cell) (tableRows headCells heads n) head = f ∙ ap (total (cellIn cell)) (sym (first-rows heads n head (omega arith))) in
-        rw (← is, not-false a h, rows-stated headCells Heads, lt-ltb head n l, ← before, ← counted)
+        rw (← is, not-false a h, rows-stated headCells (Heads .bytes) (Heads .rows), lt-ltb head n l, ← before, ← counted)

@@ -1,3 +1,2 @@
--- The rows of a header row, and the first row that passes a test.
+-- The rows of a header row.
 pub mod OwnRows
-pub mod FirstRow

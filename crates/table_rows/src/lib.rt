@@ -1,3 +1,2 @@
-// What the questions share: the rows of a header row, and the first row of a table that passes a test.
+// What the questions share: rows that are stated to be there, and the rows of a header row.
 pub mod own;
-pub mod search;

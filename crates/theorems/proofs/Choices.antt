@@ -1,19 +1,21 @@
 -- The lookups that choose a row, from the laws of the searches.
-use Prim.Native.Nat.{ℕ, zero, suc, _+_, _-_, _%_, _<_}
+use Prim.Native.Nat.{ℕ, zero, suc, _+_, _-_, _%_, _≤_, _<_}
 use mathlib.Core.Path.{_≡_, refl, sym, subst}
 use mathlib.Core.List.{List, [], _∷_, map}
 use mathlib.Core.Bool.{Bool, true, false}
 use native.Mathlib.Omega.{arith}
-use lib.ListN.{length, getD, length-map, List·getD-map}
+use lib.ListN.{length, getD, drop, length-map, length-drop, List·getD-map}
+use lib.Seq.{getD-drop}
 use lib.Dec.{leb, ltb, eqb}
 use borrow.Author.Tests.{leb-true, ltb-true, ltb-false, le-leb, lt-ltb, eqb-true, eq-eqb}
 use Rattle.format.specs.Bytes.{both, pick}
-use Rattle.format.specs.ClipRecord.{Row, atcStcCount, offsetId, stcPacket, streamPid, pmtPid, mapPid, mapType}
-use Rattle.format.specs.Questions.{Answer, none, number, Best, nothing, best, bestOf, firstWhere, rowOr, orElse, isVideoMap, kinds, primaryMap, stcById, stcBySpn, answer}
+use Rattle.format.specs.ClipRecord.{Row, atcStcCount, offsetId, stcPacket, streamPid, codingType, pmtPid, mapPid, mapType}
+use Rattle.format.specs.Programs.{isVideo}
+use Rattle.format.specs.Questions.{Answer, none, number, Best, nothing, best, bestOf, firstWhere, rowOr, orElse, isVideoMap, kinds, primaryMap, stcById, stcBySpn, videoPid, ofRow, nextWhere, answer}
 use Rattle.format.proofs.Lookups.{not-both, IsFirst, FirstFrom, not-there, there, first-from, LastFrom, last-from, next-is, less-ranks, IsBest, BestUntil, best-is}
 use Rattle.format.proofs.Lookups.{NoRow as NonePasses}
 use Rattle.format.proofs.Tests.{both-true, true-both}
-use Rattle.theorems.specs.Choices.{NoRow, IsFirstRow, IsLastRow, FirstOrNone, LastOrNone, kindAt, pidAt, Is8, IsVideo, IsLeastPid, IsPrimary, of-type-8, of-video, of-least-pid, PrimaryMap, HasId, stcOfId, NotBehind, Choices}
+use Rattle.theorems.specs.Choices.{NoRow, IsFirstRow, IsLastRow, FirstOrNone, LastOrNone, kindAt, pidAt, Is8, IsVideo, IsLeastPid, IsPrimary, of-type-8, of-video, of-least-pid, PrimaryMap, HasId, stcOfId, NotBehind, NextOrNone, Choices}
 
 -- two first rows are one
 one-first : (n : ℕ) (Has : ℕ → Type 0) (j k : ℕ) → IsFirstRow n Has j → IsFirstRow n Has k → j ≡ k
@@ -247,6 +249,36 @@ first-with rows column z v =
     first-or-none rows column z (λ y. eqb y v) (λ k. column (getD rows k []) ≡ v) (λ k. eqb-true (column (getD rows k [])) v) (λ k. eq-eqb (column (getD rows k [])) v)
     (first-from (λ y. eqb y v) 0 (map column rows))
 
+-- ---- the primary video PID
+
+-- what a column tells of the row that was found
+told-of : (rows : List Row) (column : Row → ℕ) (n : ℕ) (Has : ℕ → Type 0) {a : Answer}
+    → FirstOrNone n Has (λ k. k) a → FirstOrNone n Has (λ k. column (getD rows k [])) (ofRow column rows a)
+told-of rows column n Has (FirstOrNone.no-row h) = FirstOrNone.no-row h
+told-of rows column n Has (FirstOrNone.a-row k f) = FirstOrNone.a-row k f
+
+video-pid : (streams : List Row)
+    → FirstOrNone (length streams) (λ k. isVideo (codingType (getD streams k [])) ≡ true) (λ k. streamPid (getD streams k [])) (videoPid streams)
+unfolding videoPid
+video-pid streams =
+    let Has : ℕ → Type 0 = λ k. isVideo (codingType (getD streams k [])) ≡ true in
+    told-of streams streamPid (length streams) Has
+    (first-or-none streams codingType refl isVideo Has (λ k h. h) (λ k h. h) (first-from isVideo 0 (map codingType streams)))
+
+-- ---- the next row of a kind
+
+module _ (test : ℕ → Bool) (from : ℕ) (column : List ℕ) where
+  -- by what the search of the rest of the column found
+  next-or-none : (a : Answer) → nextWhere test from column ≡ a → FirstFrom test from (drop from column) a → NextOrNone test from column a
+  next-or-none a e (not-there h) =
+      NextOrNone.no-row (λ j f l.
+      let d : from + (j - from) ≡ j = omega arith in
+      rw (getD-drop from column (j - from) 0, d) at (h (j - from) (omega (arith, length-drop from column))))
+  next-or-none a e (there {k = k} i s h) = NextOrNone.a-row k (next-is test from column k e)
+
+  next-row : NextOrNone test from column (nextWhere test from column)
+  next-row = next-or-none (nextWhere test from column) refl (first-from test from (drop from column))
+
 -- the statements together
 pub choices : Choices
 unfolding answer
@@ -256,5 +288,6 @@ choices = record {
   stc-by-packet = stc-by-packet;
   stream-by-pid = λ c pid. first-with (c .streams) streamPid refl pid;
   program-by-pid = λ c pid. first-with (c .programs) pmtPid refl pid;
-  next-row = λ test from column k. next-is test from column k;
+  primary-video-pid = λ c. video-pid (c .streams);
+  next-row = next-row;
 }

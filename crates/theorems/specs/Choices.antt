@@ -1,11 +1,12 @@
--- The other lookups that choose a row: the primary map, an STC by id and by packet, a stream by PID, a program by PMT PID, the next row of a kind.
+-- The other lookups that choose a row: the primary map, an STC by id and by packet, a stream by PID, the primary video PID, a program by PMT PID, the next row of a kind.
 use Prim.Native.Nat.{ℕ, _+_, _-_, _%_, _≤_, _<_}
 use mathlib.Core.Path.{_≡_}
 use mathlib.Core.List.{List, []}
-use mathlib.Core.Bool.{Bool, true}
+use mathlib.Core.Bool.{Bool, true, false}
 use lib.ListN.{length, getD}
-use Rattle.format.specs.ClipRecord.{Row, Clip, atcStcCount, offsetId, stcPacket, streamPid, pmtPid, mapPid, mapType}
-use Rattle.format.specs.Questions.{Answer, none, number, firstRow, isVideoMap, primaryMap, stcById, stcBySpn, streamByPid, programByPmtPid, nextWhere, answer}
+use Rattle.format.specs.ClipRecord.{Row, Clip, atcStcCount, offsetId, stcPacket, streamPid, codingType, pmtPid, mapPid, mapType}
+use Rattle.format.specs.Programs.{isVideo}
+use Rattle.format.specs.Questions.{Answer, none, number, firstRow, isVideoMap, primaryMap, stcById, stcBySpn, streamByPid, primaryVideoPid, programByPmtPid, nextWhere, answer}
 use Rattle.format.proofs.Lookups.{IsNext}
 
 -- ---- rows with a property, of n rows
@@ -34,6 +35,11 @@ pub data FirstOrNone (n : ℕ) (Has : ℕ → Type 0) (told : ℕ → ℕ) : Ans
 pub data LastOrNone (n : ℕ) (Has : ℕ → Type 0) (told : ℕ → ℕ) : Answer → Type 0 where
   no-row : NoRow n Has → LastOrNone n Has told none
   a-row : (k : ℕ) → IsLastRow n Has k → LastOrNone n Has told (number (told k))
+
+-- none where no row from `from` on passes a test; else a row that is not before it and passes, and no row between does
+pub data NextOrNone (test : ℕ → Bool) (from : ℕ) (column : List ℕ) : Answer → Type 0 where
+  no-row : ((j : ℕ) → from ≤ j → j < length column → test (getD column j 0) ≡ false) → NextOrNone test from column none
+  a-row : (k : ℕ) → IsNext test from column k → NextOrNone test from column (number k)
 
 -- ---- the primary map, by the low four bits of the type
 
@@ -99,5 +105,8 @@ pub record Choices : Type 0 where
   pub stream-by-pid : (c : Clip) (pid : ℕ) → FirstOrNone (length (c .streams)) (λ k. streamPid (getD (c .streams) k []) ≡ pid) (λ k. k) (answer (streamByPid pid) c)
   pub program-by-pid : (c : Clip) (pid : ℕ)
       → FirstOrNone (length (c .programs)) (λ k. pmtPid (getD (c .programs) k []) ≡ pid) (λ k. k) (answer (programByPmtPid pid) c)
-  -- a next row is not before the one asked from, passes the test, and no row between does
-  pub next-row : (test : ℕ → Bool) (from : ℕ) (column : List ℕ) (k : ℕ) → nextWhere test from column ≡ number k → IsNext test from column k
+  -- the PID of the first stream that is video
+  pub primary-video-pid : (c : Clip)
+      → FirstOrNone (length (c .streams)) (λ k. isVideo (codingType (getD (c .streams) k [])) ≡ true) (λ k. streamPid (getD (c .streams) k [])) (answer primaryVideoPid c)
+  -- the next row of a kind, as a column of numbers tells it
+  pub next-row : (test : ℕ → Bool) (from : ℕ) (column : List ℕ) → NextOrNone test from column (nextWhere test from column)

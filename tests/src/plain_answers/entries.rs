@@ -2,16 +2,16 @@
 
 use super::maps::primary_of;
 use super::rows::{heads, less, rows_of};
-use crate::answers::{Answer, Lent, OF_MAPS};
+use crate::answers::{Answer, Input, OF_MAPS};
 use crate::record::ENTRIES;
 use crate::wrong_answers::WrongAnswer::{self, *};
 
 /// A search for a row of table 6 between two rows, by a time.
-type Search = fn(&Lent, (usize, usize), u32, WrongAnswer) -> Option<usize>;
+type Search = fn(&Input, (usize, usize), u32, WrongAnswer) -> Option<usize>;
 
 /// An entry's time.
-fn time(lent: &Lent, row: usize) -> u32 {
-    lent.cell(ENTRIES, row, 2)
+fn time(input: &Input, row: usize) -> u32 {
+    input.cell(ENTRIES, row, 2)
 }
 
 /// Whether a time is at most another one.
@@ -20,22 +20,22 @@ fn at_most(one: u32, other: u32, wrong: WrongAnswer) -> bool {
 }
 
 /// The row within its map that is found by a time.
-pub fn row(lent: &Lent, map: u32, at: u32, wrong: WrongAnswer, search: Search) -> Option<Answer> {
-    let (first, end) = rows_of(lent, OF_MAPS, map, wrong)?;
+pub fn row(input: &Input, map: u32, at: u32, wrong: WrongAnswer, search: Search) -> Option<Answer> {
+    let (first, end) = rows_of(input, OF_MAPS, map, wrong)?;
     if first == end && wrong == EmptyMapRowZero {
         return Some(Answer::of(0));
     }
     let zero = if wrong == RowOfWholeTable { 0 } else { first };
-    Some(Answer::of_option(search(lent, (first, end), at, wrong).map(|row| (row - zero) as u64)))
+    Some(Answer::of_option(search(input, (first, end), at, wrong).map(|row| (row - zero) as u64)))
 }
 
 /// The packet of the row that is found by a time.
-pub fn packet(lent: &Lent, map: u32, at: u32, wrong: WrongAnswer, search: Search) -> Option<Answer> {
-    let (first, end) = rows_of(lent, OF_MAPS, map, wrong)?;
+pub fn packet(input: &Input, map: u32, at: u32, wrong: WrongAnswer, search: Search) -> Option<Answer> {
+    let (first, end) = rows_of(input, OF_MAPS, map, wrong)?;
     if first == end && wrong == EmptyMapPacketZero {
         return Some(Answer::of(0));
     }
-    let cell = |row: usize, column: usize| u64::from(lent.cell(ENTRIES, row, column));
+    let cell = |row: usize, column: usize| u64::from(input.cell(ENTRIES, row, column));
     let value = |row: usize| match wrong {
         RowForPacket => (row - first) as u64,
         TimeForPacket => cell(row, 2),
@@ -43,36 +43,36 @@ pub fn packet(lent: &Lent, map: u32, at: u32, wrong: WrongAnswer, search: Search
         ByteForPacket => 192 * cell(row, 3),
         _ => cell(row, 3),
     };
-    Some(Answer::of_option(search(lent, (first, end), at, wrong).map(value)))
+    Some(Answer::of_option(search(input, (first, end), at, wrong).map(value)))
 }
 
 /// The packet of the row that is found by a time in the primary map; none without maps.
-pub fn packet_in_primary(lent: &Lent, at: u32, wrong: WrongAnswer, search: Search) -> Option<Answer> {
-    let maps = heads(lent, OF_MAPS, wrong)?;
-    let filled = |map: &usize| lent.cell(OF_MAPS.heads, *map, OF_MAPS.column) > 0;
+pub fn packet_in_primary(input: &Input, at: u32, wrong: WrongAnswer, search: Search) -> Option<Answer> {
+    let maps = heads(input, OF_MAPS, wrong)?;
+    let filled = |map: &usize| input.cell(OF_MAPS.heads, *map, OF_MAPS.column) > 0;
     let map = match wrong {
         FirstMapForPrimary => (maps > 0).then_some(0),
-        EmptyPrimaryPassedOver => primary_of(lent, maps, wrong).filter(filled).or((0..maps).find(filled)),
-        _ => primary_of(lent, maps, wrong),
+        EmptyPrimaryPassedOver => primary_of(input, maps, wrong).filter(filled).or((0..maps).find(filled)),
+        _ => primary_of(input, maps, wrong),
     };
     match map {
-        Some(map) => packet(lent, map as u32, at, wrong, search),
+        Some(map) => packet(input, map as u32, at, wrong, search),
         None if wrong == NoMapsRefused => None,
         None => Some(Answer::NONE),
     }
 }
 
 /// The greatest time not above the one given, the earliest among equals; the first row where all are later.
-pub fn at_or_before(lent: &Lent, (first, end): (usize, usize), at: u32, wrong: WrongAnswer) -> Option<usize> {
+pub fn at_or_before(input: &Input, (first, end): (usize, usize), at: u32, wrong: WrongAnswer) -> Option<usize> {
     if wrong == SearchedByHalves && first < end {
-        return Some(by_halves(lent, first, end, at));
+        return Some(by_halves(input, first, end, at));
     }
     let mut best: Option<usize> = None;
     for row in first..end {
-        let allowed = at_most(time(lent, row), at, wrong) && !(wrong == BeforeOnly && time(lent, row) == at);
+        let allowed = at_most(time(input, row), at, wrong) && !(wrong == BeforeOnly && time(input, row) == at);
         let better = best.is_none_or(|best| match wrong {
-            LatestOfEquals => time(lent, row) >= time(lent, best),
-            _ => !at_most(time(lent, row), time(lent, best), wrong),
+            LatestOfEquals => time(input, row) >= time(input, best),
+            _ => !at_most(time(input, row), time(input, best), wrong),
         });
         if allowed && better {
             best = Some(row);
@@ -80,18 +80,18 @@ pub fn at_or_before(lent: &Lent, (first, end): (usize, usize), at: u32, wrong: W
     }
     let all_later = match wrong {
         AllLaterNone => None,
-        AllLaterLeast => (first..end).min_by_key(|&row| time(lent, row)),
+        AllLaterLeast => (first..end).min_by_key(|&row| time(input, row)),
         _ => (first < end).then_some(first),
     };
     best.or(all_later)
 }
 
 /// The row at or before a time as a search by halves finds it, which needs ascending times.
-fn by_halves(lent: &Lent, first: usize, end: usize, at: u32) -> usize {
+fn by_halves(input: &Input, first: usize, end: usize, at: u32) -> usize {
     let (mut low, mut high) = (first, end);
     while low < high {
         let middle = (low + high) / 2;
-        if time(lent, middle) <= at {
+        if time(input, middle) <= at {
             low = middle + 1;
         } else {
             high = middle;
@@ -101,14 +101,14 @@ fn by_halves(lent: &Lent, first: usize, end: usize, at: u32) -> usize {
 }
 
 /// The least time above the one given, the earliest among equals.
-pub fn after(lent: &Lent, (first, end): (usize, usize), at: u32, wrong: WrongAnswer) -> Option<usize> {
+pub fn after(input: &Input, (first, end): (usize, usize), at: u32, wrong: WrongAnswer) -> Option<usize> {
     let mut best: Option<usize> = None;
     for row in first..end {
-        let allowed = !at_most(time(lent, row), at, wrong) || wrong == AfterIncludesEqual && time(lent, row) == at;
+        let allowed = !at_most(time(input, row), at, wrong) || wrong == AfterIncludesEqual && time(input, row) == at;
         let better = best.is_none_or(|best| match wrong {
-            LatestOfEqualsAfter => time(lent, row) <= time(lent, best),
+            LatestOfEqualsAfter => time(input, row) <= time(input, best),
             FirstAfter => false,
-            _ => !at_most(time(lent, best), time(lent, row), wrong),
+            _ => !at_most(time(input, best), time(input, row), wrong),
         });
         if allowed && better {
             best = Some(row);
@@ -118,42 +118,42 @@ pub fn after(lent: &Lent, (first, end): (usize, usize), at: u32, wrong: WrongAns
 }
 
 /// The time of a row of a map, where the map has one.
-fn time_of(lent: &Lent, row: Option<usize>, wrong: WrongAnswer) -> Option<Answer> {
+fn time_of(input: &Input, row: Option<usize>, wrong: WrongAnswer) -> Option<Answer> {
     let none = if wrong == EmptyMapTimeZero { Answer::of(0) } else { Answer::NONE };
-    Some(row.map_or(none, |row| Answer::of(time(lent, row).into())))
+    Some(row.map_or(none, |row| Answer::of(time(input, row).into())))
 }
 
 /// The time of a map's first entry.
-pub fn first_pts(lent: &Lent, map: u32, wrong: WrongAnswer) -> Option<Answer> {
-    let (first, end) = rows_of(lent, OF_MAPS, map, wrong)?;
+pub fn first_pts(input: &Input, map: u32, wrong: WrongAnswer) -> Option<Answer> {
+    let (first, end) = rows_of(input, OF_MAPS, map, wrong)?;
     let row = match wrong {
-        LeastForFirst => (first..end).min_by_key(|&row| time(lent, row)),
+        LeastForFirst => (first..end).min_by_key(|&row| time(input, row)),
         FirstOfWholeTable => (first < end).then_some(0),
         LastForFirst => (first..end).last(),
         _ => (first..end).next(),
     };
-    time_of(lent, row, wrong)
+    time_of(input, row, wrong)
 }
 
 /// The time of a map's last entry.
-pub fn last_pts(lent: &Lent, map: u32, wrong: WrongAnswer) -> Option<Answer> {
-    let (first, end) = rows_of(lent, OF_MAPS, map, wrong)?;
+pub fn last_pts(input: &Input, map: u32, wrong: WrongAnswer) -> Option<Answer> {
+    let (first, end) = rows_of(input, OF_MAPS, map, wrong)?;
     let row = match wrong {
-        GreatestForLast => (first..end).max_by_key(|&row| time(lent, row)),
-        LastOfWholeTable => (first < end).then_some(lent.tables[ENTRIES].rows as usize - 1),
+        GreatestForLast => (first..end).max_by_key(|&row| time(input, row)),
+        LastOfWholeTable => (first < end).then_some(input.tables[ENTRIES].rows as usize - 1),
         FirstForLast => (first..end).next(),
         _ => (first..end).last(),
     };
-    time_of(lent, row, wrong)
+    time_of(input, row, wrong)
 }
 
 /// A map's last time less its first.
-pub fn span(lent: &Lent, map: u32, wrong: WrongAnswer) -> Option<Answer> {
-    let (first, end) = rows_of(lent, OF_MAPS, map, wrong)?;
+pub fn span(input: &Input, map: u32, wrong: WrongAnswer) -> Option<Answer> {
+    let (first, end) = rows_of(input, OF_MAPS, map, wrong)?;
     if first == end {
         return Some(if wrong == EmptySpanNone { Answer::NONE } else { Answer::of(0) });
     }
-    let times = || (first..end).map(|row| u64::from(time(lent, row)));
+    let times = || (first..end).map(|row| u64::from(time(input, row)));
     let (from, to) = match wrong {
         SpanGreatestLessLeast => (times().min()?, times().max()?),
         _ => (times().next()?, times().last()?),

@@ -1,7 +1,7 @@
 //! Answers about programs and streams.
 
 use super::rows::{first_row, next_row, stated};
-use crate::answers::{Answer, Lent};
+use crate::answers::{Answer, Input};
 use crate::record::{PROGRAMS, STREAMS};
 use crate::wrong_answers::WrongAnswer::{self, *};
 
@@ -33,36 +33,36 @@ pub fn is_audio(kind: u32, wrong: WrongAnswer) -> bool {
 }
 
 /// The first row of the programs with a PID.
-pub fn program_by_pmt_pid(lent: &Lent, pid: u16, wrong: WrongAnswer) -> Option<Answer> {
-    let rows = stated(lent, PROGRAMS, wrong)?;
+pub fn program_by_pmt_pid(input: &Input, pid: u16, wrong: WrongAnswer) -> Option<Answer> {
+    let rows = stated(input, PROGRAMS, wrong)?;
     let mask = if wrong == PidOf16Bits { 0xFFFF } else { u32::MAX };
     let column = if wrong == PacketForPid { 0 } else { 1 };
-    let has = |row: usize| lent.cell(PROGRAMS, row, column) & mask == u32::from(pid);
+    let has = |row: usize| input.cell(PROGRAMS, row, column) & mask == u32::from(pid);
     Some(first_row(rows, wrong == LastWithPid, has))
 }
 
 /// The first row of the streams with a PID.
-pub fn stream_by_pid(lent: &Lent, pid: u16, wrong: WrongAnswer) -> Option<Answer> {
-    let rows = stated(lent, STREAMS, wrong)?;
+pub fn stream_by_pid(input: &Input, pid: u16, wrong: WrongAnswer) -> Option<Answer> {
+    let rows = stated(input, STREAMS, wrong)?;
     let mask = if wrong == PidOf16Bits { 0xFFFF } else { u32::MAX };
-    Some(first_row(rows, wrong == LastWithPid, |row| lent.cell(STREAMS, row, 0) & mask == u32::from(pid)))
+    Some(first_row(rows, wrong == LastWithPid, |row| input.cell(STREAMS, row, 0) & mask == u32::from(pid)))
 }
 
 /// The PID of the first row that is video.
-pub fn primary_video_pid(lent: &Lent, wrong: WrongAnswer) -> Option<Answer> {
-    let rows = stated(lent, STREAMS, wrong)?;
-    let mut video = (0..rows).filter(|&row| is_video(lent.cell(STREAMS, row, 1), wrong));
+pub fn primary_video_pid(input: &Input, wrong: WrongAnswer) -> Option<Answer> {
+    let rows = stated(input, STREAMS, wrong)?;
+    let mut video = (0..rows).filter(|&row| is_video(input.cell(STREAMS, row, 1), wrong));
     let row = if wrong == LastVideo { video.next_back() } else { video.next() };
-    Some(Answer::of_option(row.map(|row| lent.cell(STREAMS, row, 0).into())))
+    Some(Answer::of_option(row.map(|row| input.cell(STREAMS, row, 0).into())))
 }
 
 /// The first row of the streams, from one on, of a kind.
 pub fn next_stream(
-    lent: &Lent,
+    input: &Input,
     from: u32,
     wrong: WrongAnswer,
     is_of_kind: fn(u32, WrongAnswer) -> bool,
 ) -> Option<Answer> {
-    let rows = stated(lent, STREAMS, wrong)?;
-    next_row(rows, from, wrong, |row| is_of_kind(lent.cell(STREAMS, row, 1), wrong))
+    let rows = stated(input, STREAMS, wrong)?;
+    next_row(rows, from, wrong, |row| is_of_kind(input.cell(STREAMS, row, 1), wrong))
 }

@@ -1,24 +1,24 @@
 //! Rows that are stated, named and counted, and the tests that are 22's.
 
-use crate::answers::{Answer, Counted, Lent};
+use crate::answers::{Answer, Counted, Input};
 use crate::record::row_bytes;
 use crate::wrong_answers::WrongAnswer::{self, *};
 
 /// The rows stated to be in a table, or none where more are stated than lent.
-pub fn stated(lent: &Lent, table: usize, wrong: WrongAnswer) -> Option<usize> {
-    let rows = lent.tables[table].rows as usize;
-    let there = lent.lent_rows(table);
+pub fn stated(input: &Input, table: usize, wrong: WrongAnswer) -> Option<usize> {
+    let rows = input.tables[table].rows as usize;
+    let there = input.room(table);
     let spare = if wrong == PartialRowCounts { row_bytes(table) - 1 } else { 0 };
-    let room = (lent.tables[table].bytes.len() + spare) / row_bytes(table);
-    if rows > room && wrong != MoreStatedThanLent {
+    let room = (input.tables[table].bytes.len() + spare) / row_bytes(table);
+    if rows > room && wrong != MoreStatedThanThere {
         return None;
     }
     Some(if wrong == UnstatedRowsSeen { there } else { rows.min(there) })
 }
 
 /// The same of one of two tables, which a wrong rule doesn't test.
-fn stated_of_two(lent: &Lent, table: usize, not_tested: WrongAnswer, wrong: WrongAnswer) -> Option<usize> {
-    stated(lent, table, if wrong == not_tested { MoreStatedThanLent } else { wrong })
+fn stated_of_two(input: &Input, table: usize, not_tested: WrongAnswer, wrong: WrongAnswer) -> Option<usize> {
+    stated(input, table, if wrong == not_tested { MoreStatedThanThere } else { wrong })
 }
 
 /// A row number as an index, or none where it isn't one of the rows.
@@ -31,11 +31,11 @@ pub fn one_of(row: u32, rows: usize, wrong: WrongAnswer) -> Option<usize> {
 }
 
 /// The rows of a table of counts and of the table counted, where all counts add up to the rows stated of the latter.
-fn added_up(lent: &Lent, counted: Counted, head: usize, wrong: WrongAnswer) -> Option<(usize, usize)> {
-    let heads = stated_of_two(lent, counted.heads, FirstTableNotTested, wrong)?;
-    let rows = stated_of_two(lent, counted.rows, SecondTableNotTested, wrong)?;
-    let wanted = if wrong == UnstatedRowsSeen { rows as u64 } else { lent.tables[counted.rows].rows.into() };
-    let sum = |heads: usize| lent.sum(counted, heads);
+fn added_up(input: &Input, counted: Counted, head: usize, wrong: WrongAnswer) -> Option<(usize, usize)> {
+    let heads = stated_of_two(input, counted.heads, FirstTableNotTested, wrong)?;
+    let rows = stated_of_two(input, counted.rows, SecondTableNotTested, wrong)?;
+    let wanted = if wrong == UnstatedRowsSeen { rows as u64 } else { input.tables[counted.rows].rows.into() };
+    let sum = |heads: usize| input.sum(counted, heads);
     let all = match wrong {
         SumsOf32Bits => u64::from(sum(heads) as u32),
         SumsToTheRow => sum(heads.min(head + 1)).max(wanted),
@@ -48,21 +48,21 @@ fn added_up(lent: &Lent, counted: Counted, head: usize, wrong: WrongAnswer) -> O
 }
 
 /// The rows of a table of counts, where they add up.
-pub fn heads(lent: &Lent, counted: Counted, wrong: WrongAnswer) -> Option<usize> {
-    Some(added_up(lent, counted, usize::MAX - 1, wrong)?.0)
+pub fn heads(input: &Input, counted: Counted, wrong: WrongAnswer) -> Option<usize> {
+    Some(added_up(input, counted, usize::MAX - 1, wrong)?.0)
 }
 
 /// The rows of a header row, from one up to another, where all counts add up.
-pub fn rows_of(lent: &Lent, counted: Counted, head: u32, wrong: WrongAnswer) -> Option<(usize, usize)> {
-    let (heads, rows) = added_up(lent, counted, head as usize, wrong)?;
+pub fn rows_of(input: &Input, counted: Counted, head: u32, wrong: WrongAnswer) -> Option<(usize, usize)> {
+    let (heads, rows) = added_up(input, counted, head as usize, wrong)?;
     let head = one_of(head, heads, wrong)?;
     let within = |row: u64| row.min(rows as u64) as usize;
-    Some((within(lent.sum(counted, head)), within(lent.sum(counted, head + 1))))
+    Some((within(input.sum(counted, head)), within(input.sum(counted, head + 1))))
 }
 
 /// The first row of a header row and how many there are.
-pub fn own_rows(lent: &Lent, counted: Counted, head: u32, wrong: WrongAnswer) -> Option<Answer> {
-    let (first, end) = rows_of(lent, counted, head, wrong)?;
+pub fn own_rows(input: &Input, counted: Counted, head: u32, wrong: WrongAnswer) -> Option<Answer> {
+    let (first, end) = rows_of(input, counted, head, wrong)?;
     let count = end - first;
     Some(match wrong {
         RowsFromTheEnd => Answer::of_rows(end, count),

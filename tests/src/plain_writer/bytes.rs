@@ -1,7 +1,7 @@
 //! The bytes of a record that can be written: clip, sequences, programs, CPI, empty marks.
 
 use super::refusals::is_video;
-use crate::answers::{Counted, Lent, OF_ATCS, OF_MAPS, OF_PROGRAMS};
+use crate::answers::{Counted, Input, OF_ATCS, OF_MAPS, OF_PROGRAMS};
 use crate::record::{ATCS, ENTRIES, MAPS, PROGRAMS, STCS, STREAMS};
 use crate::writer::Info;
 use crate::wrong_writes::WrongWrite::{self, *};
@@ -13,26 +13,26 @@ fn put(out: &mut Vec<u8>, width: usize, value: u64) {
 }
 
 /// The rows of a table: those stated, as far as they are lent.
-pub fn rows(lent: &Lent, table: usize, wrong: WrongWrite) -> usize {
-    let there = lent.lent_rows(table);
-    if wrong == RoomForStated(table) { there } else { there.min(lent.tables[table].rows as usize) }
+pub fn rows(input: &Input, table: usize, wrong: WrongWrite) -> usize {
+    let there = input.room(table);
+    if wrong == RoomForStated(table) { there } else { there.min(input.tables[table].rows as usize) }
 }
 
 /// Each head's own rows, as far as they are there.
-fn own_rows(lent: &Lent, counted: Counted, wrong: WrongWrite) -> Vec<Range<usize>> {
-    let all = rows(lent, counted.rows, wrong);
+fn own_rows(input: &Input, counted: Counted, wrong: WrongWrite) -> Vec<Range<usize>> {
+    let all = rows(input, counted.rows, wrong);
     let mut first = 0;
     let own = |row: usize| {
-        let end = all.min(first + lent.cell(counted.heads, row, counted.column) as usize);
+        let end = all.min(first + input.cell(counted.heads, row, counted.column) as usize);
         std::mem::replace(&mut first, end)..end
     };
-    let heads = (0..rows(lent, counted.heads, wrong)).map(own).collect();
+    let heads = (0..rows(input, counted.heads, wrong)).map(own).collect();
     if wrong == FixedFile { Vec::new() } else { heads }
 }
 
 /// The whole file.
-pub fn encode(info: &Info, lent: &Lent, wrong: WrongWrite) -> Vec<u8> {
-    let parts = [sequences(lent, wrong), programs(lent, wrong), cpi(lent, wrong)];
+pub fn encode(info: &Info, input: &Input, wrong: WrongWrite) -> Vec<u8> {
+    let parts = [sequences(input, wrong), programs(input, wrong), cpi(input, wrong)];
     let mut starts = [220; 4];
     for (k, part) in parts.iter().enumerate() {
         starts[k + 1] = starts[k] + part.len() as u64;
@@ -92,39 +92,39 @@ fn counted(count: usize, off: bool) -> u64 {
 }
 
 /// Tables 1 and 2.
-fn sequences(lent: &Lent, wrong: WrongWrite) -> Vec<u8> {
+fn sequences(input: &Input, wrong: WrongWrite) -> Vec<u8> {
     let mut items = Vec::new();
-    let heads = own_rows(lent, OF_ATCS, wrong);
+    let heads = own_rows(input, OF_ATCS, wrong);
     for (row, own) in heads.iter().enumerate() {
-        put(&mut items, 4, lent.cell(ATCS, row, 0).into());
+        put(&mut items, 4, input.cell(ATCS, row, 0).into());
         put(&mut items, 1, counted(own.len(), wrong == OwnRowsOff(ATCS)));
-        put(&mut items, 1, if wrong == OffsetIdDropped { 0 } else { lent.cell(ATCS, row, 2).into() });
+        put(&mut items, 1, if wrong == OffsetIdDropped { 0 } else { input.cell(ATCS, row, 2).into() });
         for stc in own.clone() {
             let start = if wrong == EndForStart { 3 } else { 2 };
-            put(&mut items, 2, lent.cell(STCS, stc, 0).into());
-            [1, start, 3].into_iter().for_each(|column| put(&mut items, 4, lent.cell(STCS, stc, column).into()));
+            put(&mut items, 2, input.cell(STCS, stc, 0).into());
+            [1, start, 3].into_iter().for_each(|column| put(&mut items, 4, input.cell(STCS, stc, column).into()));
         }
     }
     section(heads.len() + usize::from(wrong == RowsOff(ATCS)), &items, wrong)
 }
 
 /// Tables 3 and 4.
-fn programs(lent: &Lent, wrong: WrongWrite) -> Vec<u8> {
+fn programs(input: &Input, wrong: WrongWrite) -> Vec<u8> {
     let mut items = Vec::new();
-    let heads = own_rows(lent, OF_PROGRAMS, wrong);
+    let heads = own_rows(input, OF_PROGRAMS, wrong);
     for (row, own) in heads.iter().enumerate() {
-        put(&mut items, 4, lent.cell(PROGRAMS, row, 0).into());
-        put(&mut items, 2, lent.cell(PROGRAMS, row, 1).into());
+        put(&mut items, 4, input.cell(PROGRAMS, row, 0).into());
+        put(&mut items, 2, input.cell(PROGRAMS, row, 1).into());
         put(&mut items, 1, counted(own.len(), wrong == OwnRowsOff(PROGRAMS)));
         put(&mut items, 1, 0);
-        own.clone().for_each(|row| stream(lent, row, wrong, &mut items));
+        own.clone().for_each(|row| stream(input, row, wrong, &mut items));
     }
     section(heads.len() + usize::from(wrong == RowsOff(PROGRAMS)), &items, wrong)
 }
 
 /// A stream: PID, body length, coding type, format, and the aspect of video or a language that is given.
-fn stream(lent: &Lent, row: usize, wrong: WrongWrite, out: &mut Vec<u8>) {
-    let [pid, coding, format, aspect, language] = [0, 1, 2, 3, 4].map(|k| u64::from(lent.cell(STREAMS, row, k)));
+fn stream(input: &Input, row: usize, wrong: WrongWrite, out: &mut Vec<u8>) {
+    let [pid, coding, format, aspect, language] = [0, 1, 2, 3, 4].map(|k| u64::from(input.cell(STREAMS, row, k)));
     let mut body = Vec::new();
     put(&mut body, 1, coding);
     put(&mut body, 1, if wrong == FormatDropped { 0 } else { format });
@@ -142,9 +142,9 @@ fn stream(lent: &Lent, row: usize, wrong: WrongWrite, out: &mut Vec<u8>) {
 }
 
 /// The first entries of a map's runs, counted within the map.
-pub fn runs(lent: &Lent, own: Range<usize>, wrong: WrongWrite) -> Vec<usize> {
+pub fn runs(input: &Input, own: Range<usize>, wrong: WrongWrite) -> Vec<usize> {
     let key = |row: usize| {
-        let (time, packet) = (lent.cell(ENTRIES, row, 2) >> 19, lent.cell(ENTRIES, row, 3) >> 17);
+        let (time, packet) = (input.cell(ENTRIES, row, 2) >> 19, input.cell(ENTRIES, row, 3) >> 17);
         match wrong {
             RunByTime => (time, 0),
             RunByPacket => (0, packet),
@@ -158,17 +158,17 @@ pub fn runs(lent: &Lent, own: Range<usize>, wrong: WrongWrite) -> Vec<usize> {
 }
 
 /// A map's body: the fine address, the coarse rows, the fine rows.
-fn body(lent: &Lent, own: Range<usize>, runs: &[usize], wrong: WrongWrite, out: &mut Vec<u8>) {
+fn body(input: &Input, own: Range<usize>, runs: &[usize], wrong: WrongWrite, out: &mut Vec<u8>) {
     put(out, 4, 8 * runs.len() as u64 + if wrong == FineAddressFromRows { 0 } else { 4 });
     for run in runs {
-        let [time, packet] = [2, 3].map(|column| u64::from(lent.cell(ENTRIES, own.start + run, column)));
+        let [time, packet] = [2, 3].map(|column| u64::from(input.cell(ENTRIES, own.start + run, column)));
         let first = *run as u64 + u64::from(wrong == FirstFineFromOne);
         let time = if wrong == CoarseTimeOf12Bits { time >> 19 & 0xFFF } else { time >> 19 };
         let packet = if wrong == LowPacketCleared { packet & !0x1_FFFF } else { packet };
         put(out, 8, first << 46 | time << 32 | packet);
     }
     for row in own {
-        let [angle, i_end, time, packet] = [0, 1, 2, 3].map(|column| u64::from(lent.cell(ENTRIES, row, column)));
+        let [angle, i_end, time, packet] = [0, 1, 2, 3].map(|column| u64::from(input.cell(ENTRIES, row, column)));
         let angle = if wrong == AngleDropped { 0 } else { angle & 1 };
         let i_end = if wrong == IEndDropped { 0 } else { i_end & 7 };
         let time = time >> 9 & if wrong == FineTimeOf10Bits { 1023 } else { 2047 };
@@ -178,8 +178,8 @@ fn body(lent: &Lent, own: Range<usize>, runs: &[usize], wrong: WrongWrite, out: 
 }
 
 /// Tables 5 and 6; with no maps, a length of 0 alone.
-fn cpi(lent: &Lent, wrong: WrongWrite) -> Vec<u8> {
-    let mut maps = own_rows(lent, OF_MAPS, wrong);
+fn cpi(input: &Input, wrong: WrongWrite) -> Vec<u8> {
+    let mut maps = own_rows(input, OF_MAPS, wrong);
     if wrong == FirstMapOnly {
         maps.truncate(1);
     }
@@ -195,8 +195,8 @@ fn cpi(lent: &Lent, wrong: WrongWrite) -> Vec<u8> {
     put(&mut out, 3, 1 << 8);
     put(&mut out, 1, counted(maps.len(), wrong == RowsOff(MAPS)) & 0xFF);
     for (row, own) in maps.iter().enumerate() {
-        let runs = runs(lent, own.clone(), wrong);
-        let kind = if wrong == MapTypeDropped { 0 } else { u64::from(lent.cell(MAPS, row, 1)) & 15 };
+        let runs = runs(input, own.clone(), wrong);
+        let kind = if wrong == MapTypeDropped { 0 } else { u64::from(input.cell(MAPS, row, 1)) & 15 };
         let coarse = counted(runs.len(), wrong == CoarseCountOff) & 0xFFFF;
         let fine = counted(own.len(), wrong == FineCountOff) & 0x3_FFFF;
         let address = match wrong {
@@ -204,10 +204,10 @@ fn cpi(lent: &Lent, wrong: WrongWrite) -> Vec<u8> {
             AddressOfFirst => base,
             _ => base + bodies.len(),
         };
-        put(&mut out, 2, lent.cell(MAPS, row, 0).into());
+        put(&mut out, 2, input.cell(MAPS, row, 0).into());
         put(&mut out, 6, kind << 34 | coarse << 18 | fine);
         put(&mut out, 4, address as u64);
-        body(lent, own.clone(), &runs, wrong, &mut bodies);
+        body(input, own.clone(), &runs, wrong, &mut bodies);
     }
     out.append(&mut bodies);
     let length = out.len() as u32 - if wrong == LengthWithItself { 0 } else { 4 };

@@ -1,7 +1,7 @@
 //! Why a record can't be written: 22, 30, 31 and, where the order is wrong, 23.
 
 use super::bytes::{rows, runs};
-use crate::answers::{Counted, Lent, OF_ATCS, OF_MAPS, OF_PROGRAMS};
+use crate::answers::{Counted, Input, OF_ATCS, OF_MAPS, OF_PROGRAMS};
 use crate::record::{ATCS, CELLS, ENTRIES, MAPS, PROGRAMS, STREAMS};
 use crate::writer::{Info, TABLES};
 use crate::wrong_writes::WrongWrite::{self, *};
@@ -17,7 +17,7 @@ const GREATEST: [&[u32]; TABLES] = [
 ];
 
 /// The first refusal in the order 22, 30, 31, or 0. The output's length is asked for where the order is wrong.
-pub fn refusal(info: &Info, lent: &Lent, is_short: impl Fn() -> bool, wrong: WrongWrite) -> u32 {
+pub fn refusal(info: &Info, input: &Input, is_short: impl Fn() -> bool, wrong: WrongWrite) -> u32 {
     let order: &[u32] = match wrong {
         CellsBeforeRows => &[30, 22, 31],
         RunsBeforeRows => &[31, 22, 30],
@@ -28,66 +28,65 @@ pub fn refusal(info: &Info, lent: &Lent, is_short: impl Fn() -> bool, wrong: Wro
         _ => &[22, 30, 31],
     };
     let holds = |number: u32| match number {
-        22 => stated(lent, wrong) && adds_up(lent, wrong),
+        22 => stated(input, wrong) && adds_up(input, wrong),
         23 => !is_short(),
-        30 => cells_fit(info, lent, wrong),
-        _ => runs_fit(lent, wrong),
+        30 => cells_fit(info, input, wrong),
+        _ => runs_fit(input, wrong),
     };
     order.iter().copied().find(|number| !holds(*number)).unwrap_or(0)
 }
 
 /// Whether no more rows are stated than lent.
-fn stated(lent: &Lent, wrong: WrongWrite) -> bool {
-    (0..TABLES)
-        .all(|table| lent.tables[table].rows as usize <= lent.lent_rows(table) || wrong == StatedNotTested(table))
+fn stated(input: &Input, wrong: WrongWrite) -> bool {
+    (0..TABLES).all(|table| input.tables[table].rows as usize <= input.room(table) || wrong == StatedNotTested(table))
 }
 
 /// Whether the counts of each table of counts add up to the rows stated of the table counted.
-fn adds_up(lent: &Lent, wrong: WrongWrite) -> bool {
+fn adds_up(input: &Input, wrong: WrongWrite) -> bool {
     [OF_ATCS, OF_PROGRAMS, OF_MAPS].into_iter().all(|counted: Counted| {
         let Counted { heads, rows: table, .. } = counted;
-        let sum = lent.sum(counted, rows(lent, heads, wrong));
+        let sum = input.sum(counted, rows(input, heads, wrong));
         let sum = if wrong == CountsIn32Bits(heads) { sum & 0xFFFF_FFFF } else { sum };
         let rows =
-            if wrong == RoomForStated(table) { lent.lent_rows(table) as u64 } else { lent.tables[table].rows.into() };
+            if wrong == RoomForStated(table) { input.room(table) as u64 } else { input.tables[table].rows.into() };
         sum == rows || wrong == CountsMayFallShort(heads) && sum < rows || wrong == CountsMayExceed(heads) && sum > rows
     })
 }
 
 /// Whether every number, count and cell fits its field in the file.
-fn cells_fit(info: &Info, lent: &Lent, wrong: WrongWrite) -> bool {
+fn cells_fit(info: &Info, input: &Input, wrong: WrongWrite) -> bool {
     let number = |place: usize, number: u32| {
         number < 255 || number == 255 && wrong != NumberEdgeRefused(place) || wrong == NumberNotTested(place)
     };
     let count = |table: usize| {
-        let rows = rows(lent, table, wrong);
+        let rows = rows(input, table, wrong);
         rows < 255 || rows == 255 && wrong != RowsEdgeRefused(table) || wrong == RowsNotTested(table)
     };
     number(1, info.clip_stream_type)
         && number(2, info.application_type)
         && number(5, info.validity_flags)
         && [ATCS, PROGRAMS, MAPS].into_iter().all(count)
-        && (0..TABLES).all(|table| rows_fit(lent, table, wrong))
-        && entry_types_fit(lent, wrong)
+        && (0..TABLES).all(|table| rows_fit(input, table, wrong))
+        && entry_types_fit(input, wrong)
 }
 
 /// Whether every row of a table fits.
-fn rows_fit(lent: &Lent, table: usize, wrong: WrongWrite) -> bool {
-    let all = rows(lent, table, wrong);
+fn rows_fit(input: &Input, table: usize, wrong: WrongWrite) -> bool {
+    let all = rows(input, table, wrong);
     let tested = if wrong == FirstRowTested(table) { all.min(1) } else { all };
     (0..tested).all(|row| {
         (0..CELLS[table]).all(|column| {
-            let (cell, greatest) = (lent.cell(table, row, column), GREATEST[table][column]);
+            let (cell, greatest) = (input.cell(table, row, column), GREATEST[table][column]);
             let refused = cell > greatest && wrong != CellNotTested(table, column)
                 || cell == greatest && wrong == CellEdgeRefused(table, column);
             !refused
-        }) && row_fits(lent, table, row, wrong)
+        }) && row_fits(input, table, row, wrong)
     })
 }
 
 /// Whether a row's cells go with one another: no language on video, no aspect on anything else, a time in steps of 512.
-fn row_fits(lent: &Lent, table: usize, row: usize, wrong: WrongWrite) -> bool {
-    let cell = |column: usize| lent.cell(table, row, column);
+fn row_fits(input: &Input, table: usize, row: usize, wrong: WrongWrite) -> bool {
+    let cell = |column: usize| input.cell(table, row, column);
     match table {
         STREAMS if is_video(cell(1)) => cell(4) == 0 || wrong == LanguageOnVideoAccepted,
         STREAMS => cell(3) == 0 || wrong == AspectOnAudioAccepted,
@@ -97,35 +96,35 @@ fn row_fits(lent: &Lent, table: usize, row: usize, wrong: WrongWrite) -> bool {
 }
 
 /// Whether every entry's type is its map's.
-fn entry_types_fit(lent: &Lent, wrong: WrongWrite) -> bool {
+fn entry_types_fit(input: &Input, wrong: WrongWrite) -> bool {
     let mut first = 0;
-    let maps = rows(lent, MAPS, wrong);
-    let all = rows(lent, ENTRIES, wrong);
+    let maps = rows(input, MAPS, wrong);
+    let all = rows(input, ENTRIES, wrong);
     let tested = if wrong == FirstMapTested { maps.min(1) } else { maps };
     (0..tested).all(|map| {
-        let own = own_rows(lent, map, &mut first, all);
+        let own = own_rows(input, map, &mut first, all);
         let mut entries = if wrong == FirstRowTested(ENTRIES) { own.start..own.end.min(own.start + 1) } else { own };
-        entries.all(|row| lent.cell(ENTRIES, row, 4) == lent.cell(MAPS, map, 1) || wrong == TypeNotTested)
+        entries.all(|row| input.cell(ENTRIES, row, 4) == input.cell(MAPS, map, 1) || wrong == TypeNotTested)
     })
 }
 
 /// Whether no map has over 65,535 runs.
-fn runs_fit(lent: &Lent, wrong: WrongWrite) -> bool {
+fn runs_fit(input: &Input, wrong: WrongWrite) -> bool {
     let (mut first, mut together) = (0, 0);
-    let maps = rows(lent, MAPS, wrong);
-    let all = rows(lent, ENTRIES, wrong);
+    let maps = rows(input, MAPS, wrong);
+    let all = rows(input, ENTRIES, wrong);
     let most = if wrong == RunsEdgeRefused { 65_534 } else { 65_535 };
     let tested = if wrong == RunsOfFirstMap { maps.min(1) } else { maps };
     (0..tested).all(|map| {
-        let runs = runs(lent, own_rows(lent, map, &mut first, all), wrong).len();
+        let runs = runs(input, own_rows(input, map, &mut first, all), wrong).len();
         together = if wrong == RunsOfAllMaps { together + runs } else { runs };
         together <= most || wrong == RunsNotTested
     })
 }
 
 /// The entries of a map, as far as they are there; the next map's start behind them.
-fn own_rows(lent: &Lent, map: usize, first: &mut usize, all: usize) -> std::ops::Range<usize> {
-    let end = all.min(*first + lent.cell(MAPS, map, 2) as usize);
+fn own_rows(input: &Input, map: usize, first: &mut usize, all: usize) -> std::ops::Range<usize> {
+    let end = all.min(*first + input.cell(MAPS, map, 2) as usize);
     std::mem::replace(first, end)..end
 }
 

@@ -1,6 +1,6 @@
 //! Which questions are asked of tables: about each row or some, with the arguments at which answers change.
 
-use crate::answers::{Counted, Lent, OF_ATCS, OF_MAPS, OF_PROGRAMS, Question, Question::*};
+use crate::answers::{Counted, Input, OF_ATCS, OF_MAPS, OF_PROGRAMS, Question, Question::*};
 use crate::random::Random;
 use crate::record::{ATCS, ENTRIES, EXTENSIONS, MAPS, PROGRAMS, STCS, STREAMS};
 
@@ -25,27 +25,27 @@ fn some_of(count: u64, most: u64, random: &mut Random) -> impl Iterator<Item = u
 }
 
 /// Some of a table's rows.
-fn some_rows(lent: &Lent, table: usize, random: &mut Random) -> impl Iterator<Item = u32> + use<> {
-    some_of(lent.tables[table].rows.into(), ASKED, random).map(|row| row as u32)
+fn some_rows(input: &Input, table: usize, random: &mut Random) -> impl Iterator<Item = u32> + use<> {
+    some_of(input.tables[table].rows.into(), ASKED, random).map(|row| row as u32)
 }
 
 /// Some of the rows of a header row that are lent.
-fn some_own(lent: &Lent, counted: Counted, head: u32, most: u64, random: &mut Random) -> Vec<usize> {
-    let first = lent.sum(counted, head as usize);
-    let count = lent.cell(counted.heads, head as usize, counted.column);
-    let lent_rows = lent.lent_rows(counted.rows);
-    some_of(count.into(), most, random).map(|row| (first + row) as usize).filter(|&row| row < lent_rows).collect()
+fn some_own(input: &Input, counted: Counted, head: u32, most: u64, random: &mut Random) -> Vec<usize> {
+    let first = input.sum(counted, head as usize);
+    let count = input.cell(counted.heads, head as usize, counted.column);
+    let room = input.room(counted.rows);
+    some_of(count.into(), most, random).map(|row| (first + row) as usize).filter(|&row| row < room).collect()
 }
 
 /// Numbers of rows that aren't there.
-fn beyond(lent: &Lent, table: usize) -> [u32; 2] {
-    [lent.tables[table].rows, u32::MAX]
+fn beyond(input: &Input, table: usize) -> [u32; 2] {
+    [input.tables[table].rows, u32::MAX]
 }
 
 /// The questions about times of STCs.
-pub fn times(lent: &Lent, random: &mut Random, out: &mut Vec<Question>) {
-    let rows = lent.tables[STCS].rows;
-    let end = (0..rows as usize).map(|row| 2 * u64::from(lent.cell(STCS, row, 3))).max().unwrap_or(0);
+pub fn times(input: &Input, random: &mut Random, out: &mut Vec<Question>) {
+    let rows = input.tables[STCS].rows;
+    let end = (0..rows as usize).map(|row| 2 * u64::from(input.cell(STCS, row, 3))).max().unwrap_or(0);
     let before = |ticks: u64| end.saturating_sub(ticks);
     let whole = end % MINUTE;
     for at in [0, 1, whole, whole + 1, before(MINUTE), before(MINUTE - 1), before(1), end, end + 1, end + MINUTE] {
@@ -55,39 +55,39 @@ pub fn times(lent: &Lent, random: &mut Random, out: &mut Vec<Question>) {
         out.push(MinutesRemaining(at));
     }
     out.push(PresentationSpan);
-    for row in some_rows(lent, STCS, random).chain(beyond(lent, STCS)) {
+    for row in some_rows(input, STCS, random).chain(beyond(input, STCS)) {
         out.extend([Duration45k(row), Duration90k(row)]);
     }
 }
 
 /// The questions about STCs of ATCs, by ids and packets.
-pub fn sequences(lent: &Lent, random: &mut Random, out: &mut Vec<Question>) {
+pub fn sequences(input: &Input, random: &mut Random, out: &mut Vec<Question>) {
     out.push(FirstStc);
     let any = random.next();
     out.extend([0, any as u8, u8::MAX].map(StcById));
-    for atc in beyond(lent, ATCS) {
+    for atc in beyond(input, ATCS) {
         out.extend([StcsOfAtc(atc), StcForSpn(atc, any as u32)]);
     }
-    for atc in some_rows(lent, ATCS, random) {
-        let [count, offset] = [1, 2].map(|column| lent.cell(ATCS, atc as usize, column) as u8);
+    for atc in some_rows(input, ATCS, random) {
+        let [count, offset] = [1, 2].map(|column| input.cell(ATCS, atc as usize, column) as u8);
         let end = offset.wrapping_add(count);
         out.extend([offset.wrapping_sub(1), offset, end.wrapping_sub(1), end].map(StcById));
         out.push(StcsOfAtc(atc));
         out.extend([0, any as u32, u32::MAX].map(|spn| StcForSpn(atc, spn)));
-        for stc in some_own(lent, OF_ATCS, atc, FEW, random) {
-            let packet = lent.cell(STCS, stc, 1);
+        for stc in some_own(input, OF_ATCS, atc, FEW, random) {
+            let packet = input.cell(STCS, stc, 1);
             out.extend([packet, packet.wrapping_sub(1), packet.wrapping_add(1)].map(|spn| StcForSpn(atc, spn)));
         }
     }
 }
 
 /// The questions about programs.
-pub fn programs(lent: &Lent, random: &mut Random, out: &mut Vec<Question>) {
-    out.extend(beyond(lent, PROGRAMS).map(StreamsOfProgram));
-    for row in some_rows(lent, PROGRAMS, random) {
-        let pid = lent.cell(PROGRAMS, row as usize, 1) as u16;
+pub fn programs(input: &Input, random: &mut Random, out: &mut Vec<Question>) {
+    out.extend(beyond(input, PROGRAMS).map(StreamsOfProgram));
+    for row in some_rows(input, PROGRAMS, random) {
+        let pid = input.cell(PROGRAMS, row as usize, 1) as u16;
         out.extend([pid, pid.wrapping_add(1), pid.swap_bytes()].map(ProgramByPmtPid));
-        out.push(ProgramByPmtPid(lent.cell(PROGRAMS, row as usize, 0) as u16));
+        out.push(ProgramByPmtPid(input.cell(PROGRAMS, row as usize, 0) as u16));
         out.push(StreamsOfProgram(row));
     }
     let any = random.next() as u16;
@@ -95,88 +95,88 @@ pub fn programs(lent: &Lent, random: &mut Random, out: &mut Vec<Question>) {
 }
 
 /// The questions about streams.
-pub fn streams(lent: &Lent, random: &mut Random, out: &mut Vec<Question>) {
+pub fn streams(input: &Input, random: &mut Random, out: &mut Vec<Question>) {
     out.push(PrimaryVideoPid);
-    for row in some_rows(lent, STREAMS, random) {
-        let pid = lent.cell(STREAMS, row as usize, 0) as u16;
+    for row in some_rows(input, STREAMS, random) {
+        let pid = input.cell(STREAMS, row as usize, 0) as u16;
         out.extend([pid, pid.wrapping_add(1), pid.swap_bytes()].map(StreamByPid));
     }
     let any = random.next() as u16;
     out.extend([0, any, u16::MAX].map(StreamByPid));
-    next_streams(lent, random, out);
+    next_streams(input, random, out);
 }
 
 /// The questions about the next stream of a kind.
-pub fn next_streams(lent: &Lent, random: &mut Random, out: &mut Vec<Question>) {
-    let rows = lent.tables[STREAMS].rows;
-    for from in some_rows(lent, STREAMS, random).chain([0, rows, rows.wrapping_add(1), u32::MAX]) {
+pub fn next_streams(input: &Input, random: &mut Random, out: &mut Vec<Question>) {
+    let rows = input.tables[STREAMS].rows;
+    for from in some_rows(input, STREAMS, random).chain([0, rows, rows.wrapping_add(1), u32::MAX]) {
         out.extend([NextVideoStream(from), NextAudioStream(from)]);
     }
 }
 
 /// The PIDs of one program's streams, and of others.
-pub fn pids_of_program(lent: &Lent, program: u32, random: &mut Random, out: &mut Vec<Question>) {
-    for row in some_own(lent, OF_PROGRAMS, program, FEW, random) {
-        out.push(StreamByPid(lent.cell(STREAMS, row, 0) as u16));
+pub fn pids_of_program(input: &Input, program: u32, random: &mut Random, out: &mut Vec<Question>) {
+    for row in some_own(input, OF_PROGRAMS, program, FEW, random) {
+        out.push(StreamByPid(input.cell(STREAMS, row, 0) as u16));
     }
-    for row in some_rows(lent, STREAMS, random).take(FEW as usize) {
-        out.push(StreamByPid(lent.cell(STREAMS, row as usize, 0) as u16));
+    for row in some_rows(input, STREAMS, random).take(FEW as usize) {
+        out.push(StreamByPid(input.cell(STREAMS, row as usize, 0) as u16));
     }
 }
 
 /// Some programs, by their rows.
-pub fn some_programs(lent: &Lent, random: &mut Random) -> impl Iterator<Item = u32> + use<> {
-    some_of(lent.tables[PROGRAMS].rows.into(), FEW, random).map(|row| row as u32)
+pub fn some_programs(input: &Input, random: &mut Random) -> impl Iterator<Item = u32> + use<> {
+    some_of(input.tables[PROGRAMS].rows.into(), FEW, random).map(|row| row as u32)
 }
 
 /// The questions about maps.
-pub fn maps(lent: &Lent, random: &mut Random, out: &mut Vec<Question>) {
-    let rows = lent.tables[MAPS].rows;
+pub fn maps(input: &Input, random: &mut Random, out: &mut Vec<Question>) {
+    let rows = input.tables[MAPS].rows;
     out.push(PrimaryMap);
-    for row in some_rows(lent, MAPS, random) {
-        let kind = lent.cell(MAPS, row as usize, 1) as u8;
+    for row in some_rows(input, MAPS, random) {
+        let kind = input.cell(MAPS, row as usize, 1) as u8;
         out.extend([kind, kind ^ 16 << random.below(4)].map(MapByKind));
         out.extend([NextVideoMap(row), EntriesOfMap(row), FirstPts(row), LastPts(row), IndexedSpan(row)]);
     }
     let any = random.next() as u8;
     out.extend([0, 1, 2, 8, 16, any].map(MapByKind));
     out.extend([0, rows, rows.wrapping_add(1), u32::MAX].map(NextVideoMap));
-    for row in beyond(lent, MAPS) {
+    for row in beyond(input, MAPS) {
         out.extend([EntriesOfMap(row), FirstPts(row), LastPts(row), IndexedSpan(row)]);
     }
 }
 
 /// The times at which a map's answers change: each of its times or some, one less, one more, 0, and the greatest; and any.
-fn times_of_map(lent: &Lent, map: u32, random: &mut Random) -> Vec<u32> {
+fn times_of_map(input: &Input, map: u32, random: &mut Random) -> Vec<u32> {
     let mut times = vec![0, random.next() as u32, u32::MAX];
-    for row in some_own(lent, OF_MAPS, map, ASKED, random) {
-        let time = lent.cell(ENTRIES, row, 2);
+    for row in some_own(input, OF_MAPS, map, ASKED, random) {
+        let time = input.cell(ENTRIES, row, 2);
         times.extend([time, time.wrapping_sub(1), time.wrapping_add(1)]);
     }
     times
 }
 
 /// The questions about entries by their times; `primary` is the row of the primary map.
-pub fn entries(lent: &Lent, primary: Option<u32>, random: &mut Random, out: &mut Vec<Question>) {
+pub fn entries(input: &Input, primary: Option<u32>, random: &mut Random, out: &mut Vec<Question>) {
     let by_time =
         |map: u32, at: u32| [EntryAtOrBefore(map, at), EntryAfter(map, at), SeekSpn(map, at), NextSeekSpn(map, at)];
-    for map in some_rows(lent, MAPS, random) {
-        for at in times_of_map(lent, map, random) {
+    for map in some_rows(input, MAPS, random) {
+        for at in times_of_map(input, map, random) {
             out.extend(by_time(map, at));
         }
     }
     let any = random.next() as u32;
-    for map in beyond(lent, MAPS) {
+    for map in beyond(input, MAPS) {
         out.extend(by_time(map, any));
     }
-    for at in primary.map_or(vec![0, any], |map| times_of_map(lent, map, random)) {
+    for at in primary.map_or(vec![0, any], |map| times_of_map(input, map, random)) {
         out.extend([PrimarySeekSpn(at), PrimaryNextSeekSpn(at)]);
     }
 }
 
 /// The questions about packets and bytes.
-pub fn packets(lent: &Lent, random: &mut Random, out: &mut Vec<Question>) {
-    let count = lent.packets;
+pub fn packets(input: &Input, random: &mut Random, out: &mut Vec<Question>) {
+    let count = input.packets;
     let any = random.below(u64::from(count) + 1);
     for spn in [0, 1, count.wrapping_sub(1), count, count.wrapping_add(1), any as u32, u32::MAX] {
         out.push(SpnToByte(spn));
@@ -190,24 +190,24 @@ pub fn packets(lent: &Lent, random: &mut Random, out: &mut Vec<Question>) {
 }
 
 /// The questions about extensions: the ids of each, with one of them another, and swapped.
-pub fn extensions(lent: &Lent, random: &mut Random, out: &mut Vec<Question>) {
+pub fn extensions(input: &Input, random: &mut Random, out: &mut Vec<Question>) {
     let any = random.next() as u16;
     out.extend([ExtensionEntry(2, 5), ExtensionEntry(0, 0), ExtensionEntry(any, 5)]);
-    for row in some_rows(lent, EXTENSIONS, random) {
-        let [id1, id2] = [0, 1].map(|column| lent.cell(EXTENSIONS, row as usize, column) as u16);
+    for row in some_rows(input, EXTENSIONS, random) {
+        let [id1, id2] = [0, 1].map(|column| input.cell(EXTENSIONS, row as usize, column) as u16);
         out.extend([ExtensionEntry(id1, id2), ExtensionEntry(id2, id1)]);
         out.extend([ExtensionEntry(id1, any), ExtensionEntry(any, id2), ExtensionEntry(id1, id2 ^ 1)]);
     }
 }
 
 /// Each question that is lent tables once, about any row that is there, with any time.
-pub fn one_of_each(lent: &Lent, random: &mut Random) -> [Question; 28] {
-    let mut row = |table: usize| random.below(u64::from(lent.tables[table].rows).max(1)) as u32;
+pub fn one_of_each(input: &Input, random: &mut Random) -> [Question; 28] {
+    let mut row = |table: usize| random.below(u64::from(input.tables[table].rows).max(1)) as u32;
     let [stc, atc, program, map] = [STCS, ATCS, PROGRAMS, MAPS].map(&mut row);
     let [stream, next_map, extension] = [STREAMS, MAPS, EXTENSIONS].map(row);
     let (any, at) = (random.next(), random.next() as u32);
     let cell = |table: usize, row: u32, column: usize| {
-        if row < lent.tables[table].rows { lent.cell(table, row as usize, column) } else { at }
+        if row < input.tables[table].rows { input.cell(table, row as usize, column) } else { at }
     };
     let [id1, id2] = [0, 1].map(|column| cell(EXTENSIONS, extension, column) as u16);
     [

@@ -2,7 +2,7 @@
 use mathlib.Core.Path.{_≡_, sym, ap}
 use native.Mathlib.Omega.{arith}
 use denote.Ref.{now}
-use Rattle.clip_sections.specs.declared.tables.Rows.{Rows}
+use Rattle.nine_tables.specs.declared.Rows.{Rows}
 use Rattle.listing.specs.Text.{Listable}
 use Rattle.listing.proofs.Laws.{shows-as}
 use Rattle.clip_listing.specs.Told.{Shown}

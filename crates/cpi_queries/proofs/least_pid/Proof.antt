@@ -13,8 +13,11 @@ Inv-loop maps rows best₀ k₀ best k = (k ≤ rows) × Pids maps rows k best
 abbrev μ-loop : tie.MeasureT-loop
 μ-loop maps rows best₀ k₀ best k = rows - k
 
+none-yet-requires : tie.Need-none-yet-requires Inv-loop μ-loop
+none-yet-requires c κs = search needs
+
 loop-holds : tie.Need-loop-holds Inv-loop μ-loop
-loop-holds c = let a = c .before .args in (omega arith, pids-first (now (a .maps)) (a .rows))
+loop-holds c = let a = c .before .before .args in (omega arith, pids-first (now (a .maps)) (a .rows) (c .none-yet .ensures))
 
 mul-cell-at : tie.Need-mul-cell-at Inv-loop μ-loop
 mul-cell-at c = search needs
@@ -31,6 +34,9 @@ cell-at-requires c κs = search needs
 cast-closer : tie.Need-cast-closer Inv-loop μ-loop
 cast-closer c = search needs
 
+cast-closer-2 : tie.Need-cast-closer-2 Inv-loop μ-loop
+cast-closer-2 c = search needs
+
 closer-requires : tie.Need-closer-requires Inv-loop μ-loop
 closer-requires c κs = search needs
 
@@ -42,24 +48,21 @@ loop-less c = search needs
 
 loop-again : tie.Need-loop-again Inv-loop μ-loop
 loop-again c =
-    let a = c .before .before .before .before .before .args in
+    let a = c .before .before .before .before .before .before .args in
     let l = c .before .before .before .loop in
     (omega arith, pids-turn (now (a .maps)) (a .rows) (l .k) (l .best) (omega arith) (c .before .cell-at .ensures) (c .closer .ensures) (l .inv .1))
 
 returns : tie.Need-returns Inv-loop μ-loop
 returns c =
-    let a = c .before .before .before .before .before .args in
+    let a = c .before .before .before .before .before .before .args in
     let l = c .before .before .before .loop in
     no-pid (now (a .maps)) (a .rows) (l .k) (l .best) (c .before .before .loop-test .left) (l .inv .1) (c .if1 .taken)
-
-cast-t12 : tie.Need-cast-t12 Inv-loop μ-loop
-cast-t12 c = search needs
 
 returns-2 : tie.Need-returns-2 Inv-loop μ-loop
 returns-2 c =
     let a = c .before .before .before .before .before .before .args in
-    let l = c .before .before .before .before .loop in
-    pid-is (now (a .maps)) (a .rows) (l .k) (l .best) (c .before .before .before .loop-test .left) (l .inv .1) (c .before .if1 .left)
+    let l = c .before .before .before .loop in
+    pid-is (now (a .maps)) (a .rows) (l .k) (l .best) (c .before .before .loop-test .left) (l .inv .1) (c .if1 .left)
 
 pub least-pid-spec : {M : Type 1} → statement M
 least-pid-spec =
@@ -67,16 +70,17 @@ least-pid-spec =
     (tie.spec
     Inv-loop
     μ-loop
+    none-yet-requires
     loop-holds
     mul-cell-at
     cast-cell-at
     mul-cell-at-2
     cell-at-requires
     cast-closer
+    cast-closer-2
     closer-requires
     add-k
     loop-less
     loop-again
     returns
-    cast-t12
     returns-2)

@@ -1,9 +1,10 @@
 -- The fields one behind the other.
+use mathlib.Core.Path.{refl}
 use mathlib.Core.List.{[], _∷_}
 use denote.Ref.{now}
 use Rattle.clip_information.specs.Read.{scalarsBy}
 use Rattle.encode_head.specs.Heads.{formatWidths, formatNumbers}
-use Rattle.encode_head.proofs.Laws.{field-then}
+use Rattle.format.proofs.Stores.{field-then}
 use borrow.Author.Needs.{needs}
 use Rattle.encode_head.proofs.put_clip_info.Statement.{statement}
 use Rattle.encode_head.proofs.put_clip_info.Tie as tie
@@ -41,14 +42,14 @@ same-length c = search needs
 returns : tie.Need-returns
 returns c =
     let a = c .before .before .before .before .before .before .before .before .before .before .before .before .before .before .before .before .before .before .before .before .before .before .before .before .before .before .before .before .before .before .before .before .before .before .before .before .before .args in
-    field-then (now (a .out)) 40 4 176 (2 ∷ 1 ∷ 1 ∷ 4 ∷ 4 ∷ 4 ∷ 128 ∷ formatWidths) (0 ∷ a .info .«clip_stream_type» ∷ a .info .«application_type» ∷ 0 ∷ a .info .«ts_recording_rate» ∷ a .info .«number_of_source_packets» ∷ 0 ∷ formatNumbers (scalarsBy (a .info))) (c .before .before .before .before .before .before .before .before .before .before .before .before .before .before .before .before .before .before .before .before .before .before .before .before .before .before .before .before .before .before .before .before .before .before .put-u32 .ensures)
-    (field-then _ 44 2 0 (1 ∷ 1 ∷ 4 ∷ 4 ∷ 4 ∷ 128 ∷ formatWidths) (a .info .«clip_stream_type» ∷ a .info .«application_type» ∷ 0 ∷ a .info .«ts_recording_rate» ∷ a .info .«number_of_source_packets» ∷ 0 ∷ formatNumbers (scalarsBy (a .info))) (c .before .before .before .before .before .before .before .before .before .before .before .before .before .before .before .before .before .before .before .before .before .before .before .before .before .before .before .before .before .before .put-u16 .ensures)
-    (field-then _ 46 1 (a .info .«clip_stream_type») (1 ∷ 4 ∷ 4 ∷ 4 ∷ 128 ∷ formatWidths) (a .info .«application_type» ∷ 0 ∷ a .info .«ts_recording_rate» ∷ a .info .«number_of_source_packets» ∷ 0 ∷ formatNumbers (scalarsBy (a .info))) (c .before .before .before .before .before .before .before .before .before .before .before .before .before .before .before .before .before .before .before .before .before .before .before .before .before .before .put-u8 .ensures)
-    (field-then _ 47 1 (a .info .«application_type») (4 ∷ 4 ∷ 4 ∷ 128 ∷ formatWidths) (0 ∷ a .info .«ts_recording_rate» ∷ a .info .«number_of_source_packets» ∷ 0 ∷ formatNumbers (scalarsBy (a .info))) (c .before .before .before .before .before .before .before .before .before .before .before .before .before .before .before .before .before .before .before .before .before .before .put-u82 .ensures)
-    (field-then _ 48 4 0 (4 ∷ 4 ∷ 128 ∷ formatWidths) (a .info .«ts_recording_rate» ∷ a .info .«number_of_source_packets» ∷ 0 ∷ formatNumbers (scalarsBy (a .info))) (c .before .before .before .before .before .before .before .before .before .before .before .before .before .before .before .before .before .before .put-u322 .ensures)
-    (field-then _ 52 4 (a .info .«ts_recording_rate») (4 ∷ 128 ∷ formatWidths) (a .info .«number_of_source_packets» ∷ 0 ∷ formatNumbers (scalarsBy (a .info))) (c .before .before .before .before .before .before .before .before .before .before .before .before .before .before .put-u323 .ensures)
-    (field-then _ 56 4 (a .info .«number_of_source_packets») (128 ∷ formatWidths) (0 ∷ formatNumbers (scalarsBy (a .info))) (c .before .before .before .before .before .before .before .before .before .before .put-u324 .ensures)
-    (field-then _ 60 128 0 (formatWidths) (formatNumbers (scalarsBy (a .info))) (c .before .before .before .before .before .before .put-zeros .ensures)
+    field-then (now (a .out)) 40 4 176 _ refl (c .before .before .before .before .before .before .before .before .before .before .before .before .before .before .before .before .before .before .before .before .before .before .before .before .before .before .before .before .before .before .before .before .before .before .put-u32 .ensures)
+    (field-then _ 44 2 0 _ refl (c .before .before .before .before .before .before .before .before .before .before .before .before .before .before .before .before .before .before .before .before .before .before .before .before .before .before .before .before .before .before .put-u16 .ensures)
+    (field-then _ 46 1 (a .info .«clip_stream_type») _ refl (c .before .before .before .before .before .before .before .before .before .before .before .before .before .before .before .before .before .before .before .before .before .before .before .before .before .before .put-u8 .ensures)
+    (field-then _ 47 1 (a .info .«application_type») _ refl (c .before .before .before .before .before .before .before .before .before .before .before .before .before .before .before .before .before .before .before .before .before .before .put-u82 .ensures)
+    (field-then _ 48 4 0 _ refl (c .before .before .before .before .before .before .before .before .before .before .before .before .before .before .before .before .before .before .put-u322 .ensures)
+    (field-then _ 52 4 (a .info .«ts_recording_rate») _ refl (c .before .before .before .before .before .before .before .before .before .before .before .before .before .before .put-u323 .ensures)
+    (field-then _ 56 4 (a .info .«number_of_source_packets») _ refl (c .before .before .before .before .before .before .before .before .before .before .put-u324 .ensures)
+    (field-then _ 60 128 0 _ refl (c .before .before .before .before .before .before .put-zeros .ensures)
     (c .before .before .put-format .ensures))))))))
 
 pub put-clip-info-spec : {M : Type 1} → statement M

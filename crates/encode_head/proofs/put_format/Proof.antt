@@ -1,7 +1,8 @@
 -- The fields one behind the other.
+use mathlib.Core.Path.{refl}
 use mathlib.Core.List.{[], _∷_}
 use denote.Ref.{now}
-use Rattle.encode_head.proofs.Laws.{field-then, field-last}
+use Rattle.format.proofs.Stores.{field-then, field-last}
 use borrow.Author.Needs.{needs}
 use Rattle.encode_head.proofs.put_format.Statement.{statement}
 use Rattle.encode_head.proofs.put_format.Tie as tie
@@ -24,9 +25,9 @@ same-length c = search needs
 returns : tie.Need-returns
 returns c =
     let a = c .before .before .before .before .before .before .before .before .before .before .before .before .before .before .before .before .before .args in
-    field-then (now (a .out)) 188 1 (a .info .«validity_flags») (1 ∷ 4 ∷ 26 ∷ []) (0 ∷ a .info .«format_id» ∷ 0 ∷ []) (c .before .before .before .before .before .before .before .before .before .before .before .before .before .before .put-u8 .ensures)
-    (field-then _ 189 1 0 (4 ∷ 26 ∷ []) (a .info .«format_id» ∷ 0 ∷ []) (c .before .before .before .before .before .before .before .before .before .before .put-u82 .ensures)
-    (field-then _ 190 4 (a .info .«format_id») (26 ∷ []) (0 ∷ []) (c .before .before .before .before .before .before .put-u32 .ensures)
+    field-then (now (a .out)) 188 1 (a .info .«validity_flags») _ refl (c .before .before .before .before .before .before .before .before .before .before .before .before .before .before .put-u8 .ensures)
+    (field-then _ 189 1 0 _ refl (c .before .before .before .before .before .before .before .before .before .before .put-u82 .ensures)
+    (field-then _ 190 4 (a .info .«format_id») _ refl (c .before .before .before .before .before .before .put-u32 .ensures)
     (field-last _ 194 26 0 (c .before .before .put-zeros .ensures))))
 
 pub put-format-spec : {M : Type 1} → statement M

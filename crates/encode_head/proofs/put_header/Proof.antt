@@ -1,8 +1,9 @@
 -- The fields one behind the other.
+use mathlib.Core.Path.{refl}
 use mathlib.Core.List.{[], _∷_}
 use denote.Ref.{now}
 use Rattle.format.specs.ClipRecord.{clpi}
-use Rattle.encode_head.proofs.Laws.{field-then, field-last}
+use Rattle.format.proofs.Stores.{field-then, field-last}
 use borrow.Author.Needs.{needs}
 use Rattle.encode_head.proofs.put_header.Statement.{statement}
 use Rattle.encode_head.proofs.put_header.Tie as tie
@@ -37,13 +38,13 @@ same-length c = search needs
 returns : tie.Need-returns
 returns c =
     let a = c .before .before .before .before .before .before .before .before .before .before .before .before .before .before .before .before .before .before .before .before .before .before .before .before .before .before .before .before .before .before .before .before .before .args in
-    field-then (now (a .out)) 0 4 clpi (4 ∷ 4 ∷ 4 ∷ 4 ∷ 4 ∷ 4 ∷ 12 ∷ []) (a .version ∷ 220 ∷ a .programs ∷ a .cpi ∷ a .marks ∷ 0 ∷ 0 ∷ []) (c .before .before .before .before .before .before .before .before .before .before .before .before .before .before .before .before .before .before .before .before .before .before .before .before .before .before .before .before .before .before .put-u32 .ensures)
-    (field-then _ 4 4 (a .version) (4 ∷ 4 ∷ 4 ∷ 4 ∷ 4 ∷ 12 ∷ []) (220 ∷ a .programs ∷ a .cpi ∷ a .marks ∷ 0 ∷ 0 ∷ []) (c .before .before .before .before .before .before .before .before .before .before .before .before .before .before .before .before .before .before .before .before .before .before .before .before .before .before .put-u322 .ensures)
-    (field-then _ 8 4 220 (4 ∷ 4 ∷ 4 ∷ 4 ∷ 12 ∷ []) (a .programs ∷ a .cpi ∷ a .marks ∷ 0 ∷ 0 ∷ []) (c .before .before .before .before .before .before .before .before .before .before .before .before .before .before .before .before .before .before .before .before .before .before .put-u323 .ensures)
-    (field-then _ 12 4 (a .programs) (4 ∷ 4 ∷ 4 ∷ 12 ∷ []) (a .cpi ∷ a .marks ∷ 0 ∷ 0 ∷ []) (c .before .before .before .before .before .before .before .before .before .before .before .before .before .before .before .before .before .before .put-u324 .ensures)
-    (field-then _ 16 4 (a .cpi) (4 ∷ 4 ∷ 12 ∷ []) (a .marks ∷ 0 ∷ 0 ∷ []) (c .before .before .before .before .before .before .before .before .before .before .before .before .before .before .put-u325 .ensures)
-    (field-then _ 20 4 (a .marks) (4 ∷ 12 ∷ []) (0 ∷ 0 ∷ []) (c .before .before .before .before .before .before .before .before .before .before .put-u326 .ensures)
-    (field-then _ 24 4 0 (12 ∷ []) (0 ∷ []) (c .before .before .before .before .before .before .put-u327 .ensures)
+    field-then (now (a .out)) 0 4 clpi _ refl (c .before .before .before .before .before .before .before .before .before .before .before .before .before .before .before .before .before .before .before .before .before .before .before .before .before .before .before .before .before .before .put-u32 .ensures)
+    (field-then _ 4 4 (a .version) _ refl (c .before .before .before .before .before .before .before .before .before .before .before .before .before .before .before .before .before .before .before .before .before .before .before .before .before .before .put-u322 .ensures)
+    (field-then _ 8 4 220 _ refl (c .before .before .before .before .before .before .before .before .before .before .before .before .before .before .before .before .before .before .before .before .before .before .put-u323 .ensures)
+    (field-then _ 12 4 (a .programs) _ refl (c .before .before .before .before .before .before .before .before .before .before .before .before .before .before .before .before .before .before .put-u324 .ensures)
+    (field-then _ 16 4 (a .cpi) _ refl (c .before .before .before .before .before .before .before .before .before .before .before .before .before .before .put-u325 .ensures)
+    (field-then _ 20 4 (a .marks) _ refl (c .before .before .before .before .before .before .before .before .before .before .put-u326 .ensures)
+    (field-then _ 24 4 0 _ refl (c .before .before .before .before .before .before .put-u327 .ensures)
     (field-last _ 28 12 0 (c .before .before .put-zeros .ensures))))))))
 
 pub put-header-spec : {M : Type 1} → statement M

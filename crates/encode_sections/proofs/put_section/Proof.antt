@@ -5,7 +5,7 @@ use mathlib.Core.List.{List}
 use native.Mathlib.Omega.{arith}
 use denote.Ref.{now}
 use lib.ListN.{length}
-use Rattle.row_bytes.proofs.Fields.{sectionHead, section-head}
+use Rattle.section_heads.proofs.Stored.{sectionHead, section-head}
 use Rattle.row_bytes.proofs.Storing.{first-room, second-room, both-stored}
 use Rattle.encode_sections.specs.Sections.{itemsIn}
 use Rattle.encode_sections.proofs.Sections.{items-long, section-parts, parts-room}

@@ -8,7 +8,7 @@ use Rattle.format.specs.Questions.{number, nextVideoStream, ofRow, ask}
 use Rattle.format.specs.Tables.{rowsOf, streamCells}
 use Rattle.queries.specs.Answers.{foundOf}
 use Rattle.queries.specs.Asked.{stated, onlyStreams}
-use Rattle.table_rows.proofs.FirstRow.{of-row}
+use Rattle.row_search.proofs.FirstRow.{of-row}
 use Rattle.program_queries.proofs.Laws.{pid-of, row-there}
 use borrow.Author.Needs.{needs}
 use Rattle.program_queries.proofs.primary_video_pid.Statement.{statement}

@@ -3,7 +3,7 @@ use Prim.Native.Nat.{ℕ, _+_}
 use mathlib.Core.Path.{ap}
 use native.Mathlib.Omega.{arith}
 use denote.Ref.{now}
-use Rattle.cpi.proofs.Filling.{body-in}
+use Rattle.cpi_fill.proofs.Filling.{body-in}
 use Rattle.rewrite_cpi.proofs.Maps.{body-is}
 use borrow.Author.Needs.{needs}
 use Rattle.rewrite_cpi.proofs.map_body.Statement.{statement}

@@ -4,7 +4,7 @@ use mathlib.Core.Path.{refl}
 use native.Mathlib.Omega.{arith}
 use denote.Ref.{now}
 use lib.ListN.{length}
-use Rattle.row_bytes.proofs.Fields.{sectionHead}
+use Rattle.section_heads.proofs.Stored.{sectionHead}
 use Rattle.rewrite_sections.proofs.Groups.{programs-long, items-room, programs-put, items-within, head-within}
 use Rattle.rewrite_sections.proofs.Lengths.{programs-short}
 use borrow.Author.Needs.{needs}

@@ -5,7 +5,8 @@ use native.Mathlib.Omega.{arith}
 use denote.Ref.{now}
 use lib.ListN.{length}
 use lib.Seq.{sets}
-use Rattle.row_bytes.proofs.Fields.{part-then, sectionHead, section-head}
+use Rattle.format.proofs.Stores.{part-then}
+use Rattle.section_heads.proofs.Stored.{sectionHead, section-head}
 use Rattle.rewrite_sections.specs.Sections.{part}
 use Rattle.rewrite_sections.proofs.Groups.{sequences-end, sequences-are}
 use Rattle.rewrite_sections.proofs.Lengths.{sequences-short}

@@ -3,7 +3,7 @@ use Prim.Native.Nat.{_+_}
 use mathlib.Core.Path.{refl, sym}
 use native.Mathlib.Nat.{add-assoc}
 use denote.Ref.{now}
-use Rattle.row_bytes.proofs.Fields.{field-then, field-last}
+use Rattle.format.proofs.Stores.{field-then, field-last}
 use borrow.Author.Needs.{needs}
 use Rattle.row_bytes.proofs.put_stc.Statement.{statement}
 use Rattle.row_bytes.proofs.put_stc.Tie as tie

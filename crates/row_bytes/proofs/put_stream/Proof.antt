@@ -10,7 +10,8 @@ use Rattle.format.specs.Bytes.{bytesOf}
 use Rattle.format.specs.Rewriting.{streamBytes}
 use Rattle.row_values.specs.Kinds.{row5}
 use Rattle.row_values.proofs.Lengths.{video-length, short-length, tagged-length}
-use Rattle.row_bytes.proofs.Fields.{part-then, field-then, streamHead, head-length, video-bytes, short-bytes, tagged-bytes}
+use Rattle.format.proofs.Stores.{part-then, field-then}
+use Rattle.row_bytes.proofs.Fields.{streamHead, head-length, video-bytes, short-bytes, tagged-bytes}
 use borrow.Author.Needs.{needs}
 use Rattle.row_bytes.proofs.put_stream.Statement.{statement}
 use Rattle.row_bytes.proofs.put_stream.Tie as tie

@@ -4,7 +4,7 @@ use native.Mathlib.Omega.{arith}
 use denote.Ref.{now}
 use lib.ListN.{length}
 use Rattle.format.specs.Tables.{tableBytes, overwritten}
-use Rattle.clip_sections.proofs.ListLaws.{list-inside}
+use Rattle.clip_prepare.proofs.ListLaws.{list-inside}
 use Rattle.clip_information.proofs.FillLaws.{not-listed, no-list, list-fillable, programs-put, streams-put, filled-as}
 use borrow.Author.Needs.{needs}
 use Rattle.clip_information.proofs.fill.fill_list.Statement.{statement}

@@ -7,7 +7,7 @@ use Rattle.format.specs.ClipRecord.{atcsFrom, stcsFrom}
 use Rattle.format.specs.Programs.{programsFrom, streamsFrom}
 use Rattle.format.specs.EntryPoints.{mapsFrom, entriesFrom}
 use Rattle.format.specs.Reading.{clipOf}
-use Rattle.clip_sections.proofs.PrepareLaws.{accepted-bounds}
+use Rattle.clip_sections.proofs.Laws.{accepted-bounds}
 use Rattle.clip_information.proofs.FillLaws.{sequences-fillable, programs-fillable, maps-fillable, filled-from}
 use borrow.Author.Needs.{needs}
 use Rattle.clip_information.proofs.fill.fill_sections.Statement.{statement}

@@ -9,9 +9,9 @@ use Rattle.format.specs.Extensions.{extensionRows}
 use Rattle.format.specs.Reading.{recordOf}
 use Rattle.format.specs.Refusals.{tablesOf}
 use Rattle.format.specs.Tables.{Nine}
-use Rattle.clip_sections.specs.Prepare.{ReadyIs}
+use Rattle.clip_prepare.specs.Prepare.{ReadyIs}
 use Rattle.clip_information.specs.Read.{nineTables, lengthsOf}
-use Rattle.clip_sections.proofs.PrepareLaws.{accepted-bounds}
+use Rattle.clip_sections.proofs.Laws.{accepted-bounds}
 use Rattle.clip_information.proofs.FillLaws.{filled-from}
 use Rattle.clip_information.proofs.ReadLaws.{prepared-answer, prepared-ready, sections-fit, extensions-fit, list-fits, marks-there, stated}
 use borrow.Author.Needs.{needs}

@@ -7,7 +7,7 @@ use Rattle.format.specs.Bytes.{IsBytes}
 use Rattle.format.specs.Refusals.{readNumbers}
 use Rattle.format.specs.Tables.{Nine}
 use Rattle.clip_information.specs.Read.{nineTables}
-use Rattle.clpi.proofs.Laws.{counts-fit, tables-are}
+use Rattle.clpi_reading.proofs.Laws.{counts-fit, tables-are}
 use borrow.Author.Needs.{needs}
 use Rattle.clpi.proofs.read.clpi_read.Statement.{statement}
 use Rattle.clpi.proofs.read.clpi_read.Tie as tie

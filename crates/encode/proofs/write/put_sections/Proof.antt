@@ -9,8 +9,8 @@ use Rattle.format.specs.Tables.{clipIn}
 use Rattle.clip_information.specs.Read.{scalarsBy}
 use Rattle.queries.specs.Asked.{stated, tablesWith}
 use Rattle.encode_head.specs.Heads.{headOf}
-use Rattle.encode.proofs.Parts.{placed-stored, stored-as}
-use Rattle.encode.proofs.Tables.{in-order, ready-kept, sequences-storable, programs-storable, cpi-storable, sequences-in, programs-in, cpi-in, scalars-in}
+use Rattle.encode_measure.proofs.Parts.{placed-stored, stored-as}
+use Rattle.encode_measure.proofs.Tables.{in-order, ready-kept, sequences-storable, programs-storable, cpi-storable, sequences-in, programs-in, cpi-in, scalars-in}
 use borrow.Author.Needs.{needs}
 use Rattle.encode.proofs.write.put_sections.Statement.{statement}
 use Rattle.encode.proofs.write.put_sections.Tie as tie

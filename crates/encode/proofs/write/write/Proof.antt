@@ -8,9 +8,9 @@ use Rattle.format.specs.Tables.{clipIn}
 use Rattle.format.specs.Refusals.{writeAnswer}
 use Rattle.clip_information.specs.Read.{scalarsBy}
 use Rattle.queries.specs.Asked.{stated, tablesWith}
-use Rattle.encode.specs.Writing.{refusalIn}
-use Rattle.encode.proofs.Tests.{refused-told, none-told, placed-told}
-use Rattle.encode.proofs.Tables.{marks-bound}
+use Rattle.encode_measure.specs.Places.{refusalIn}
+use Rattle.encode_measure.proofs.Tests.{refused-told, none-told, placed-told}
+use Rattle.encode_measure.proofs.Tables.{marks-bound}
 use Rattle.encode.proofs.Answers.{answer-refused, answer-short, answer-written, output-written}
 use borrow.Author.Needs.{needs}
 use Rattle.encode.proofs.write.write.Statement.{statement}

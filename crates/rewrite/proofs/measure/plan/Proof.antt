@@ -11,11 +11,11 @@ use Rattle.format.specs.Reading.{clipOf}
 use Rattle.format.specs.Rewriting.{sequencesBytes, cpiBytes}
 use Rattle.format.specs.Refusals.{runsFit}
 use mathlib.Core.Bool.{true}
-use Rattle.encode.specs.Writing.{marksPlace}
+use Rattle.encode_measure.specs.Places.{marksPlace}
 use Rattle.rewrite.specs.Rewrite.{rewriteRefusal}
-use Rattle.clip_sections.proofs.PrepareLaws.{SectionsAre, sections-are, accepted-bounds}
+use Rattle.clip_sections.proofs.Laws.{SectionsAre, sections-are, accepted-bounds}
 use Rattle.clip_information.proofs.FillLaws.{sound}
-use Rattle.encode.proofs.Parts.{place-programs, place-cpi, place-marks}
+use Rattle.encode_measure.proofs.Parts.{place-programs, place-cpi, place-marks}
 use Rattle.rewrite.proofs.Refusals.{reading-refuses, runs-refuse, runs-pass, none, marks-short, planned-by}
 use Rattle.rewrite.proofs.Rooms.{cpi-section, sequences-size, programs-size}
 use borrow.Author.Needs.{needs}

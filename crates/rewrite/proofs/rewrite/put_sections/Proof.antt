@@ -8,8 +8,8 @@ use Rattle.format.specs.Bytes.{IsBytes}
 use Rattle.format.specs.Reading.{clipOf}
 use Rattle.clip_sections.specs.Infos.{clipInfoOf}
 use Rattle.clip_information.specs.Read.{scalarsBy}
-use Rattle.clip_sections.proofs.PrepareLaws.{accepted-bounds}
-use Rattle.encode.proofs.Parts.{placed-stored, stored-as}
+use Rattle.clip_sections.proofs.Laws.{accepted-bounds}
+use Rattle.encode_measure.proofs.Parts.{placed-stored, stored-as}
 use Rattle.rewrite.proofs.Rooms.{accepted, in-order, sequences-room, programs-room, cpi-room, sequences-in, programs-in, cpi-in}
 use borrow.Author.Needs.{needs}
 use Rattle.rewrite.proofs.rewrite.put_sections.Statement.{statement}

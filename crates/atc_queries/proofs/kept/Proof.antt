@@ -1,0 +1,13 @@
+-- The row, or what was found before.
+use borrow.Author.Needs.{needs}
+use Rattle.atc_queries.proofs.kept.Statement.{statement}
+use Rattle.atc_queries.proofs.kept.Tie as tie
+
+returns : tie.Need-returns
+returns c = rw (c .if1 .taken)
+
+returns-2 : tie.Need-returns-2
+returns-2 c = search needs
+
+pub kept-spec : {M : Type 1} → statement M
+kept-spec = tie.close (tie.spec returns returns-2)

@@ -1,2 +1,0 @@
--- Laws of the numbers that C is handed.
-pub mod Laws

@@ -1,2 +1,0 @@
--- The numbers of the structs that C is handed.
-pub mod Numbers

@@ -1,0 +1,2 @@
+-- Laws of the numbers of a place.
+pub mod Laws

@@ -1,0 +1,2 @@
+-- Laws of the numbers of reading's answer.
+pub mod Laws

@@ -1,0 +1,2 @@
+-- The numbers of reading's answer.
+pub mod Numbers

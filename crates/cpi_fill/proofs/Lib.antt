@@ -1,0 +1,2 @@
+-- Laws of both tables while the maps are gone through.
+pub mod Filling

@@ -1,0 +1,253 @@
+-- What the tests have shown of the six tables, as the section's functions ask for it, and what a test that fails says of the refusal.
+use Prim.Native.Nat.{ℕ, _+_, _-_, _^_, _<_, _≤_}
+use mathlib.Core.Path.{_≡_, refl, sym, ap, _∙_}
+use mathlib.Core.List.{List, [], _∷_}
+use mathlib.Core.Bool.{Bool, true, false, not}
+use native.Mathlib.Omega.{arith}
+use lib.ListN.{length}
+use lib.Dec.{leb}
+use borrow.Author.Tests.{not-true, not-false}
+use Rattle.format.specs.Bytes.{both, pick, unless, every, fits}
+use Rattle.format.specs.ClipRecord.{Scalars, Clip, mapType, entryCount}
+use Rattle.format.specs.Tables.{Table, ClipTables, clipIn, isStated, addUp, rowsOf, mapCells, stcCells, streamCells, entryCells}
+use Rattle.format.specs.Rewriting.{sequencesBytes, programsBytes, cpiBytes, cpiBytesBy}
+use Rattle.format.specs.Refusals.{mapFits, entryFits, scalarsFit, cellsFit, runsFit, countsAdd, allStated, writeRefusal, everyMap}
+use Rattle.format.proofs.Tests.{both-true, split-both, true-both, passed, left-fails, right-fails}
+use Rattle.format.proofs.Maker.{good-made}
+use Rattle.queries.specs.Asked.{noScalars, tablesWith}
+use Rattle.table_rows.specs.OwnRows.{isCounted}
+use Rattle.row_limits.specs.declared.Kind.{Kind}
+use Rattle.limits.specs.Clips.{entriesFit, headsFit, groupsFit, mapsFit, tablesFit}
+use Rattle.limits.proofs.Walks.{counts}
+use Rattle.limits.proofs.Clips.{scalars-and-tables}
+use Rattle.encode_sections.specs.declared.Section.{Section}
+use Rattle.encode_sections.specs.Sections as sections
+use Rattle.encode_sections.proofs.Sections.{sequences-are, programs-are}
+use Rattle.encode_cpi.specs.declared.Length.{Length}
+use Rattle.encode_cpi.specs.Cpi as cpi
+use Rattle.encode_measure.specs.Places.{refusalIn, pairsCounted, scalarWidths, programsPlace, cpiPlace, marksPlace, Placed, Ready}
+use Rattle.encode_measure.proofs.Tests.{refusal-is}
+use Rattle.encode_measure.proofs.Parts.{place-programs, place-cpi, place-marks, InOrder, placed-order, good-short}
+
+-- ---- a record that can be written passes every test
+
+-- the tests of 22, 30 and 31 pass
+pub record Passed (l : ClipTables) : Type 0 where
+  pub counted : pairsCounted l ≡ true
+  pub fit : cellsFit (clipIn l) ≡ true
+  pub runs-fit : runsFit (clipIn l) ≡ true
+
+pub all-passed : (l : ClipTables) → refusalIn l ≡ 0 → Passed l
+all-passed l h =
+    let p0 = passed (pairsCounted l) 21 (unless (cellsFit (clipIn l)) 30 (unless (runsFit (clipIn l)) 31 0)) (sym (refusal-is l) ∙ h) in
+    let p1 = passed (cellsFit (clipIn l)) 29 (unless (runsFit (clipIn l)) 31 0) (p0 .1) in
+    let p2 = passed (runsFit (clipIn l)) 30 0 (p1 .1) in
+    record { counted = p0 .0; fit = p1 .0; runs-fit = p2 .0 }
+
+pub none-refused : (l : ClipTables) → Passed l → refusalIn l ≡ 0
+none-refused l p = refusal-is l ∙ rw (p .counted, p .fit, p .runs-fit)
+
+-- its file is short
+pub marks-bound : (l : ClipTables) → refusalIn l ≡ 0 → marksPlace (clipIn l) + 6 ≤ 402515706
+marks-bound l h =
+    let c = clipIn l in
+    good-short c (good-made c (passed (allStated l) 21 (writeRefusal c) h .1))
+
+-- the places are in order, and the last is a number of 32 bits
+pub in-order : (l : ClipTables) {programs cpi marks bytes : ℕ} → Ready l programs cpi marks bytes → InOrder programs cpi marks bytes
+in-order l r = placed-order (clipIn l) (marks-bound l (r .writable)) (r .placed)
+
+-- stores keep the output's length, and so what is ready
+pub ready-kept : (l : ClipTables) {programs cpi marks bytes bytes′ : ℕ} → bytes′ ≡ bytes → Ready l programs cpi marks bytes → Ready l programs cpi marks bytes′
+ready-kept l same r = rw same r
+
+-- ---- choices by a test
+
+-- of two lengths, the one where there are too many runs is told where the test fails
+too-many : (b : Bool) (len : ℕ) → pick b (Length.Bytes len) Length.TooManyRuns ≡ Length.TooManyRuns → b ≡ false
+too-many false len is = refl
+too-many true len is = let z : _≡_ {A = ℕ} 0 1 = cc in absurd (omega arith)
+
+few-told : (b : Bool) {m len : ℕ} → pick b (Length.Bytes m) Length.TooManyRuns ≡ Length.Bytes len → (b ≡ true) × (len ≡ m)
+few-told true is = (refl, cc)
+few-told false is = let z : _≡_ {A = ℕ} 0 1 = cc in absurd (omega arith)
+
+-- the last tests of a record's cells: those of its maps
+maps-parts : (c : Clip) → cellsFit c ≡ true
+    → (leb (length (c .maps)) 255 ≡ true) × ((every mapFits (c .maps) ≡ true) × (everyMap (λ m es. every (entryFits (mapType m)) es) (c .maps) (c .entries) ≡ true))
+unfolding tablesFit
+maps-parts c fit =
+    let tables = both-true (scalarsFit (c .scalars)) (tablesFit c) (sym (scalars-and-tables c) ∙ fit) in
+    let programs = groupsFit Kind.Program Kind.Stream (c .programs) (c .streams) in
+    let behind = both-true (groupsFit Kind.Atc Kind.Stc (c .atcs) (c .stcs)) (both programs (mapsFit (c .maps) (c .entries))) (tables .1) in
+    let maps = both-true programs (mapsFit (c .maps) (c .entries)) (behind .1) in
+    let parts = both-true (headsFit Kind.Map (c .maps)) (entriesFit (c .maps) (c .entries)) (maps .1) in
+    let heads = both-true (leb (length (c .maps)) 255) (every mapFits (c .maps)) (parts .0) in
+    (heads .0, (heads .1, parts .1))
+
+-- ---- six tables
+
+module _ (s : Scalars) (atcs stcs programs streams maps entries : Table) where
+  -- the tables with the scalars
+  abbrev handed : ClipTables
+  handed = tablesWith s atcs stcs programs streams maps entries
+
+  -- and without
+  abbrev bare : ClipTables
+  bare = tablesWith noScalars atcs stcs programs streams maps entries
+
+  -- the pairs of tables
+  pub pairs : pairsCounted handed ≡ true
+      → (isCounted 1 stcCells atcs stcs ≡ true) × ((isCounted 2 streamCells programs streams ≡ true) × (isCounted 2 entryCells maps entries ≡ true))
+  unfolding pairsCounted
+  pairs h = let first = split-both h in (first .0, split-both (first .1))
+
+  -- counts that do not add up
+  pub refused-22 : {r : Bool} → r ≡ pairsCounted bare → not r ≡ true → refusalIn handed ≡ 22
+  unfolding pairsCounted
+  refused-22 {r} is h =
+      let fails : pairsCounted handed ≡ false = sym is ∙ not-true r h in
+      refusal-is handed ∙ rw fails
+
+  -- counts that do
+  pub counted-by : {r : Bool} → r ≡ pairsCounted bare → not r ≡ false → pairsCounted handed ≡ true
+  unfolding pairsCounted
+  counted-by {r} is h = sym is ∙ not-false r h
+
+  -- scalars that do not fit
+  pub scalars-refused : {r : Bool} → pairsCounted handed ≡ true → r ≡ scalarsFit s → not r ≡ true → refusalIn handed ≡ 30
+  unfolding clipIn
+  scalars-refused {r} p is h =
+      let fails : cellsFit (clipIn handed) ≡ false = scalars-and-tables (clipIn handed) ∙ left-fails (tablesFit (clipIn handed)) (sym is ∙ not-true r h) in
+      refusal-is handed ∙ rw (p, fails)
+
+  -- tables that do not fit
+  pub tables-refused : {r : Bool} → pairsCounted handed ≡ true → r ≡ tablesFit (clipIn bare) → not r ≡ true → refusalIn handed ≡ 30
+  unfolding clipIn tablesFit
+  tables-refused {r} p is h =
+      let fails : cellsFit (clipIn handed) ≡ false = scalars-and-tables (clipIn handed) ∙ right-fails (scalarsFit s) (sym is ∙ not-true r h) in
+      refusal-is handed ∙ rw (p, fails)
+
+  -- scalars and tables that do
+  pub fit-by : {r q : Bool} → r ≡ scalarsFit s → not r ≡ false → q ≡ tablesFit (clipIn bare) → not q ≡ false → cellsFit (clipIn handed) ≡ true
+  unfolding clipIn tablesFit
+  fit-by {r} {q} is h js g = scalars-and-tables (clipIn handed) ∙ true-both (sym is ∙ not-false r h) (sym js ∙ not-false q g)
+
+  -- what the maps and entries are, for the functions of the CPI
+  abbrev lengthIn : Length
+  lengthIn = cpi.cpiLengthOf (cpi.mapRows (maps .bytes) (maps .rows)) (cpi.entryRows (entries .bytes) (entries .rows))
+
+  -- a map has too many runs
+  pub runs-refused : pairsCounted handed ≡ true → cellsFit (clipIn handed) ≡ true → lengthIn ≡ Length.TooManyRuns → refusalIn handed ≡ 31
+  unfolding clipIn runsFit cpi.cpiLengthOf
+  runs-refused p fit is =
+      let fails : runsFit (clipIn handed) ≡ false = too-many (runsFit (clipIn handed)) (length (cpiBytesBy (cpi.mapRows (maps .bytes) (maps .rows)) (cpi.entryRows (entries .bytes) (entries .rows)))) is in
+      refusal-is handed ∙ rw (p, fit, fails)
+
+  -- none has, and the section's length is told
+  pub runs-few : {len : ℕ} → lengthIn ≡ Length.Bytes len → (runsFit (clipIn handed) ≡ true) × (len ≡ length (cpiBytes (clipIn handed)))
+  unfolding clipIn runsFit cpi.cpiLengthOf cpiBytes
+  runs-few is = few-told (runsFit (clipIn handed)) is
+
+  -- ---- what the section's functions ask
+
+  pub sequences-counted : pairsCounted handed ≡ true → sections.Counted Section.Sequences (atcs .bytes) (atcs .rows) (stcs .bytes) (stcs .rows)
+  sequences-counted h =
+      let is = counts 1 stcCells atcs stcs (pairs h .0) in
+      record { heads-there = is .heads-there; rows-there = is .rows-there; adds = is .adds }
+
+  pub programs-counted : pairsCounted handed ≡ true → sections.Counted Section.Programs (programs .bytes) (programs .rows) (streams .bytes) (streams .rows)
+  programs-counted h =
+      let is = counts 2 streamCells programs streams (pairs h .1 .0) in
+      record { heads-there = is .heads-there; rows-there = is .rows-there; adds = is .adds }
+
+  pub sequences-long : {n : ℕ} → n ≡ length (sections.sectionIn Section.Sequences (atcs .bytes) (atcs .rows) (stcs .bytes) (stcs .rows))
+      → n ≡ length (sequencesBytes (clipIn handed))
+  unfolding clipIn
+  sequences-long is = is ∙ ap length (sym (sequences-are (clipIn handed)))
+
+  pub programs-long : {n : ℕ} → n ≡ length (sections.sectionIn Section.Programs (programs .bytes) (programs .rows) (streams .bytes) (streams .rows))
+      → n ≡ length (programsBytes (clipIn handed))
+  unfolding clipIn
+  programs-long is = is ∙ ap length (sym (programs-are (clipIn handed)))
+
+  pub cpi-there : pairsCounted handed ≡ true → cpi.BothThere (maps .bytes) (maps .rows) (entries .bytes) (entries .rows)
+  cpi-there h =
+      let is = counts 2 entryCells maps entries (pairs h .1 .1) in
+      record { maps-there = is .heads-there; entries-there = is .rows-there }
+
+  pub cpi-counted : pairsCounted handed ≡ true → cellsFit (clipIn handed) ≡ true
+      → cpi.Counted (cpi.mapRows (maps .bytes) (maps .rows)) (cpi.entryRows (entries .bytes) (entries .rows))
+  unfolding clipIn isCounted
+  cpi-counted h fit =
+      let fits = maps-parts (clipIn handed) fit in
+      let stated = both (isStated mapCells maps) (both (isStated entryCells entries) true) in
+      let counted = both-true stated (addUp entryCount (rowsOf mapCells maps) (rowsOf entryCells entries)) (pairs h .1 .1) in
+      record { add = counted .1; few = fits .0; fit = fits .1 .0 }
+
+  pub cpi-writable : Passed handed → cpi.Writable (cpi.mapRows (maps .bytes) (maps .rows)) (cpi.entryRows (entries .bytes) (entries .rows))
+  unfolding clipIn runsFit
+  cpi-writable p =
+      let fits = maps-parts (clipIn handed) (p .fit) in
+      record { counted = cpi-counted (p .counted) (p .fit); entries-fit = fits .1 .1; runs-few = p .runs-fit }
+
+  -- ---- what storing each section asks, in an output of so many bytes
+
+  pub sequences-storable : (programs-at cpi-at marks-at : ℕ) (out : List ℕ) → Ready handed programs-at cpi-at marks-at (length out)
+      → sections.Storable Section.Sequences (atcs .bytes) (atcs .rows) (stcs .bytes) (stcs .rows) (programs-at - 220) out 220
+  sequences-storable programs-at cpi-at marks-at out r =
+      let c = clipIn handed in
+      let at = r .placed in
+      let long : programs-at - 220 ≡ length (sequencesBytes c) = omega (arith, at .programs-at, place-programs c) in
+      record {
+        counted = sequences-counted (all-passed handed (r .writable) .counted);
+        is-long = long ∙ sym (sequences-long refl);
+        narrow = omega (arith, at .programs-at, marks-bound handed (r .writable), place-programs c, place-cpi c, place-marks c);
+        room = omega (arith, at .programs-at, at .room, at .marks-at, place-programs c, place-cpi c, place-marks c);
+      }
+
+  pub programs-storable : (programs-at cpi-at marks-at : ℕ) (out : List ℕ) → Ready handed programs-at cpi-at marks-at (length out)
+      → sections.Storable Section.Programs (programs .bytes) (programs .rows) (streams .bytes) (streams .rows) (cpi-at - programs-at) out programs-at
+  programs-storable programs-at cpi-at marks-at out r =
+      let c = clipIn handed in
+      let at = r .placed in
+      let long : cpi-at - programs-at ≡ length (programsBytes c) = omega (arith, at .programs-at, at .cpi-at, place-cpi c) in
+      record {
+        counted = programs-counted (all-passed handed (r .writable) .counted);
+        is-long = long ∙ sym (programs-long refl);
+        narrow = omega (arith, at .programs-at, at .cpi-at, marks-bound handed (r .writable), place-programs c, place-cpi c, place-marks c);
+        room = omega (arith, at .programs-at, at .cpi-at, at .room, at .marks-at, place-programs c, place-cpi c, place-marks c);
+      }
+
+  pub cpi-storable : (programs-at cpi-at marks-at bytes : ℕ) → Ready handed programs-at cpi-at marks-at bytes
+      → cpi.CpiRoom (maps .bytes) (maps .rows) (entries .bytes) (entries .rows) (marks-at - cpi-at) bytes cpi-at
+  unfolding clipIn cpiBytes
+  cpi-storable programs-at cpi-at marks-at bytes r =
+      let c = clipIn handed in
+      let at = r .placed in
+      let passed = all-passed handed (r .writable) in
+      let long : marks-at - cpi-at ≡ length (cpiBytes c) = omega (arith, at .marks-at, at .cpi-at, place-marks c) in
+      record {
+        rows-there = cpi-there (passed .counted);
+        writable = cpi-writable passed;
+        long = long;
+        room = omega (arith, at .marks-at, at .cpi-at, at .room, place-marks c);
+      }
+
+  -- ---- the sections as parts of the file
+
+  pub sequences-in : sections.sectionIn Section.Sequences (atcs .bytes) (atcs .rows) (stcs .bytes) (stcs .rows) ≡ sequencesBytes (clipIn handed)
+  unfolding clipIn
+  sequences-in = sym (sequences-are (clipIn handed))
+
+  pub programs-in : sections.sectionIn Section.Programs (programs .bytes) (programs .rows) (streams .bytes) (streams .rows) ≡ programsBytes (clipIn handed)
+  unfolding clipIn
+  programs-in = sym (programs-are (clipIn handed))
+
+  pub cpi-in : cpiBytesBy (cpi.mapRows (maps .bytes) (maps .rows)) (cpi.entryRows (entries .bytes) (entries .rows)) ≡ cpiBytes (clipIn handed)
+  unfolding clipIn cpiBytes
+  cpi-in = refl
+
+  pub scalars-in : clipIn handed .scalars ≡ s
+  unfolding clipIn
+  scalars-in = refl

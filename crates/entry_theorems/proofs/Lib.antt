@@ -1,0 +1,3 @@
+-- The proofs that both forms answer alike.
+pub mod Claims
+pub mod Forms

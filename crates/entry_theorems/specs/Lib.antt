@@ -1,0 +1,3 @@
+-- Entry lookups on tables and on records.
+pub mod Claims
+pub mod Forms

@@ -1,0 +1,75 @@
+-- The last time of some entries less the first, one end alone, and the questions that ask for them.
+use Prim.Native.Nat.{ℕ, zero, suc, _+_, _*_, _-_, _<_}
+use mathlib.Core.Path.{_≡_, refl, sym, ap, _∙_}
+use mathlib.Core.List.{List, [], _∷_}
+use mathlib.Core.Bool.{Bool, true, false}
+use native.Mathlib.Omega.{arith}
+use lib.Dec.{lit<}
+use Rattle.format.specs.Bytes.{rowsAt}
+use Rattle.format.specs.ClipRecord.{Row, time, entryTime}
+use Rattle.format.specs.Ticks.{Ticks90, less90}
+use Rattle.format.specs.Questions.{none, ticks90, lastOf, spanOf, indexedSpan90k, answer}
+use Rattle.format.specs.Tables.{Table, cellAt, cellsAt, clipIn, entryCells}
+use Rattle.format.proofs.Cell.{item-at}
+use Rattle.cells.specs.Reads.{CellIs}
+use Rattle.ep_map_queries.specs.InMap.{entriesAt}
+use Rattle.ep_map_queries.proofs.Answers.{AsksMap}
+use Rattle.ep_map_times.specs.Ends.{endIn, endQuestion}
+
+-- an entry's time by its cell
+pub time-is : (t : List ℕ) (entry : ℕ) {x : ℕ} → CellIs t (20 * entry + 8) x → record { ticks = x } ≡ entryTime (cellsAt t entryCells (4 * entryCells * entry))
+time-is t entry c =
+    let q : 20 * entry + 8 ≡ 4 * entryCells * entry + 4 * 2 = omega arith in
+    ap (λ (x : ℕ). record { ticks = x }) (c .same ∙ ap (cellAt t) q ∙ sym (item-at (cellAt t) 0 4 (4 * entryCells * entry) entryCells 2 (lit< tt)))
+
+-- the last of rows behind a row
+last-is : (t : List ℕ) (p n : ℕ) → lastOf (entryTime (cellsAt t entryCells p)) (rowsAt (cellsAt t entryCells) (λ q. q + 4 * entryCells) (p + 20) n) ≡ entryTime (cellsAt t entryCells (p + 20 * n))
+last-is t p zero = let e : p + 20 * 0 ≡ p = omega arith in rw e
+last-is t p (suc n) =
+    let e : p + 20 + 20 * n ≡ p + 20 * suc n = omega arith in
+    last-is t (p + 20) n ∙ ap (λ (q : ℕ). entryTime (cellsAt t entryCells q)) e
+
+module _ (t : List ℕ) (first count : ℕ) where
+  pub no-span : count ≡ 0 → record { ticks = 0 } ≡ spanOf (entriesAt t first count)
+  unfolding spanOf
+  no-span e = rw e
+
+  pub span-is : (count ≡ 0 → ⊥) → {last start r : Ticks90} → last ≡ entryTime (cellsAt t entryCells (4 * entryCells * (first + (count - 1))))
+      → start ≡ entryTime (cellsAt t entryCells (4 * entryCells * first)) → r ≡ less90 last start → r ≡ spanOf (entriesAt t first count)
+  unfolding spanOf
+  span-is some l s r =
+      let e : count ≡ suc (count - 1) = omega arith in
+      let p : 4 * entryCells * first + 20 * (count - 1) ≡ 4 * entryCells * (first + (count - 1)) = omega arith in
+      let last = last-is t (4 * entryCells * first) (count - 1) ∙ ap (λ (q : ℕ). entryTime (cellsAt t entryCells q)) p in
+      r ∙ rw (l, s) (ap (λ (x : Ticks90). less90 x (entryTime (cellsAt t entryCells (4 * entryCells * first)))) (sym last)) ∙ ap (λ (n : ℕ). spanOf (entriesAt t first n)) (sym e)
+
+  -- ---- one end alone
+
+  pub no-end : (side : Bool) → count ≡ 0 → none ≡ endIn side (entriesAt t first count)
+  no-end true e = rw e
+  no-end false e = rw e
+
+  pub last-end : (side : Bool) → side ≡ true → (count ≡ 0 → ⊥) → {last : Ticks90} → last ≡ entryTime (cellsAt t entryCells (4 * entryCells * (first + (count - 1)))) → ticks90 last ≡ endIn side (entriesAt t first count)
+  last-end false e some l = let z : _≡_ {A = ℕ} 0 1 = cc in absurd (omega arith)
+  last-end true o some l =
+      let e : count ≡ suc (count - 1) = omega arith in
+      let p : 4 * entryCells * first + 20 * (count - 1) ≡ 4 * entryCells * (first + (count - 1)) = omega arith in
+      let last = last-is t (4 * entryCells * first) (count - 1) ∙ ap (λ (q : ℕ). entryTime (cellsAt t entryCells q)) p in
+      ap (λ (x : Ticks90). ticks90 x) (l ∙ sym last) ∙ ap (λ (n : ℕ). endIn true (entriesAt t first n)) (sym e)
+
+  pub first-end : (side : Bool) → side ≡ false → (count ≡ 0 → ⊥) → {start : Ticks90} → start ≡ entryTime (cellsAt t entryCells (4 * entryCells * first)) → ticks90 start ≡ endIn side (entriesAt t first count)
+  first-end true e some s = let z : _≡_ {A = ℕ} 0 1 = cc in absurd (omega arith)
+  first-end false o some s =
+      let e : count ≡ suc (count - 1) = omega arith in
+      ap (λ (x : Ticks90). ticks90 x) s ∙ ap (λ (n : ℕ). endIn false (entriesAt t first n)) (sym e)
+
+-- the questions about one map
+module _ (maps entries : Table) (m : ℕ) where
+  pub end-asks : (side : Bool) → AsksMap (endQuestion side m) maps entries m (λ es. endIn side es)
+  unfolding answer clipIn
+  end-asks true = record { two = refl; asks = refl }
+  end-asks false = record { two = refl; asks = refl }
+
+  pub span-asks : AsksMap (indexedSpan90k m) maps entries m (λ es. ticks90 (spanOf es))
+  unfolding answer clipIn
+  span-asks = record { two = refl; asks = refl }

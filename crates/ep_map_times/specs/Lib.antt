@@ -1,0 +1,2 @@
+-- The times at the two ends of a map.
+pub mod Ends

@@ -1,0 +1,2 @@
+-- Laws of the nearest time.
+pub mod Steps

@@ -1,0 +1,2 @@
+-- Laws of parts of lists.
+pub mod PartLaws

@@ -1,0 +1,2 @@
+-- Parts of a stored answer.
+pub mod Parts

@@ -1,0 +1,3 @@
+-- Laws of the answer that a file must have.
+pub mod ExtensionLaws
+pub mod FileLaws

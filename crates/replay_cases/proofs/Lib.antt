@@ -1,0 +1,2 @@
+-- Laws of the cases of a sample.
+pub mod SampleLaws

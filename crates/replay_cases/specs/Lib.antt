@@ -1,0 +1,2 @@
+-- The cases of a sample.
+pub mod Sample

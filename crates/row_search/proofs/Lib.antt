@@ -1,0 +1,2 @@
+-- Laws of the first row that passes a test.
+pub mod FirstRow

@@ -1,0 +1,2 @@
+-- The first row that passes a test.
+pub mod FirstRow

@@ -1,0 +1,2 @@
+-- Laws of stored fields, which the crates that store sections cite too.
+pub mod Stored

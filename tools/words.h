@@ -1,0 +1,210 @@
+/* What the tool says: its exit statuses, the refusals in plain words, and its help. */
+#ifndef WORDS_H
+#define WORDS_H
+
+#include <errno.h>
+#include <inttypes.h>
+#include <stdio.h>
+#include <string.h>
+
+#include "clpi.h"
+
+enum status { DONE = 0, REFUSED = 1, WRONG_USE = 2, FAILED = 3 };
+
+/* ---- refusals */
+
+/* The refusals in plain words. */
+static const struct {
+    uint32_t refusal;
+    const char *words;
+} refusals[] = {
+    {CLPI_HEADER_SHORT, "the file is too short for the header of a clip file"},
+    {CLPI_LETTERS, "the file is no clip file: it begins neither with HDMV nor with CLPI"},
+    {CLPI_CLIP_INFO, "the clip information passes the file's end"},
+    {CLPI_SEQUENCES, "the sequences pass the file's end"},
+    {CLPI_PROGRAMS, "the programs pass the file's end"},
+    {CLPI_CPI, "the length or the map headers of the entry index pass the file's end"},
+    {CLPI_EP_MAP, "the address, the fine address or the rows of an entry map pass their end"},
+    {CLPI_MARKS, "the marks pass the file's end"},
+    {CLPI_FILE_TOO_LONG, "the file is longer than 536870912 bytes"},
+    {CLPI_TABLE_SHORT, "there is no memory for a table as long as the file's rows need"},
+    {CLPI_ROWS, "rows are stated that are not there"},
+    {CLPI_OUTPUT_SHORT, "there is no room for the new file"},
+    {CLPI_CELLS, "a number is too large for its field in a clip file"},
+    {CLPI_RUNS, "an entry map has over 65535 runs, more than a clip file can hold"},
+};
+
+/* The words for a refusal. */
+static const char *words_for(uint32_t refusal)
+{
+    for (size_t i = 0; i < sizeof refusals / sizeof *refusals; i++)
+        if (refusals[i].refusal == refusal)
+            return refusals[i].words;
+    return "";
+}
+
+/* Says that a file is refused, and why. */
+static int refused_for(const char *path, uint32_t refusal, const char *words)
+{
+    fprintf(stderr, "clip: %s: refused %" PRIu32 ": %s\n", path, refusal, words);
+    return REFUSED;
+}
+
+/* The same in the words for the refusal. */
+static int refused(const char *path, uint32_t refusal)
+{
+    return refused_for(path, refusal, words_for(refusal));
+}
+
+/* Says what the system could not do. */
+static int failed(const char *path)
+{
+    fprintf(stderr, "clip: %s: %s\n", path, strerror(errno));
+    return FAILED;
+}
+
+/* Sees to it that what was printed is out. */
+static int printed(void)
+{
+    return fflush(stdout) != 0 || ferror(stdout) ? failed("standard output") : DONE;
+}
+
+/* ---- help */
+
+static const char usage[] =
+    "usage: clip list [FILE]         print the listing of a clip file, or of standard input\n"
+    "       clip rewrite OLD NEW     write the record of OLD as a new file; NEW must not be there yet\n"
+    "       clip minutes FILE TIME   print the minutes remaining at a time in 90 kHz ticks\n"
+    "       clip help [WHAT]         say more of list, rewrite, minutes or refusals\n"
+    "       clip --version           print the version\n";
+
+static const char overview[] =
+    "\n"
+    "A clip file, such as BDMV/CLIPINF/00001.clpi on a Blu-ray disc, tells a player\n"
+    "where in a stream each time is found. No command changes, replaces or removes\n"
+    "a file that is there.\n"
+    "\n"
+    "Exit status:\n"
+    "  0  all is done\n"
+    "  1  the file is refused: standard error has the number and words for it\n"
+    "  2  clip was called in another way, or NEW is there already\n"
+    "  3  the system failed, or the copy is not what it must be\n"
+    "\n"
+    "Examples:\n"
+    "  clip list 00001.clpi\n"
+    "  clip rewrite 00001.clpi 00001.new\n"
+    "  clip minutes 00001.clpi 216000000     at 40 minutes: 40 x 60 x 90000\n"
+    "\n"
+    "The manual page is clip(1).\n";
+
+static const char help_list[] =
+    "usage: clip list [FILE]\n"
+    "\n"
+    "Prints what FILE, or standard input, holds:\n"
+    "  clip  stream type, application type, rate in bytes a second, packets\n"
+    "  seq   number of ATC sequences, of STC sequences\n"
+    "  prog  number of programs, of streams\n"
+    "  map   for each entry map: PID, type, number of entries; its entries follow\n"
+    "  ep    time in 90 kHz ticks, packet\n"
+    "  mark  number of marks\n"
+    "Of a file that is refused it prints one line, 'refused' and the number. The\n"
+    "words for it are on standard error.\n"
+    "\n"
+    "The listing has limits of its own: a file over 65536 bytes is refused by 20, one\n"
+    "with over 4096 rows of a table by 21, followed by the table: 1 ATCs, 2 STCs,\n"
+    "3 programs, 4 streams, 5 maps, 6 entries, 7 extensions, 8 and 9 programs and\n"
+    "streams of the second list. 'clip rewrite' and 'clip minutes' take such files.\n"
+    "\n"
+    "FILE is only read.\n"
+    "\n"
+    "Exit status: 0 the file is listed, 1 it is refused, 2 clip was called in another\n"
+    "way, 3 the system failed.\n"
+    "\n"
+    "Examples:\n"
+    "  clip list BDMV/CLIPINF/00001.clpi\n"
+    "  clip list <00001.clpi >00001.txt\n";
+
+static const char help_rewrite[] =
+    "usage: clip rewrite OLD NEW\n"
+    "\n"
+    "Reads OLD, writes its record as a new file, reads that file back, and compares\n"
+    "the two records. Only then does the new file get the name NEW.\n"
+    "\n"
+    "  OLD is only read: it is never replaced, truncated, renamed or removed.\n"
+    "  NEW must not be there yet, be it a file, a folder or a link: nothing is ever\n"
+    "  replaced, and there is no switch to do it after all.\n"
+    "  NEW is there whole or not at all. But for status 0 there is no NEW, unless\n"
+    "  clip says that it could not be taken back, or that another file has the name.\n"
+    "\n"
+    "The new file has every sequence, program, stream, entry map and entry of OLD.\n"
+    "Its marks are empty, and it has no extensions. Rewriting it again changes no\n"
+    "byte.\n"
+    "\n"
+    "Until it gets its name, the new file is called .clip- and six more letters, in\n"
+    "NEW's folder. Where the machine stops or clip is killed, such a file may be\n"
+    "left; it may be deleted. NEW's folder must be one in which files can have two\n"
+    "names (hard links), which those of FAT can't.\n"
+    "\n"
+    "Exit status: 0 NEW is there and has OLD's record, 1 OLD is refused, 2 NEW is\n"
+    "there already, or clip was called in another way, 3 the system failed, or the\n"
+    "copy is not what it must be.\n"
+    "\n"
+    "Examples:\n"
+    "  clip rewrite 00001.clpi 00001.new\n"
+    "  clip rewrite 00001.clpi 00001.new && mv 00001.new 00001.clpi\n"
+    "The second gives up the old file, once the new one is there and checked.\n";
+
+static const char help_minutes[] =
+    "usage: clip minutes FILE TIME\n"
+    "\n"
+    "Prints the minutes remaining at TIME: up to the latest end of the file's STC\n"
+    "sequences, rounded down. It is 0 after that end, and in a file without such\n"
+    "sequences. TIME is in 90 kHz ticks, of which a minute has 5400000: a whole\n"
+    "number from 0 to 18446744073709551615.\n"
+    "\n"
+    "FILE is only read.\n"
+    "\n"
+    "Exit status: 0 the figure is printed, 1 the file is refused, 2 clip was called in\n"
+    "another way, 3 the system failed.\n"
+    "\n"
+    "Example, at 40 minutes, which are 40 x 60 x 90000 ticks:\n"
+    "  clip minutes 00001.clpi 216000000\n";
+
+/* Prints the refusals and their words. */
+static int help_refusals(void)
+{
+    printf("A file is refused by one of these numbers, and then nothing is written:\n\n");
+    for (size_t i = 0; i < sizeof refusals / sizeof *refusals; i++)
+        printf("  %2" PRIu32 "  %s\n", refusals[i].refusal, refusals[i].words);
+    printf("\n1 to 8 are faults of the file. 'clip list' has lower limits for 20 and 21: see\n"
+           "'clip help list'. 22, 23 and 30 come from the library alone, to programs that call\n"
+           "it. What the system can't do is told in the system's words, without a number.\n");
+    return printed();
+}
+
+/* Says how the tool is called, to one who called it in another way. */
+static int wrong_use(void)
+{
+    fputs(usage, stderr);
+    return WRONG_USE;
+}
+
+/* Prints the help on a command, or on all where none is named. */
+static int help(const char *topic)
+{
+    if (!topic)
+        printf("%s%s", usage, overview);
+    else if (strcmp(topic, "list") == 0)
+        fputs(help_list, stdout);
+    else if (strcmp(topic, "rewrite") == 0)
+        fputs(help_rewrite, stdout);
+    else if (strcmp(topic, "minutes") == 0)
+        fputs(help_minutes, stdout);
+    else if (strcmp(topic, "refusals") == 0)
+        return help_refusals();
+    else
+        return wrong_use();
+    return printed();
+}
+
+#endif
