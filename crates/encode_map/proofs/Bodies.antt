@@ -106,7 +106,7 @@ pub own-stored : (rows : List Row) (row : Row) (o : List ℕ) (to : ℕ) {o′ :
     → (to - 8 + 8 * length rows ≡ to) × (o′ ≡ sets o (to - 8) (flat coarseBytes rows))
 own-stored rows row o to e h put = (rw e (omega arith), put ∙ rw (e, append-nil (coarseBytes row)))
 
--- so many bytes have so many coarse rows
+-- a coarse row has eight bytes
 coarse-size : (rows : List Row) → length (flat coarseBytes rows) ≡ 8 * length rows
 coarse-size rows = flat-length 8 coarseBytes (all-rows (λ row. bytes-length 8 (packed coarseWidths row)) rows)
 
