@@ -1,6 +1,6 @@
-//! The command `rows`: entry lookups over a lent row of records, beside the table calls, the plain definitions and the Rust.
+//! The command `rows`: entry lookups over a row of records, beside the table calls, the plain definitions and the Rust.
 
-use crate::answers::{Answer, Answerer, Lent, Question, Question::*, Table};
+use crate::answers::{Answer, Answerer, Input, Question, Question::*, Table};
 use crate::compare::{Difference, must};
 use crate::guarded::Guarded;
 use crate::ours::Library;
@@ -37,12 +37,12 @@ unsafe extern "C" {
 /// Something that answers as the library does about a row of records, which are the entries of one map of the tables.
 pub trait RowAnswerer {
     /// The answer to a question about that map, asked of the records.
-    fn ask_rows(&mut self, question: Question, rows: &[Entry], lent: &Lent) -> Answer;
+    fn ask_rows(&mut self, question: Question, rows: &[Entry], input: &Input) -> Answer;
 }
 
 impl RowAnswerer for Library {
     /// Makes the question's call; the tables aren't looked at.
-    fn ask_rows(&mut self, question: Question, rows: &[Entry], _: &Lent) -> Answer {
+    fn ask_rows(&mut self, question: Question, rows: &[Entry], _: &Input) -> Answer {
         let (first, count) = (rows.as_ptr(), rows.len());
         // SAFETY: the pointer has as many records behind it as the count says; the calls only read.
         unsafe {
@@ -60,8 +60,8 @@ impl RowAnswerer for Library {
 
 impl RowAnswerer for Plain {
     /// The plain answer about the map of the tables, with this answerer's wrong rule.
-    fn ask_rows(&mut self, question: Question, _: &[Entry], lent: &Lent) -> Answer {
-        self.ask(question, lent)
+    fn ask_rows(&mut self, question: Question, _: &[Entry], input: &Input) -> Answer {
+        self.ask(question, input)
     }
 }
 
@@ -70,10 +70,10 @@ pub struct Misread(pub fn(&mut Vec<Entry>));
 
 impl RowAnswerer for Misread {
     /// The library's answer about the other records.
-    fn ask_rows(&mut self, question: Question, rows: &[Entry], lent: &Lent) -> Answer {
+    fn ask_rows(&mut self, question: Question, rows: &[Entry], input: &Input) -> Answer {
         let mut others = rows.to_vec();
         (self.0)(&mut others);
-        Library.ask_rows(question, &others, lent)
+        Library.ask_rows(question, &others, input)
     }
 }
 
@@ -90,11 +90,12 @@ pub const MISREAD: &[(&str, fn(&mut Vec<Entry>))] = &[
     ("packets of 16 bits", |rows| rows.iter_mut().for_each(|e| e.spn_ep_start &= 0xFFFF)),
 ];
 
-/// How many questions were asked of records, and of these beside the Rust.
+/// How many questions were asked of records, of these beside the Rust, and the records of the longest row.
 #[derive(Clone, Copy, Default)]
 pub struct Counts {
     pub asked: u64,
     pub of_the_rust: u64,
+    pub longest: usize,
 }
 
 /// Rows of records and tables of the same entries, each of which ends right before a page that can't be read.
@@ -115,12 +116,13 @@ impl EntryRows {
     pub fn compare(&mut self, seed: u64, answerer: &mut impl RowAnswerer) -> Result<(), Difference> {
         let random = &mut Random::new(seed.rotate_left(16));
         let made = entries(random);
+        self.counts.longest = self.counts.longest.max(made.len());
         let (map, cells) = tables(&made, random);
         let [maps, entries] = &mut self.tables;
         let mut tables = [Table::default(); 9];
         tables[MAPS] = Table { bytes: maps.hold(&cells[0]), rows: (cells[0].len() / 12) as u32 };
         tables[ENTRIES] = Table { bytes: entries.hold(&cells[1]), rows: (cells[1].len() / 20) as u32 };
-        let lent = Lent { rate: 0, packets: 0, tables, null: random.one_in(2) };
+        let input = Input { rate: 0, packets: 0, tables, null: random.one_in(2) };
         let bytes = record_bytes(&made);
         let held = self.records.hold(&bytes);
         // SAFETY: the bytes of whole records, each laid out by `record_bytes`; their end is that of a page, so they are aligned.
@@ -128,17 +130,21 @@ impl EntryRows {
         let rust = EpMap { stream_pid: 0, ep_stream_type: 0, entries: made.clone() };
         for question in questions(map, &made, random) {
             self.counts.asked += 1;
-            let wanted = plain_answers::answer(question, &lent, WrongAnswer::Right);
-            let table = Library.ask(question, &lent);
-            must(table == wanted, || format!("{question:?}: of tables {table:?}, not {wanted:?}, of {made:?}"))?;
+            let wanted = plain_answers::answer(question, &input, WrongAnswer::Right);
+            let table = Library.ask(question, &input);
+            must(table == wanted, || format!("{question:?}: of tables {table:?}, not {wanted:?}, of {}", told(&made)))?;
             if let Some(rust) = rust_answers::of_map(question, &rust) {
                 self.counts.of_the_rust += 1;
-                must(rust == wanted, || format!("{question:?}: the Rust's {rust:?}, not {wanted:?}, of {made:?}"))?;
+                must(rust == wanted, || {
+                    format!("{question:?}: the Rust's {rust:?}, not {wanted:?}, of {}", told(&made))
+                })?;
             }
-            let given = answerer.ask_rows(question, rows, &lent);
-            must(given == wanted, || format!("{question:?}: of records {given:?}, not {wanted:?}, of {made:?}"))?;
+            let given = answerer.ask_rows(question, rows, &input);
+            must(given == wanted, || {
+                format!("{question:?}: of records {given:?}, not {wanted:?}, of {}", told(&made))
+            })?;
         }
-        must(black_box(held) == &bytes[..], || format!("the records have changed: {made:?}"))
+        must(black_box(held) == &bytes[..], || format!("the records have changed: {}", told(&made)))
     }
 }
 
@@ -153,10 +159,14 @@ fn number(random: &mut Random) -> u32 {
     }
 }
 
-/// Entries: none, any, many of equal times, or strictly ascending.
+/// Entries: none, any, many of equal times, or strictly ascending; seldom more than 16 bits can count.
 fn entries(random: &mut Random) -> Vec<EpEntry> {
     let few: [u32; 4] = std::array::from_fn(|_| number(random));
-    let most = if random.one_in(64) { 300 } else { 9 };
+    let most = match random.below(1 << 16) {
+        0 => 1 << 18,
+        n if n < 1 << 10 => 300,
+        _ => 9,
+    };
     let any = random.pick(&[1, 3, 8]);
     let count = if random.one_in(8) { 0 } else { random.below(most) };
     let mut times: Vec<u32> =
@@ -215,6 +225,11 @@ fn questions(map: u32, made: &[EpEntry], random: &mut Random) -> Vec<Question> {
     times.into_iter().flat_map(by_time).chain([IndexedSpan(map)]).collect()
 }
 
+/// Entries in words; of many only how many.
+fn told(made: &[EpEntry]) -> String {
+    if made.len() <= 20 { format!("{made:?}") } else { format!("{} entries", made.len()) }
+}
+
 /// Compares the rows of `count` seeds; tells the questions and the differences.
 pub fn rows(first: u64, count: u64) -> bool {
     let mut rows = EntryRows::new();
@@ -222,8 +237,8 @@ pub fn rows(first: u64, count: u64) -> bool {
         .filter_map(|seed| rows.compare(seed, &mut Library).err().map(|why| format!("seed {seed}: {why}")))
         .collect();
     differences.iter().take(20).for_each(|difference| println!("{difference}"));
-    let Counts { asked, of_the_rust } = rows.counts;
+    let Counts { asked, of_the_rust, longest } = rows.counts;
     println!("questions on rows of records: {asked} answered, the Rust's answers beside them: {of_the_rust}");
-    println!("{count} rows of records compared, {} differences", differences.len());
+    println!("{count} rows of up to {longest} records compared, {} differences", differences.len());
     differences.is_empty()
 }

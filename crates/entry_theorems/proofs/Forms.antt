@@ -8,7 +8,7 @@ use Rattle.clpi_answers.specs.declared.ClpiAnswer.{ClpiAnswer}
 use Rattle.ep_entry_steps.proofs.Alike.{forms-alike}
 use Rattle.query_theorems.specs.Calls.{tableOf, behind}
 use Rattle.entry_theorems.specs.Claims.{Tells}
-use Rattle.entry_theorems.specs.Forms.{CallsAlike}
+use Rattle.entry_theorems.specs.Forms.{SameResults}
 
 -- the result with these numbers
 abbrev back : List ℕ → ClpiAnswer
@@ -18,8 +18,8 @@ back ns = record { refusal = getD ns 0 0; found = getD ns 1 0; value = getD ns 2
 same-result : {a b : Answer} {x y : ClpiAnswer} → Tells x a → a ≡ b → Tells y b → x ≡ y
 same-result hx e hy = ap back (hx ∙ ap (λ (z : Answer). answerNumbers z) e ∙ sym hy)
 
-pub calls-alike : CallsAlike
-calls-alike = record {
+pub same-results : SameResults
+same-results = record {
   entry_point_at_or_before = λ x es r h told. let b = behind (behind (x .arguments)) in same-result (x .allowed) (forms-alike (tableOf (x .arguments)) (tableOf (behind (x .arguments))) (b .0) es h .at-or-before-is (b .1 .0)) told;
   entry_point_after = λ x es r h told. let b = behind (behind (x .arguments)) in same-result (x .allowed) (forms-alike (tableOf (x .arguments)) (tableOf (behind (x .arguments))) (b .0) es h .after-is (b .1 .0)) told;
   seek_spn = λ x es r h told. let b = behind (behind (x .arguments)) in same-result (x .allowed) (forms-alike (tableOf (x .arguments)) (tableOf (behind (x .arguments))) (b .0) es h .seek-is (b .1 .0)) told;

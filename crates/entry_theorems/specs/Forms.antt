@@ -29,7 +29,8 @@ Same Post answer =
     → HasEntries (tableOf (x .arguments)) (tableOf (behind (x .arguments))) (behind (behind (x .arguments)) .0) es
     → Tells r (answer es) → x .result ≡ r
 
-pub record CallsAlike : Type 0 where
+-- of each call on tables, by the name of the call on records
+pub record SameResults : Type 0 where
   pub entry_point_at_or_before : SameAt clpi_entry_point_at_or_before.Post atOrBeforeOf
   pub entry_point_after : SameAt clpi_entry_point_after.Post afterOf
   pub seek_spn : SameAt clpi_seek_spn.Post seekOf
