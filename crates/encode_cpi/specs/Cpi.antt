@@ -55,8 +55,9 @@ pub record CpiRoom (maps : List ℕ) (n : ℕ) (entries : List ℕ) (m len size 
   pub long : len ≡ length (cpiBytesBy (mapRows maps n) (entryRows entries m))
   pub room : at + len ≤ size
 
--- the same of headers and bodies, which begin eight bytes behind the section's start
-pub record MapsRoom (maps : List ℕ) (n : ℕ) (entries : List ℕ) (m size at : ℕ) : Type 0 where
+-- the same of headers and bodies, which begin eight bytes behind the section's start and end at `end`
+pub record MapsRoom (maps : List ℕ) (n : ℕ) (entries : List ℕ) (m size at end : ℕ) : Type 0 where
   pub rows-there : BothThere maps n entries m
   pub writable : Writable (mapRows maps n) (entryRows entries m)
-  pub room : at + 8 + 12 * n + length (bodies (mapRows maps n) (entryRows entries m)) ≤ size
+  pub long : at + 8 + 12 * n + length (bodies (mapRows maps n) (entryRows entries m)) ≡ end
+  pub room : end ≤ size

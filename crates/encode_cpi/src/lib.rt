@@ -52,22 +52,20 @@ pub fn cpi_length(maps: &[u8], n: u32, entries: &[u8], m: u32) -> Length
     Length::Bytes(len)
 }
 
-// The headers of n maps, and behind them the bodies, in the section that starts at `at`. Answers the place behind them.
-fn put_maps(maps: &[u8], n: usize, entries: &[u8], m: u32, out: &mut [u8], at: usize) -> usize
-    requires { ⌜ MapsRoom (now maps) n (now entries) m (length (now out)) at ⌝ }
-    ensures { λ r. ⌜ r ≡ at + 8 + 12 * n + length (bodies (mapRows (now (maps .entry)) n) (entryRows (now (entries .entry)) m)) ⌝ }
+// The headers of n maps, and behind them the bodies, in the section that starts at `at` and ends at `end`: the last map first, since a body's end is known before its start.
+fn put_maps(maps: &[u8], n: usize, entries: &[u8], m: u32, out: &mut [u8], at: usize, end: usize)
+    requires { ⌜ MapsRoom (now maps) n (now entries) m (length (now out)) at end ⌝ }
     ensures { λ _. ⌜ now (out .exit) ≡ sets (now (out .entry)) (at + 8) (headers (mapRows (now (maps .entry)) n) (entryRows (now (entries .entry)) m) (2 + 12 * n) ++ bodies (mapRows (now (maps .entry)) n) (entryRows (now (entries .entry)) m)) ⌝ }
 {
-    let mut body = at + 8 + MAP * n;
-    let mut row: usize = 0;
-    let mut k: usize = 0;
-    while k < n {
+    let mut body = end;
+    let mut row = m as usize;
+    let mut k = n;
+    while k > 0 {
+        k -= 1;
         let count = cell_at(maps, MAP * k + 8) as usize;
+        row -= count;
         body = put_map(maps, k, entries, ENTRY * row, count, out, at, body);
-        row += count;
-        k += 1;
     }
-    body
 }
 
 // The section's first eight bytes from `at`: the length of what is behind the first four, type 1, a spare byte, the number of maps.
@@ -100,5 +98,6 @@ pub fn put_cpi(
         return at + 4;
     }
     put_top((len - 4) as u32, n, out, at);
-    put_maps(maps, n as usize, entries, m, out, at)
+    put_maps(maps, n as usize, entries, m, out, at, at + len);
+    at + len
 }

@@ -1,30 +1,31 @@
 -- The loops that store the coarse rows and the fine rows of a map, and its body.
-use Prim.Native.Nat.{ℕ, zero, suc, _+_, _*_, _-_, _%_, _^_, _<_, _≤_}
-use mathlib.Core.Path.{_≡_, refl, sym, ap, ap₂, _∙_}
-use mathlib.Core.List.{List, [], _∷_, _++_}
-use mathlib.Core.Bool.{Bool, true}
+use Prim.Native.Nat.{ℕ, zero, suc, _+_, _*_, _-_, _/_, _%_, _^_, _<_, _≤_}
+use mathlib.Core.Path.{_≡_, refl, sym, ap, ap₂, subst, _∙_}
+use mathlib.Core.List.{List, [], _∷_, _++_, append-nil}
+use mathlib.Core.Bool.{Bool, true, false}
+use native.Mathlib.Numerals.{add-one}
 use native.Mathlib.Omega.{arith}
-use lib.ListN.{length, getD}
+use lib.ListN.{length, getD, length-append}
 use lib.Seq.{sets, length-sets}
 use lib.Dec.{eqb}
 use Rattle.format.specs.Bytes.{both, every, bytesOf, fieldBytes, fits, packed, rowsAt, flat}
 use Rattle.format.specs.ClipRecord.{Row, mapPid, mapType, angle, iEnd, time, entryType}
 use Rattle.format.specs.EntryPoints.{headerWidths, coarseWidths}
 use Rattle.format.specs.Refusals.{entryFits}
-use Rattle.format.specs.Rewriting.{coarseRow, coarseRows, runs, coarseBytes, fineBytes, bodyBytes, headerBytes}
+use Rattle.format.specs.Rewriting.{sameRun, unlessSame, coarseRow, coarseRows, runs, coarseBytes, fineBytes, bodyBytes, headerBytes}
 use Rattle.format.specs.Tables.{cellAt, cellsAt}
 use Rattle.format.proofs.Cell.{item-at}
 use Rattle.format.proofs.Cpi.{body-length}
 use Rattle.format.proofs.Fields.{Fit, one, fits-fit}
-use Rattle.format.proofs.Loops.{put-more}
+use Rattle.format.proofs.Loops.{flat-append}
 use Rattle.format.proofs.Numbers.{bytes-length}
 use Rattle.format.proofs.Rows.{all-rows, rows-length, flat-length}
 use Rattle.format.proofs.Tests.{both-true}
 use Rattle.cells.specs.Reads.{CellIs}
-use Rattle.runs.specs.Runs.{entriesAt, entriesFrom, keyed, endFrom, coarseFrom}
-use Rattle.runs.proofs.Runs.{coarse-all, runs-few, entry-cell, left-all, left-turn, left-done, next-run}
-use Rattle.encode_map.specs.Bodies.{EntriesFit}
-use Rattle.map_rows.proofs.Puts.{sets-before, put-behind}
+use Rattle.runs.specs.Runs.{entriesAt, entriesFrom, keyed, pairRow, PairIs, begun}
+use Rattle.runs.proofs.Runs.{runs-few, entry-cell, left-all, left-turn, left-done, begun-none, begun-first, begun-later, begun-few}
+use Rattle.encode_map.specs.Bodies.{EntriesFit, ownCoarse}
+use Rattle.map_rows.proofs.Puts.{sets-before, put-behind, put-below}
 
 -- ---- an entry that fits
 
@@ -51,99 +52,195 @@ every-row test row p (suc n) (suc k) h l =
     rw e (every-row test row (p + 20) n k (both-true (test (row p)) (every test (rowsAt row (λ q. q + 20) (p + 20) n)) h .1) (omega arith))
 
 -- so what is read at the places of the two is
-pub entry-narrow : (t : List ℕ) (p n k : ℕ) {a i : ℕ} → EntriesFit (entriesAt t p n) → k < n → CellIs t (p + 20 * k) a → CellIs t (p + 20 * k + 4) i
-    → (a < 2 ^ 1) × (i < 2 ^ 3)
-entry-narrow t p n k {a} {i} f h c d =
-    let q = p + 20 * k in
-    let fits = narrow (f .type) (cellsAt t 5 q) (every-row (entryFits (f .type)) (cellsAt t 5) p n k (f .fit) h) in
+pub entry-narrow : (t : List ℕ) (q type : ℕ) {a i : ℕ} → entryFits type (cellsAt t 5 q) ≡ true → CellIs t q a → CellIs t (q + 4) i → (a < 2 ^ 1) × (i < 2 ^ 3)
+entry-narrow t q type {a} {i} f c d =
+    let fits = narrow type (cellsAt t 5 q) f in
     let first : q + 4 * 0 ≡ q = omega arith in
     let a′ : a ≡ angle (cellsAt t 5 q) = entry-cell t q 0 (omega arith) (rw first c) in
     let i′ : i ≡ iEnd (cellsAt t 5 q) = entry-cell t q 1 (omega arith) d in
     (rw a′ (fits .angle-fits), rw i′ (fits .end-fits))
 
--- ---- coarse rows
+-- each of n entries that fit does
+pub row-fits : (t : List ℕ) (p n k : ℕ) (f : EntriesFit (entriesAt t p n)) → k < n → entryFits (f .type) (cellsAt t 5 (p + 20 * k)) ≡ true
+row-fits t p n k f h = every-row (entryFits (f .type)) (cellsAt t 5) p n k (f .fit) h
 
-module _ (t : List ℕ) (p n : ℕ) (o₀ : List ℕ) (at : ℕ) where
-  -- the coarse rows up to row k are stored, and those from there on go to `to`
-  pub record Coarse (o : List ℕ) (to k : ℕ) : Type 0 where
+-- ---- the rows of one entry
+
+-- a fine row stored by its numbers is the entry's
+pub fine-put : (t : List ℕ) (q pair : ℕ) (o : List ℕ) (at : ℕ) {a b c d : ℕ} {o′ : List ℕ} → CellIs t q a → CellIs t (q + 4) b → PairIs t q pair → c ≡ pair % 4294967296 → d ≡ pair / 4294967296
+    → o′ ≡ sets o at (fineBytes (a ∷ b ∷ c ∷ d ∷ [])) → o′ ≡ sets o at (fineBytes (cellsAt t 5 q))
+fine-put t q pair o at {a = v} a b is c d put =
+    let first : q + 4 * 0 ≡ q = omega arith in
+    let a′ : v ≡ angle (cellsAt t 5 q) = entry-cell t q 0 (omega arith) (rw first a) in
+    put ∙ rw (c, d, a′, entry-cell t q 1 (omega arith) b, entry-cell t q 2 (omega arith) (is .time), entry-cell t q 3 (omega arith) (is .packet))
+
+-- an entry by its pair has the entry's coarse row
+pub own-pairs : (t : List ℕ) (q q′ k : ℕ) {before pair : ℕ} → PairIs t q before → PairIs t q′ pair → ownCoarse k (pairRow before) (pairRow pair) ≡ ownCoarse k (cellsAt t 5 q) (cellsAt t 5 q′)
+own-pairs t q q′ k b w =
+    rw (entry-cell t q 2 (omega arith) (b .time), entry-cell t q 3 (omega arith) (b .packet), entry-cell t q′ 2 (omega arith) (w .time), entry-cell t q′ 3 (omega arith) (w .packet))
+
+-- a coarse row stored by its numbers is that of the pair
+pub pair-put : (k pair : ℕ) (o : List ℕ) (at : ℕ) {a b : ℕ} {o′ : List ℕ} → a ≡ pair % 4294967296 → b ≡ pair / 4294967296
+    → o′ ≡ sets o at (coarseBytes (coarseRow k (keyed a b))) → o′ ≡ sets o at (coarseBytes (coarseRow k (pairRow pair)))
+pair-put k pair o at a b put = put ∙ rw (a, b)
+
+-- and that of the entry
+pub coarse-put : (t : List ℕ) (q k pair : ℕ) (o : List ℕ) (at : ℕ) {a b : ℕ} {o′ : List ℕ} → PairIs t q pair → a ≡ pair % 4294967296 → b ≡ pair / 4294967296
+    → o′ ≡ sets o at (coarseBytes (coarseRow k (keyed a b))) → o′ ≡ sets o at (coarseBytes (coarseRow k (cellsAt t 5 q)))
+coarse-put t q k pair o at is a b put = pair-put k pair o at a b put ∙ rw (entry-cell t q 2 (omega arith) (is .time), entry-cell t q 3 (omega arith) (is .packet))
+
+-- in the run of the entry before it an entry has no coarse row
+pub own-none : (k : ℕ) (before e : Row) {s : Bool} → s ≡ sameRun before e → s ≡ true → ownCoarse k before e ≡ []
+own-none k before e is h = rw (← is, h)
+
+-- else it has one
+pub own-one : (k : ℕ) (before e : Row) {s : Bool} → s ≡ sameRun before e → s ≡ false → ownCoarse k before e ≡ coarseRow k e ∷ []
+own-one k before e is h = rw (← is, h)
+
+-- none is stored
+pub own-kept : (rows : List Row) (o : List ℕ) (to : ℕ) → rows ≡ [] → (to + 8 * length rows ≡ to) × (o ≡ sets o to (flat coarseBytes rows))
+own-kept rows o to e = (rw e (omega arith), rw e)
+
+-- one is stored
+pub own-stored : (rows : List Row) (row : Row) (o : List ℕ) (to : ℕ) {o′ : List ℕ} → rows ≡ row ∷ [] → 8 ≤ to → o′ ≡ sets o (to - 8) (coarseBytes row)
+    → (to - 8 + 8 * length rows ≡ to) × (o′ ≡ sets o (to - 8) (flat coarseBytes rows))
+own-stored rows row o to e h put = (rw e (omega arith), put ∙ rw (e, append-nil (coarseBytes row)))
+
+-- a coarse row has eight bytes
+coarse-size : (rows : List Row) → length (flat coarseBytes rows) ≡ 8 * length rows
+coarse-size rows = flat-length 8 coarseBytes (all-rows (λ row. bytes-length 8 (packed coarseWidths row)) rows)
+
+-- ---- the rows of all entries
+
+module _ (t : List ℕ) (p n : ℕ) (o₀ : List ℕ) (fine : ℕ) where
+  -- the rows from entry k on are stored: their fine rows, and the coarse rows of the runs that begin there or later
+  pub record Stored (o : List ℕ) (to k : ℕ) : Type 0 where
     pub within : k ≤ n
     pub long : length o ≡ length o₀
-    pub place : to + 8 * length (coarseFrom k (entriesFrom t p n k)) ≡ at + 8 * runs (entriesAt t p n)
-    pub rest : sets o to (flat coarseBytes (coarseFrom k (entriesFrom t p n k))) ≡ sets o₀ at (flat coarseBytes (coarseRows (entriesAt t p n)))
+    pub place : to + 8 * length (begun t p n k) ≡ fine
+    pub rest : o ≡ sets (sets o₀ to (flat coarseBytes (begun t p n k))) (fine + 4 * k) (flat fineBytes (entriesFrom t p n k))
 
-  -- before the first turn all are to be stored
-  pub coarse-first : Coarse o₀ at 0
-  unfolding runs
-  coarse-first = record {
+  -- before the first turn none
+  pub stored-none : Stored o₀ fine n
+  stored-none = record {
     within = omega arith;
     long = refl;
-    place = rw (left-all t p n, coarse-all (entriesAt t p n));
-    rest = rw (left-all t p n, coarse-all (entriesAt t p n));
+    place = rw (begun-none t p n) (omega arith);
+    rest = rw (begun-none t p n, left-done t p n n (omega arith));
   }
 
-  module _ (o : List ℕ) (to k : ℕ) (i : Coarse o to k) (h : k < n) where
-    -- there is room for the row
-    pub coarse-room : at + 8 * runs (entriesAt t p n) ≤ length o₀ → to + 8 ≤ length o
-    coarse-room room =
-        let next = next-run t p n k (endFrom k (entriesFrom t p n k)) h refl in
-        let place = rw (next .rows) at (i .place) in
-        omega (arith, place, room, i .long)
+  -- a later entry adds its own coarse row to those of the entries behind it
+  pub own-later : (k : ℕ) → 0 < k → k < n → begun t p n k ≡ ownCoarse k (cellsAt t 5 (p + 20 * k - 20)) (cellsAt t 5 (p + 20 * k)) ++ begun t p n (suc k)
+  own-later k h g = begun-later t p n k h g ∙ go (sameRun (cellsAt t 5 (p + 20 * k - 20)) (cellsAt t 5 (p + 20 * k)))
+    where
+      go : (b : Bool) → unlessSame b (coarseRow k (cellsAt t 5 (p + 20 * k))) (begun t p n (suc k)) ≡ unlessSame b (coarseRow k (cellsAt t 5 (p + 20 * k))) [] ++ begun t p n (suc k)
+      go true = refl
+      go false = refl
 
-    -- it is stored
-    pub coarse-turn : (r : ℕ) {a b : ℕ} {o′ : List ℕ} → CellIs t (p + 20 * k + 8) a → CellIs t (p + 20 * k + 12) b
-        → o′ ≡ sets o to (coarseBytes (coarseRow k (keyed a b))) → r ≡ endFrom k (entriesFrom t p n k) → Coarse o′ (to + 8) r
-    coarse-turn r {o′ = o′} a b put e =
-        let next = next-run t p n k r h e in
-        let x = cellsAt t 5 (p + 20 * k) in
-        let rest = flat coarseBytes (coarseFrom r (entriesFrom t p n r)) in
-        let put′ : o′ ≡ sets o to (coarseBytes (coarseRow k x)) =
-        put ∙ rw (entry-cell t (p + 20 * k) 2 (omega arith) a, entry-cell t (p + 20 * k) 3 (omega arith) b) in
+  module _ (o : List ℕ) (to k : ℕ) (i : Stored o to (suc k)) (own : List Row) (more : begun t p n k ≡ own ++ begun t p n (suc k)) where
+    -- how many coarse rows there are then
+    counts : length (begun t p n k) ≡ length own + length (begun t p n (suc k))
+    counts = ap length more ∙ length-append own (begun t p n (suc k))
+
+    -- there is room for the entry's own
+    pub stored-room : 8 * runs (entriesAt t p n) ≤ fine → 8 * length own ≤ to
+    stored-room room =
+        let few = begun-few t p n k (omega (arith, i .within)) in
+        omega (arith, counts, few, room, i .place)
+
+    -- they are stored
+    pub stored-turn : {r : ℕ} {o₁ o₂ : List ℕ} → o₁ ≡ sets o (fine + 4 * k) (fineBytes (cellsAt t 5 (p + 20 * k))) → r + 8 * length own ≡ to
+        → o₂ ≡ sets o₁ r (flat coarseBytes own) → Stored o₂ r k
+    stored-turn {r} {o₁} {o₂} x e y =
+        let f = fineBytes (cellsAt t 5 (p + 20 * k)) in
+        let F = flat fineBytes (entriesFrom t p n (suc k)) in
+        let c = flat coarseBytes own in
+        let C = flat coarseBytes (begun t p n (suc k)) in
+        let size = coarse-size own in
+        let up : k + 1 ≡ suc k = add-one k in
+        let rows : flat fineBytes (entriesFrom t p n k) ≡ f ++ F = rw (left-turn t p n k (i .within), up) in
+        let coarse : flat coarseBytes (begun t p n k) ≡ c ++ C = rw more (flat-append coarseBytes own (begun t p n (suc k))) in
+        let next : fine + 4 * suc k ≡ fine + 4 * k + 4 = omega arith in
+        let one : o₁ ≡ sets (sets o₀ to C) (fine + 4 * k) (f ++ F) = put-below (sets o₀ to C) (fine + 4 * k) 4 f F (bytes-length 4 _) next (i .rest) x in
+        let two : o₂ ≡ sets (sets (sets o₀ to C) r c) (fine + 4 * k) (f ++ F) =
+        y ∙ rw one (sets-before (sets o₀ to C) r c (fine + 4 * k) (f ++ F) (omega (arith, size, e, i .place))) in
+        let below : sets (sets o₀ to C) r c ≡ sets o₀ r (c ++ C) = put-below o₀ r (8 * length own) c C size (sym e) refl refl in
         record {
-          within = next .within;
-          long = ap length put ∙ length-sets o to (coarseBytes (coarseRow k (keyed _ _))) ∙ i .long;
-          place = let place = rw (next .rows) at (i .place) in omega arith;
-          rest = put-more o to 8 (coarseBytes (coarseRow k x)) rest (bytes-length 8 (packed coarseWidths (coarseRow k x))) put′ (rw (next .rows) at (i .rest));
+          within = omega (arith, i .within);
+          long = ap length y ∙ length-sets o₁ r c ∙ ap length x ∙ length-sets o (fine + 4 * k) f ∙ i .long;
+          place = omega (arith, counts, e, i .place);
+          rest = two ∙ rw (below, rows, coarse);
         }
 
   -- all are stored
-  pub coarse-done : (o : List ℕ) (to k : ℕ) → Coarse o to k → n ≤ k
-      → (to ≡ at + 8 * runs (entriesAt t p n)) × (o ≡ sets o₀ at (flat coarseBytes (coarseRows (entriesAt t p n))))
-  coarse-done o to k i h =
-      let place = rw (left-done t p n k h) at (i .place) in
-      (omega arith, rw (left-done t p n k h) at (i .rest))
+  pub stored-all : (o : List ℕ) (to : ℕ) → Stored o to 0
+      → (to + 8 * runs (entriesAt t p n) ≡ fine) × (o ≡ sets o₀ to (flat coarseBytes (coarseRows (entriesAt t p n)) ++ flat fineBytes (entriesAt t p n)))
+  unfolding runs
+  stored-all o to i =
+      let C = flat coarseBytes (coarseRows (entriesAt t p n)) in
+      let e : fine + 4 * 0 ≡ fine = omega arith in
+      let rest : o ≡ sets (sets o₀ to C) fine (flat fineBytes (entriesAt t p n)) = i .rest ∙ rw (e, left-all t p n) in
+      (i .place, put-behind o₀ to (8 * length (coarseRows (entriesAt t p n))) C (flat fineBytes (entriesAt t p n)) (coarse-size (coarseRows (entriesAt t p n))) refl (sym (i .place)) rest)
 
-  -- ---- fine rows
+  -- without entries nothing is
+  pub stored-empty : n ≡ 0 → (fine + 8 * runs (entriesAt t p n) ≡ fine) × (o₀ ≡ sets o₀ fine (flat coarseBytes (coarseRows (entriesAt t p n)) ++ flat fineBytes (entriesAt t p n)))
+  stored-empty z = stored-all o₀ fine (subst (λ (k : ℕ). Stored o₀ fine k) z stored-none)
 
-  -- the fine rows of k entries are stored
-  pub record Fine (o : List ℕ) (k : ℕ) : Type 0 where
-    pub within : k ≤ n
-    pub long : length o ≡ length o₀
-    pub rest : sets o (at + 4 * k) (flat fineBytes (entriesFrom t p n k)) ≡ sets o₀ at (flat fineBytes (entriesAt t p n))
+  -- ---- the entries that are not the first
 
-  -- before the first turn all are to be stored
-  pub fine-first : Fine o₀ 0
-  fine-first = let z : at + 4 * 0 ≡ at = omega arith in record { within = omega arith; long = refl; rest = rw (z, left-all t p n) }
+  -- the rows behind entry k are stored, and its pair is at hand
+  pub record Turning (o : List ℕ) (to k pair : ℕ) : Type 0 where
+    pub stored : Stored o to (suc k)
+    pub is : PairIs t (p + 20 * k) pair
 
-  -- the row of entry k is stored
-  pub fine-turn : (o : List ℕ) (k : ℕ) → Fine o k → k < n → {a b c d : ℕ} {o′ : List ℕ} → CellIs t (p + 20 * k) a → CellIs t (p + 20 * k + 4) b → CellIs t (p + 20 * k + 8) c → CellIs t (p + 20 * k + 12) d
-      → o′ ≡ sets o (at + 4 * k) (fineBytes (a ∷ b ∷ c ∷ d ∷ [])) → Fine o′ (k + 1)
-  fine-turn o k i h {a = v} {o′ = o′} a b c d put =
-      let q = p + 20 * k in
-      let x = cellsAt t 5 q in
-      let first : q + 4 * 0 ≡ q = omega arith in
-      let a′ : v ≡ angle x = entry-cell t q 0 (omega arith) (rw first a) in
-      let put′ : o′ ≡ sets o (at + 4 * k) (fineBytes x) =
-      put ∙ rw (a′, entry-cell t q 1 (omega arith) b, entry-cell t q 2 (omega arith) c, entry-cell t q 3 (omega arith) d) in
-      let e : at + 4 * (k + 1) ≡ at + 4 * k + 4 = omega arith in
-      record {
-        within = omega arith;
-        long = ap length put′ ∙ length-sets o (at + 4 * k) (fineBytes x) ∙ i .long;
-        rest = rw e (put-more o (at + 4 * k) 4 (fineBytes x) (flat fineBytes (entriesFrom t p n (k + 1))) (bytes-length 4 _) put′ (rw (left-turn t p n k h) at (i .rest)));
-      }
+  -- before the first turn none is
+  pub turning-first : (k : ℕ) {pair : ℕ} → 0 < n → k ≡ n - 1 → PairIs t (p + 20 * k) pair → Turning o₀ fine k pair
+  turning-first k h e is = let up : n ≡ suc k = omega arith in record { stored = subst (λ (x : ℕ). Stored o₀ fine x) up stored-none; is = is }
 
-  -- all are stored
-  pub fine-done : (o : List ℕ) (k : ℕ) → Fine o k → n ≤ k → o ≡ sets o₀ at (flat fineBytes (entriesAt t p n))
-  fine-done o k i h = rw (left-done t p n k h) at (i .rest)
+  module _ (o : List ℕ) (to k pair : ℕ) (i : Turning o to k pair) (h : 0 < k) {before : ℕ} (b : PairIs t (p + 20 * k - 20) before) where
+    -- what the entry adds, by the pairs
+    adds : begun t p n k ≡ ownCoarse k (pairRow before) (pairRow pair) ++ begun t p n (suc k)
+    adds = own-later k h (i .stored .within) ∙ ap (λ (l : List Row). l ++ begun t p n (suc k)) (sym (own-pairs t (p + 20 * k - 20) (p + 20 * k) k b (i .is)))
+
+    -- there is room for it
+    pub turning-room : 8 * runs (entriesAt t p n) ≤ fine → 8 * length (ownCoarse k (pairRow before) (pairRow pair)) ≤ to
+    turning-room room = stored-room o to k (i .stored) (ownCoarse k (pairRow before) (pairRow pair)) adds room
+
+    -- its rows are stored
+    pub turning-next : {r : ℕ} {o₁ o₂ : List ℕ} → o₁ ≡ sets o (fine + 4 * k) (fineBytes (cellsAt t 5 (p + 20 * k))) → r + 8 * length (ownCoarse k (pairRow before) (pairRow pair)) ≡ to
+        → o₂ ≡ sets o₁ r (flat coarseBytes (ownCoarse k (pairRow before) (pairRow pair))) → Turning o₂ r (k - 1) before
+    turning-next {r} {o₂ = o₂} x e y =
+        let up : k ≡ suc (k - 1) = omega arith in
+        let place : p + 20 * k - 20 ≡ p + 20 * (k - 1) = omega arith in
+        let next = stored-turn o to k (i .stored) (ownCoarse k (pairRow before) (pairRow pair)) adds x e y in
+        record { stored = subst (λ (j : ℕ). Stored o₂ r j) up next; is = subst (λ (q : ℕ). PairIs t q before) place b }
+
+  -- ---- the first entry, which begins a run
+
+  module _ (some : 0 < n) (o : List ℕ) (to k pair : ℕ) (i : Turning o to k pair) (last : k ≡ 0) where
+    one-left : Stored o to 1
+    one-left = subst (λ (x : ℕ). Stored o to (suc x)) last (i .stored)
+
+    -- its pair is at hand
+    pub first-pair : PairIs t p pair
+    first-pair = let e : p + 20 * k ≡ p = omega arith in subst (λ (q : ℕ). PairIs t q pair) e (i .is)
+
+    -- there is room for its coarse row
+    pub first-room : 8 * runs (entriesAt t p n) ≤ fine → 8 ≤ to
+    first-room room = stored-room o to 0 one-left (coarseRow 0 (cellsAt t 5 (p + 20 * 0)) ∷ []) (begun-first t p n some) room
+
+    -- with its rows all are stored
+    pub first-stored : {a b : ℕ} {o₁ o₂ : List ℕ} → 8 * runs (entriesAt t p n) ≤ fine → o₁ ≡ sets o fine (fineBytes (cellsAt t 5 p)) → a ≡ pair % 4294967296 → b ≡ pair / 4294967296
+        → o₂ ≡ sets o₁ (to - 8) (coarseBytes (coarseRow 0 (keyed a b)))
+        → (to - 8 + 8 * runs (entriesAt t p n) ≡ fine) × (o₂ ≡ sets o₀ (to - 8) (flat coarseBytes (coarseRows (entriesAt t p n)) ++ flat fineBytes (entriesAt t p n)))
+    first-stored {o₁ = o₁} {o₂ = o₂} room x a b y =
+        let row = coarseRow 0 (cellsAt t 5 (p + 20 * 0)) in
+        let start : p + 20 * 0 ≡ p = omega arith in
+        let place : fine + 4 * 0 ≡ fine = omega arith in
+        let x′ : o₁ ≡ sets o (fine + 4 * 0) (fineBytes (cellsAt t 5 (p + 20 * 0))) = rw (start, place) x in
+        let y′ : o₂ ≡ sets o₁ (to - 8) (coarseBytes row) = rw start (coarse-put t p 0 pair o₁ (to - 8) first-pair a b y) in
+        let own = own-stored (row ∷ []) row o₁ to refl (first-room room) y′ in
+        stored-all o₂ (to - 8) (stored-turn o to 0 one-left (row ∷ []) (begun-first t p n some) x′ (own .0) (own .1))
 
 -- ---- the body
 
@@ -169,6 +266,16 @@ body-stored es o at fine v {o₂ = o₂} f e p q r =
     let swapped : o₂ ≡ sets (sets o at address) (at + 4) coarse = q ∙ rw (p, value) (sets-before o at address (at + 4) coarse (omega arith)) in
     put-behind o at 4 address (coarse ++ flat fineBytes es) size refl refl
     (put-behind (sets o at address) (at + 4) (8 * length (coarseRows es)) coarse (flat fineBytes es) rows swapped f r)
+
+-- the rows were stored, and then the fine address below them
+pub body-below : (es : List Row) (o : List ℕ) (coarse fine : ℕ) {o₁ o₂ : List ℕ} → coarse + 8 * runs es ≡ fine → 4 ≤ coarse
+    → o₁ ≡ sets o coarse (flat coarseBytes (coarseRows es) ++ flat fineBytes es) → o₂ ≡ sets o₁ (coarse - 4) (bytesOf 4 (fine - coarse + 4))
+    → o₂ ≡ sets o (coarse - 4) (bodyBytes es)
+unfolding bodyBytes
+body-below es o coarse fine {o₁} e h p q =
+    let value : fine - coarse + 4 ≡ 4 + 8 * runs es = omega arith in
+    put-below o (coarse - 4) 4 (bytesOf 4 (4 + 8 * runs es)) (flat coarseBytes (coarseRows es) ++ flat fineBytes es) (bytes-length 4 (4 + 8 * runs es)) (omega arith) p
+    (q ∙ ap (λ (v : ℕ). sets o₁ (coarse - 4) (bytesOf 4 v)) value)
 
 -- ---- the header
 

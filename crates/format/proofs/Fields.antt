@@ -6,7 +6,7 @@ use mathlib.Core.Bool.{Bool, true, false}
 use native.Mathlib.Nat.{add-zero, zero-add, add-assoc, add-mul, suc-mul, zero-mul, mul-assoc, mul-le-mul-right, mod-lt, mod-eq-of-lt, div-one}
 use native.Mathlib.Numerals.{one-add}
 use native.Mathlib.Omega.{arith}
-use lib.Bits.{bitAnd, bitOr, and-mask, and-high, or-step, or-zero-r, or-zero-l, or-block, or-shifted}
+use lib.Bits.{bitAnd, bitOr, and-mask, and-high, and-block, or-step, or-zero-r, or-zero-l, or-block, or-shifted}
 use lib.Pow.{pow-add, pow-pos, high, low, split, shr-lt, shr-shr, shr-mod, field, mod-mod-pow, mod-pow-add}
 use lib.Dec.{lit<, ltb}
 use borrow.Author.Tests.{ltb-true, lt-ltb}
@@ -28,6 +28,19 @@ shift-or v place x h = or-shifted v place x h
 pub replace-low : (x width place v : ℕ) → x < 2 ^ (width + place) → v < 2 ^ place
     → bitOr (bitAnd x (2 ^ (width + place) - 2 ^ place)) v ≡ x / 2 ^ place * 2 ^ place + v
 replace-low x width place v hx hv = rw (and-high x width place, shr-mod width place hx) (or-shifted (x / 2 ^ place) place v hv)
+
+-- a mask clears the k lowest bits of a word of 32 bits
+word-masked : (x k : ℕ) → k ≤ 32 → x < 2 ^ 32 → bitAnd x (2 ^ 32 - 2 ^ k) ≡ x / 2 ^ k * 2 ^ k
+word-masked x k h b =
+    let e : 32 - k + k ≡ 32 = omega arith in
+    ap (λ (w : ℕ). bitAnd x (2 ^ w - 2 ^ k)) (sym e) ∙ and-high x (32 - k) k ∙ ap (λ (v : ℕ). v * 2 ^ k) (shr-mod (32 - k) k (rw e b))
+
+-- of two words of 32 bits side by side, it clears the j lowest bits of the upper and the k lowest of the lower
+pub words-masked : (x y j k : ℕ) → j ≤ 32 → k ≤ 32 → x < 2 ^ 32 → y < 2 ^ 32
+    → bitAnd (x * 2 ^ 32 + y) ((2 ^ 32 - 2 ^ j) * 2 ^ 32 + (2 ^ 32 - 2 ^ k)) ≡ x / 2 ^ j * 2 ^ j * 2 ^ 32 + y / 2 ^ k * 2 ^ k
+words-masked x y j k h g b c =
+    and-block 32 x (2 ^ 32 - 2 ^ j) y (2 ^ 32 - 2 ^ k) c (omega (arith, pow-pos k))
+    ∙ ap₂ (λ (u l : ℕ). u * 2 ^ 32 + l) (word-masked x j h b) (word-masked y k g c)
 
 -- ---- any list of fields
 

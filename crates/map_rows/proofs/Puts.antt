@@ -36,6 +36,12 @@ pub put-behind : (o : List ℕ) (at w : ℕ) (part rest : List ℕ) {at′ : ℕ
     → t′ ≡ sets t at′ rest → t′ ≡ sets o at (part ++ rest)
 put-behind o at w part rest size p e q = q ∙ rw (e, p, ← size) (sym (sets-append o at part rest))
 
+-- bytes were stored, and then w right below them
+pub put-below : (o : List ℕ) (at w : ℕ) (part rest : List ℕ) {at′ : ℕ} {t t′ : List ℕ} → length part ≡ w → at′ ≡ at + w → t ≡ sets o at′ rest
+    → t′ ≡ sets t at part → t′ ≡ sets o at (part ++ rest)
+put-below o at w part rest size e p q =
+    q ∙ rw (p, e, ← size) (sets-before o at part (at + length part) rest (omega arith) ∙ sym (sets-append o at part rest))
+
 -- a field was stored, and then those behind it
 pub put-field : (o : List ℕ) (at w v : ℕ) (ws vs : List ℕ) {at′ : ℕ} {t t′ : List ℕ} → t ≡ sets o at (bytesOf w v) → at′ ≡ at + w
     → t′ ≡ sets t at′ (fieldBytes ws vs) → t′ ≡ sets o at (fieldBytes (w ∷ ws) (v ∷ vs))

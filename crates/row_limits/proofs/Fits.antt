@@ -1,15 +1,19 @@
 -- Tests one behind the other, and rows read cell by cell.
-use Prim.Native.Nat.{ℕ, _+_, _^_}
+use Prim.Native.Nat.{ℕ, _+_, _*_, _/_, _%_, _^_, _<_, _≤_}
 use mathlib.Core.Path.{_≡_, refl, ap, _∙_}
 use mathlib.Core.List.{List, [], _∷_}
 use mathlib.Core.Bool.{Bool, true, false}
 use native.Mathlib.Omega.{arith}
-use lib.Dec.{ltb}
-use borrow.Author.Tests.{lt-ltb}
-use Rattle.format.specs.Bytes.{IsBytes, both}
-use Rattle.format.specs.ClipRecord.{Row}
+use lib.Bits.{bitAnd}
+use lib.Dec.{eqb, ltb}
+use borrow.Author.Tests.{lt-ltb, ltb-true, ltb-false, eqb-true, eq-eqb, ne-eqb}
+use Rattle.format.specs.Bytes.{IsBytes, both, fits}
+use Rattle.format.specs.ClipRecord.{Row, time, entryType}
+use Rattle.format.specs.Refusals.{entryFits}
 use Rattle.format.specs.Tables.{cellAt, cellsAt}
 use Rattle.format.proofs.Cells.{low-below}
+use Rattle.format.proofs.Fields.{Fit, one, fits-fit, words-masked}
+use Rattle.format.proofs.Tests.{both-true}
 use Rattle.cells.specs.Reads.{CellIs}
 
 -- the last test of a row decides
@@ -17,9 +21,65 @@ pub last-test : (b : Bool) → b ≡ both b true
 last-test true = refl
 last-test false = refl
 
+-- so does a last test that fails
+pub last-fails : (b : Bool) → false ≡ both b false
+last-fails true = refl
+last-fails false = refl
+
 -- a field of 32 bits holds any cell
 pub any-cell : (t : List ℕ) → IsBytes t → (p : ℕ) → ltb (cellAt t p) (2 ^ 32) ≡ true
 any-cell t bytes p = lt-ltb (cellAt t p) (2 ^ 32) (low-below t bytes p 4)
+
+-- ---- an entry
+
+-- angle and I-end side by side, with the bits of their fields cleared, are 0 where both fit
+pub angle-masked : (angle end : ℕ) → angle < 2 ^ 32 → end < 2 ^ 32 → eqb (bitAnd (end * 4294967296 + angle) 0xfffffff8fffffffe) 0 ≡ both (ltb angle 2) (ltb end 8)
+angle-masked angle end h g = rw (words-masked end angle 3 1 (omega arith) (omega arith) g h) (go (ltb angle 2) refl (ltb end 8) refl)
+  where
+    go : (b : Bool) → ltb angle 2 ≡ b → (c : Bool) → ltb end 8 ≡ c → eqb (end / 8 * 8 * 4294967296 + angle / 2 * 2) 0 ≡ both b c
+    go true a true e =
+        let x = ltb-true angle 2 a in
+        let y = ltb-true end 8 e in
+        eq-eqb (end / 8 * 8 * 4294967296 + angle / 2 * 2) 0 (omega arith)
+    go true a false e = let y = ltb-false end 8 e in ne-eqb (end / 8 * 8 * 4294967296 + angle / 2 * 2) 0 (λ z. omega arith)
+    go false a c e = let x = ltb-false angle 2 a in ne-eqb (end / 8 * 8 * 4294967296 + angle / 2 * 2) 0 (λ z. omega arith)
+
+-- the type of an entry whose fields fit has 4 bits
+narrow-type : (e : Row) → Fit (1 ∷ 3 ∷ 32 ∷ 32 ∷ 4 ∷ []) e → entryType e < 16
+narrow-type e (one a (one i (one t (one p (one y f))))) = y
+
+-- no entry fits a map whose type has more
+pub type-wide : (type : ℕ) (e : Row) → 16 ≤ type → false ≡ entryFits type e
+type-wide type e h = go (entryFits type e) refl
+  where
+    go : (b : Bool) → entryFits type e ≡ b → false ≡ b
+    go true fit =
+        let parts = both-true (fits (1 ∷ 3 ∷ 32 ∷ 32 ∷ 4 ∷ []) e) (both (eqb (time e % 512) 0) (eqb (entryType e) type)) fit in
+        let few = narrow-type e (fits-fit (1 ∷ 3 ∷ 32 ∷ 32 ∷ 4 ∷ []) e (parts .0)) in
+        let same = eqb-true (entryType e) type (both-true (eqb (time e % 512) 0) (eqb (entryType e) type) (parts .1) .1) in
+        absurd (omega arith)
+    go false fit = refl
+
+-- angle or I-end does not fit
+pub angle-fails : (a i fields more : Bool) → both a i ≡ false → false ≡ both (both a (both i fields)) more
+angle-fails true true fields more h = let z : _≡_ {A = ℕ} 0 1 = cc in absurd (omega arith)
+angle-fails true false fields more h = refl
+angle-fails false i fields more h = refl
+
+-- where the map's type has 4 bits, an entry of that type has them too
+pub type-decides : (type entry : ℕ) → type < 16 → eqb entry type ≡ both (both (ltb entry 16) true) (eqb entry type)
+type-decides type entry h = go (eqb entry type) refl (ltb entry 16) refl
+  where
+    go : (b : Bool) → eqb entry type ≡ b → (c : Bool) → ltb entry 16 ≡ c → b ≡ both (both c true) b
+    go true e true l = refl
+    go true e false l =
+        let same = eqb-true entry type e in
+        let wide = ltb-false entry 16 l in
+        absurd (omega arith)
+    go false e true l = refl
+    go false e false l = refl
+
+-- ---- rows
 
 -- the place of a row's third cell
 pub third : (p : ℕ) → p + 4 + 4 ≡ p + 8

@@ -3,6 +3,8 @@ ghost use mathlib.Core.Path.{_≡_};
 ghost use Prim.Native.Nat.{_+_, _*_, _≤_};
 ghost use mathlib.Core.List.{[], _∷_};
 ghost use lib.ListN.{length};
+ghost use lib.Dec.{ltb};
+ghost use Rattle.format.specs.Bytes.{both};
 ghost use Rattle.format.specs.Refusals.{atcFits, stcFits, programFits, streamFits, mapFits, entryFits};
 ghost use Rattle.format.specs.Tables.{cellsAt, atcCells, stcCells, programCells, streamCells, mapCells, entryCells};
 ghost use Rattle.row_limits.specs.Kinds.{cellsOf, fitsBy};
@@ -58,7 +60,14 @@ fn stream_fits(pid: u32, coding_type: u32, format: u32, aspect: u32, language: u
     aspect == 0
 }
 
-// An angle of 1 bit, an I-end of 3, a type of 4 bits that is its map's, a time that is a multiple of 512.
+// An angle of 1 bit and an I-end of 3, side by side in one number: one load and one mask where the two cells are neighbours.
+fn angle_fits(angle: u32, i_end: u32) -> bool
+    ensures { λ r. ⌜ r ≡ both (ltb angle 2) (ltb «i_end» 8) ⌝ }
+{
+    ((i_end as u64) * 4294967296 + angle as u64) & 0xfffffff8fffffffe == 0
+}
+
+// An angle of 1 bit, an I-end of 3, a type of 4 bits that is its map's, a time that is a multiple of 512. The map's type is tested for its 4 bits: it is the same at every row.
 fn entry_fits(
     map_type: u32,
     angle: u32,
@@ -69,13 +78,10 @@ fn entry_fits(
 ) -> bool
     ensures { λ r. ⌜ r ≡ entryFits «map_type» (angle ∷ «i_end» ∷ time ∷ packet ∷ «entry_type» ∷ []) ⌝ }
 {
-    if angle >= 2 {
+    if map_type >= 16 {
         return false;
     }
-    if i_end >= 8 {
-        return false;
-    }
-    if entry_type >= 16 {
+    if !angle_fits(angle, i_end) {
         return false;
     }
     if time % 512 != 0 {

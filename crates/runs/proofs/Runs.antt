@@ -1,34 +1,62 @@
 -- Runs of entries: one run and those behind it, and the loops that walk over them.
-use Prim.Native.Nat.{ℕ, suc, _+_, _*_, _-_, _/_, _<_, _≤_}
+use Prim.Native.Nat.{ℕ, zero, suc, _+_, _*_, _-_, _/_, _%_, _^_, _<_, _≤_}
 use mathlib.Core.Path.{_≡_, refl, sym, ap, _∙_}
 use mathlib.Core.List.{List, [], _∷_}
 use mathlib.Core.Bool.{Bool, true, false, not}
 use native.Mathlib.Numerals.{add-one}
 use native.Mathlib.Omega.{arith}
-use borrow.Author.Tests.{eqb-true, eq-eqb, ne-eqb, not-true, not-false}
+use borrow.Author.Tests.{eqb-true, eqb-false, eq-eqb, ne-eqb, not-true, not-false}
 use lib.ListN.{length, getD, drop}
+use lib.Bits.{bitAnd}
 use lib.Dec.{eqb}
-use Rattle.format.specs.Bytes.{pick}
+use Rattle.format.specs.Bytes.{both, pick}
 use Rattle.format.specs.ClipRecord.{Row, time, packet}
 use Rattle.format.specs.Rewriting.{timeKey, packetKey, sameRun, coarseRow, unlessSame, coarseAfter, coarseRows, runs}
 use Rattle.format.specs.Tables.{cellAt, cellsAt}
 use Rattle.format.proofs.Cell.{item-at}
+use Rattle.format.proofs.Fields.{words-masked}
 use Rattle.format.proofs.Loops.{one-left, none-left}
 use Rattle.format.proofs.Rows.{rows-length, drop-rows}
 use Rattle.format.proofs.Tests.{both-true}
 use Rattle.cells.specs.Reads.{CellIs}
-use Rattle.runs.specs.Runs.{entriesAt, entriesFrom, keyed, runEnd, endFrom, coarseFrom}
+use Rattle.runs.specs.Runs.{entriesAt, entriesFrom, keyed, runKey, runEnd, endFrom, coarseFrom, begun}
 
 -- ---- keys
 
-module _ {a b : ℕ} (time packet time′ packet′ : ℕ) (left : a ≡ time / 524288) (right : b ≡ time′ / 524288) where
-  -- equal time keys leave the test to the packet keys
-  pub same-time : {c d : ℕ} → a ≡ b → c ≡ packet / 131072 → d ≡ packet′ / 131072 → eqb c d ≡ sameRun (keyed time packet) (keyed time′ packet′)
-  same-time h e f = rw (← left, ← right, eq-eqb a b h, e, f)
+-- the mask clears the bits below both keys
+pub key-masked : (pair : ℕ) → pair < 2 ^ 64 → bitAnd pair 0xfffe0000fff80000 ≡ runKey (pair % 4294967296) (pair / 4294967296)
+key-masked pair h =
+    let parts : pair ≡ pair / 4294967296 * 4294967296 + pair % 4294967296 = omega arith in
+    ap (λ (x : ℕ). bitAnd x 0xfffe0000fff80000) parts ∙ words-masked (pair / 4294967296) (pair % 4294967296) 17 19 (omega arith) (omega arith) (omega arith) (omega arith)
 
-  -- other time keys end it
-  pub other-time : (a ≡ b → ⊥) → eqb a b ≡ sameRun (keyed time packet) (keyed time′ packet′)
-  other-time h = rw (← left, ← right, ne-eqb a b h)
+-- a packet and a time side by side are told apart again
+pub pair-time : (time packet : ℕ) → time < 2 ^ 32 → (packet * 4294967296 + time) % 4294967296 ≡ time
+pair-time time packet h = omega arith
+
+pub pair-packet : (time packet : ℕ) → time < 2 ^ 32 → (packet * 4294967296 + time) / 4294967296 ≡ packet
+pair-packet time packet h = omega arith
+
+-- numbers with equal words of 32 bits side by side have equal upper words
+upper-same : (x y l r : ℕ) → l < 4294967296 → r < 4294967296 → x * 4294967296 + l ≡ y * 4294967296 + r → x ≡ y
+upper-same x y l r h g e = omega arith
+
+-- equal numbers are equal keys
+pub same-keys : (time packet time′ packet′ : ℕ) → time < 2 ^ 32 → time′ < 2 ^ 32
+    → eqb (runKey time packet) (runKey time′ packet′) ≡ sameRun (keyed time packet) (keyed time′ packet′)
+same-keys time packet time′ packet′ h g = go (eqb (time / 524288) (time′ / 524288)) refl (eqb (packet / 131072) (packet′ / 131072)) refl
+  where
+    go : (b : Bool) → eqb (time / 524288) (time′ / 524288) ≡ b → (c : Bool) → eqb (packet / 131072) (packet′ / 131072) ≡ c
+        → eqb (runKey time packet) (runKey time′ packet′) ≡ both b c
+    go true t true p =
+        let e = eqb-true (time / 524288) (time′ / 524288) t in
+        let f = eqb-true (packet / 131072) (packet′ / 131072) p in
+        eq-eqb (runKey time packet) (runKey time′ packet′) (rw (e, f))
+    go true t false p =
+        ne-eqb (runKey time packet) (runKey time′ packet′) (λ same. eqb-false (packet / 131072) (packet′ / 131072) p (omega arith))
+    go false t c p =
+        ne-eqb (runKey time packet) (runKey time′ packet′) (λ same.
+        let upper = upper-same (packet / 131072 * 131072) (packet′ / 131072 * 131072) (time / 524288 * 524288) (time′ / 524288 * 524288) (omega arith) (omega arith) same in
+        eqb-false (time / 524288) (time′ / 524288) t (omega arith))
 
 -- ---- lists of entries
 
@@ -206,3 +234,41 @@ module _ (t : List ℕ) (p n : ℕ) where
   -- all are counted
   pub counted-done : (count k : ℕ) → Counted count k → n ≤ k → count ≡ runs (entriesAt t p n)
   counted-done count k i h = let rest = rw (left-done k h) at (i .rest) in omega arith
+
+  -- ---- from row to row: the runs that begin there or later
+
+  -- behind the last row none begins
+  pub begun-none : begun t p n n ≡ []
+  unfolding coarseAfter
+  begun-none = go n refl
+    where
+      go : (m : ℕ) → n ≡ m → begun t p n m ≡ []
+      go zero e = rw e
+      go (suc m) e = rw (left-done (suc m) (omega arith))
+
+  -- the first row begins one
+  pub begun-first : 0 < n → begun t p n 0 ≡ coarseRow 0 (cellsAt t 5 (p + 20 * 0)) ∷ begun t p n 1
+  begun-first h = ap coarseRows (sym left-all ∙ left-turn 0 h)
+
+  -- a later row does unless it is in the run of the row before it
+  pub begun-later : (k : ℕ) → 0 < k → k < n → begun t p n k
+      ≡ unlessSame (sameRun (cellsAt t 5 (p + 20 * k - 20)) (cellsAt t 5 (p + 20 * k))) (coarseRow k (cellsAt t 5 (p + 20 * k))) (begun t p n (suc k))
+  unfolding coarseAfter
+  begun-later zero h g = absurd (omega arith)
+  begun-later (suc k) h g =
+      let e = add-one (suc k) in
+      let before : p + 20 * suc k - 20 ≡ p + 20 * k = omega arith in
+      rw (left-turn (suc k) g, e, before)
+
+  -- there are not more than all
+  pub begun-few : (k : ℕ) → k ≤ n → length (begun t p n k) ≤ runs (entriesAt t p n)
+  unfolding runs
+  begun-few zero h = omega arith
+  begun-few (suc zero) h = let e = ap length (begun-first h) in omega (arith, e)
+  begun-few (suc (suc k)) h =
+      go (sameRun (cellsAt t 5 (p + 20 * suc k - 20)) (cellsAt t 5 (p + 20 * suc k))) (begun-later (suc k) (omega arith) h) (begun-few (suc k) (omega arith))
+    where
+      go : (b : Bool) → begun t p n (suc k) ≡ unlessSame b (coarseRow (suc k) (cellsAt t 5 (p + 20 * suc k))) (begun t p n (suc (suc k)))
+          → length (begun t p n (suc k)) ≤ runs (entriesAt t p n) → length (begun t p n (suc (suc k))) ≤ runs (entriesAt t p n)
+      go true e few = let l = ap length e in omega arith
+      go false e few = let l = ap length e in omega arith

@@ -1,28 +1,65 @@
 // Runs: a longest stretch of entries of one map with equal keys, told by the row where it begins and the row where it ends.
 ghost use mathlib.Core.Path.{_≡_};
-ghost use Prim.Native.Nat.{_+_, _*_, _/_, _≤_, _<_};
+ghost use Prim.Native.Nat.{_+_, _*_, _/_, _%_, _≤_, _<_};
 ghost use lib.ListN.{length};
 ghost use Rattle.format.specs.Rewriting.{sameRun, runs};
-ghost use Rattle.runs.specs.Runs.{entriesAt, entriesFrom, keyed, endFrom};
+ghost use Rattle.runs.specs.Runs.{entriesAt, entriesFrom, keyed, pairRow, PairIs, runKey, endFrom};
 use cells::cell_at;
-use ep_rows::coarse_time_of;
 
 // The bytes of an entry.
 const ENTRY: usize = 20;
 
-// The packet's key: what is above the bits of the fine packet.
-fn packet_key(packet: u32) -> u32
-    ensures { λ r. ⌜ r ≡ packet / 131072 ⌝ }
+// A packet and a time side by side in one number, the packet above the time.
+fn side_by_side(time: u32, packet: u32) -> u64
+    ensures { λ r. ⌜ r ≡ packet * 4294967296 + time ⌝ }
 {
-    packet >> 17
+    (packet as u64) * 4294967296 + time as u64
 }
 
-// Whether two entries with these times and packets have equal keys.
+// Those of the entry at byte q: one load, since the two cells are neighbours.
+pub fn pair_at(entries: &[u8], q: usize) -> u64
+    requires { ⌜ q + 20 ≤ length (now entries) ⌝ }
+    ensures { λ r. ⌜ PairIs (now (entries .entry)) q r ⌝ }
+{
+    side_by_side(cell_at(entries, q + 8), cell_at(entries, q + 12))
+}
+
+// The time of such a pair.
+pub fn pair_time(pair: u64) -> u32
+    ensures { λ r. ⌜ r ≡ pair % 4294967296 ⌝ }
+{
+    (pair % 4294967296) as u32
+}
+
+// Its packet.
+pub fn pair_packet(pair: u64) -> u32
+    ensures { λ r. ⌜ r ≡ pair / 4294967296 ⌝ }
+{
+    (pair / 4294967296) as u32
+}
+
+// Both keys of a pair, each where it stands, with the bits below it cleared: one mask.
+fn run_key(pair: u64) -> u64
+    ensures { λ r. ⌜ r ≡ runKey (pair % 4294967296) (pair / 4294967296) ⌝ }
+{
+    pair & 0xfffe0000fff80000
+}
+
+// Whether two entries with these pairs have equal keys.
+pub fn same_pairs(pair: u64, other: u64) -> bool
+    ensures { λ r. ⌜ r ≡ sameRun (pairRow pair) (pairRow other) ⌝ }
+{
+    run_key(pair) == run_key(other)
+}
+
+// The same by times and packets.
 pub fn same_run(time: u32, packet: u32, other_time: u32, other_packet: u32) -> bool
     ensures { λ r. ⌜ r ≡ sameRun (keyed time packet) (keyed «other_time» «other_packet») ⌝ }
 {
-    coarse_time_of(time) == coarse_time_of(other_time)
-        && packet_key(packet) == packet_key(other_packet)
+    same_pairs(
+        side_by_side(time, packet),
+        side_by_side(other_time, other_packet),
+    )
 }
 
 // The row at which the run ends that begins at row `from`, of the n entries at byte p. Each next entry is compared with the run's first.

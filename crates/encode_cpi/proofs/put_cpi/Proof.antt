@@ -1,6 +1,6 @@
 -- Without maps a length of 0; else the top, and behind it headers and bodies.
 use Prim.Native.Nat.{_+_, _*_, _^_, _<_}
-use mathlib.Core.Path.{_≡_}
+use mathlib.Core.Path.{_≡_, refl}
 use native.Mathlib.Omega.{arith}
 use denote.Ref.{now}
 use lib.ListN.{length}
@@ -46,10 +46,21 @@ cast-put-top c = record { fits = omega (arith, small c) }
 put-top-requires : tie.Need-put-top-requires
 put-top-requires c κs = omega (arith, long (c .before), c .before .before .before .before .before .pre .room)
 
+add-put-maps : tie.Need-add-put-maps
+add-put-maps c = search needs
+
 put-maps-requires : tie.Need-put-maps-requires
 put-maps-requires c κs =
     let s = c .before .before .before .before .before .before .before .before .before in
-    record { rows-there = s .pre .rows-there; writable = s .pre .writable; room = omega (arith, long (c .before .before .before .before .before), s .pre .room, c .before .before .before .put-top .kept) }
+    record {
+      rows-there = s .pre .rows-there;
+      writable = s .pre .writable;
+      long = omega (arith, long (c .before .before .before .before .before));
+      room = omega (arith, s .pre .room, c .before .before .before .put-top .kept);
+    }
+
+add-result-2 : tie.Need-add-result-2
+add-result-2 c = search needs
 
 same-length-2 : tie.Need-same-length-2
 same-length-2 c = search needs
@@ -58,8 +69,7 @@ returns-2 : tie.Need-returns-2
 returns-2 c =
     let s = c .before .before .before .before .before .before .before .before .before .before .before .before in
     let a = s .args in
-    let put = c .before .before .put-maps .ensures in
-    cpi-put (now (a .maps)) (a .n) (now (a .entries)) (a .m) (now (a .out)) (a .at) (a .len) (s .pre) (c .before .before .before .before .before .before .before .before .if1 .left) (c .before .before .before .before .before .before .put-top .ensures) (put .0) (put .1)
+    (refl, cpi-put (now (a .maps)) (a .n) (now (a .entries)) (a .m) (now (a .out)) (a .at) (a .len) (s .pre) (c .before .before .before .before .before .before .before .before .if1 .left) (c .before .before .before .before .before .before .put-top .ensures) (c .before .before .put-maps .ensures))
 
 pub put-cpi-spec : {M : Type 1} → statement M
 put-cpi-spec =
@@ -72,6 +82,8 @@ put-cpi-spec =
     sub-put-top
     cast-put-top
     put-top-requires
+    add-put-maps
     put-maps-requires
+    add-result-2
     same-length-2
     returns-2)

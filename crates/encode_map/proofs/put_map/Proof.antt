@@ -1,4 +1,4 @@
--- The body's runs go into the header.
+-- The runs that go into the header are told by where the body starts.
 use native.Mathlib.Omega.{arith}
 use denote.Ref.{now}
 use Rattle.encode_map.proofs.Bodies.{body-size, map-put}
@@ -18,6 +18,9 @@ add-cell-at c = search needs
 cell-at-requires-2 : tie.Need-cell-at-requires-2
 cell-at-requires-2 c κs = search needs
 
+put-body-requires : tie.Need-put-body-requires
+put-body-requires c κs = search needs
+
 add-address : tie.Need-add-address
 add-address c = search needs
 
@@ -27,8 +30,17 @@ sub-address c = search needs
 cast-address : tie.Need-cast-address
 cast-address c = search needs
 
-put-body-requires : tie.Need-put-body-requires
-put-body-requires c κs = search needs
+mul-runs : tie.Need-mul-runs
+mul-runs c = search needs
+
+sub-runs : tie.Need-sub-runs
+sub-runs c = let s = c .before .before .before .before .before .before .before .before .before in let a = s .args in omega (arith, c .before .before .put-body .ensures .0, body-size (now (a .entries)) (a .p) (a .n))
+
+sub-runs-2 : tie.Need-sub-runs-2
+sub-runs-2 c = let s = c .before .before .before .before .before .before .before .before .before in let a = s .args in omega (arith, c .before .before .put-body .ensures .0, body-size (now (a .entries)) (a .p) (a .n))
+
+sub-runs-3 : tie.Need-sub-runs-3
+sub-runs-3 c = let s = c .before .before .before .before .before .before .before .before .before in let a = s .args in omega (arith, c .before .before .put-body .ensures .0, body-size (now (a .entries)) (a .p) (a .n))
 
 cast-put-header : tie.Need-cast-put-header
 cast-put-header c = search needs
@@ -43,22 +55,15 @@ add-put-header-2 : tie.Need-add-put-header-2
 add-put-header-2 c = search needs
 
 put-header-requires : tie.Need-put-header-requires
-put-header-requires c κs = search needs
-
-add-result : tie.Need-add-result
-add-result c = search needs
-
-mul-result : tie.Need-mul-result
-mul-result c = search needs
-
-add-result-2 : tie.Need-add-result-2
-add-result-2 c = search needs
-
-mul-result-2 : tie.Need-mul-result-2
-mul-result-2 c = search needs
-
-add-result-3 : tie.Need-add-result-3
-add-result-3 c = search needs
+put-header-requires c κs =
+    let s = c .before .before .before .before .before .before .before .before .before .before in
+    let a = s .args in
+    let body = c .before .before .before .put-body in (
+      omega (arith, s .pre .kind-fits, c .before .before .before .before .before .cell-at2 .ensures .same),
+      omega (arith, s .pre .runs-fit, body .ensures .0, body-size (now (a .entries)) (a .p) (a .n)),
+      omega (arith, s .pre .body-room .few, s .pre .runs-fit, body .ensures .0, body-size (now (a .entries)) (a .p) (a .n)),
+      omega (arith, s .pre .header-room, s .pre .body-room .room, body .kept),
+    )
 
 same-length : tie.Need-same-length
 same-length c = search needs
@@ -67,8 +72,8 @@ returns : tie.Need-returns
 returns c =
     let a = c .before .before .before .before .before .before .before .before .before .before .before .before .before .args in
     let put = c .before .before .before .before .before .before .put-body in (
-      omega (arith, put .ensures .0, body-size (now (a .entries)) (a .p) (a .n)),
-      map-put (now (a .entries)) (a .p) (a .n) (now (a .maps)) (a .k) (now (a .out)) (a .at) (a .body) (c .before .before .before .before .before .before .before .before .before .cell-at .ensures) (c .before .before .before .before .before .before .before .before .cell-at2 .ensures) (put .ensures .0)
+      put .ensures .0,
+      map-put (now (a .entries)) (a .p) (a .n) (now (a .maps)) (a .k) (now (a .out)) (a .at) (put .result) (c .before .before .before .before .before .before .before .before .before .cell-at .ensures) (c .before .before .before .before .before .before .before .before .cell-at2 .ensures) (omega (arith, put .ensures .0, body-size (now (a .entries)) (a .p) (a .n)))
           (put .ensures .1) (c .before .before .put-header .ensures),
     )
 
@@ -80,19 +85,18 @@ put-map-spec =
     cell-at-requires
     add-cell-at
     cell-at-requires-2
+    put-body-requires
     add-address
     sub-address
     cast-address
-    put-body-requires
+    mul-runs
+    sub-runs
+    sub-runs-2
+    sub-runs-3
     cast-put-header
     cast-put-header-2
     add-put-header
     add-put-header-2
     put-header-requires
-    add-result
-    mul-result
-    add-result-2
-    mul-result-2
-    add-result-3
     same-length
     returns)
