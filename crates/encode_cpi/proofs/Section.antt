@@ -16,12 +16,12 @@ use Rattle.format.specs.Tables.{cellAt, tableRows, mapCells, entryCells}
 use Rattle.format.proofs.Cell.{item-at}
 use Rattle.format.proofs.Cpi.{header-length, headers-length}
 use Rattle.format.proofs.Numbers.{bytes-length}
-use Rattle.format.proofs.Stores.{sets-append}
+use Rattle.format.proofs.Stores.{sets-append, part-then, field-then, field-last}
 use Rattle.format.proofs.Tests.{both-true}
 use Rattle.cells.specs.Reads.{CellIs}
 use Rattle.table_rows.proofs.Scans.{left-all, left-done}
 use Rattle.runs.specs.Runs.{entriesAt}
-use Rattle.map_rows.proofs.Puts.{sets-before, put-behind, put-below, put-field}
+use Rattle.map_rows.proofs.Puts.{sets-before, put-below}
 use Rattle.encode_map.specs.Bodies.{MapRoom}
 use Rattle.encode_cpi.specs.Cpi.{Writable, MapsRoom, CpiRoom, fewRuns, entriesFit, mapRows, entryRows}
 use Rattle.encode_cpi.proofs.Lengths.{topBytes, top-length, cpi-parts, cpi-size}
@@ -34,7 +34,7 @@ pub pair-more : (o : List ℕ) (head body w : ℕ) (H Hs B Bs : List ℕ) {o′ 
     → o′ ≡ sets (sets o body B) head H → sets (sets o head (H ++ Hs)) body (B ++ Bs) ≡ whole
     → sets (sets o′ (head + 12) Hs) (body + w) Bs ≡ whole
 pair-more o head body w H Hs B Bs {o′} hl bl apart put i =
-    let joined : sets o′ (head + 12) Hs ≡ sets (sets o body B) head (H ++ Hs) = put-behind (sets o body B) head 12 H Hs hl put refl refl in
+    let joined : sets o′ (head + 12) Hs ≡ sets (sets o body B) head (H ++ Hs) = part-then (sets o body B) head 12 H Hs hl refl put refl in
     let room : head + length (H ++ Hs) ≤ body = rw (length-append H Hs, hl) apart in
     let moved : sets o′ (head + 12) Hs ≡ sets (sets o head (H ++ Hs)) body B = joined ∙ sets-before o head (H ++ Hs) body B room in
     rw (moved, ← bl) (sym (sets-append (sets o head (H ++ Hs)) body B Bs) ∙ i)
@@ -237,7 +237,7 @@ module _ (maps : List ℕ) (n : ℕ) (entries : List ℕ) (m : ℕ) (o₀ : List
       let rest = rw (z, none, left-all mapCells maps n, left-all entryCells entries m, start, address, head) at (i .rest) in
       let heads = headers (mapRows maps n) (entryRows entries m) (2 + 12 * n) in
       let size : length heads ≡ 12 * n = headers-length (mapRows maps n) (entryRows entries m) (2 + 12 * n) ∙ ap (λ (x : ℕ). 12 * x) (maps-count maps n entries m) in
-      put-behind o₀ (at + 8) (12 * n) heads (bodies (mapRows maps n) (entryRows entries m)) size refl refl rest
+      part-then o₀ (at + 8) (12 * n) heads (bodies (mapRows maps n) (entryRows entries m)) size refl refl rest
 
   -- ---- the section
 
@@ -275,14 +275,14 @@ module _ (maps : List ℕ) (n : ℕ) (entries : List ℕ) (m : ℕ) (o₀ : List
         let word : len - 4 ≡ 4 + 12 * n + size = omega (arith, cpi-long) in
         let top′ : o ≡ sets o₀ at (topBytes n size) = top ∙ rw word in
         let parts = rw count at (cpi-parts ms es (omega arith)) in
-        put-behind o₀ at 8 (topBytes n size) (headers ms es (2 + 12 * n) ++ bodies ms es) (top-length n size) top′ refl p ∙ ap (sets o₀ at) (sym parts)
+        part-then o₀ at 8 (topBytes n size) (headers ms es (2 + 12 * n) ++ bodies ms es) (top-length n size) refl top′ p ∙ ap (sets o₀ at) (sym parts)
 
 -- the four fields of the top, stored one behind the other
 pub top-stored : (o : List ℕ) (at behind n : ℕ) {o₁ o₂ o₃ o₄ : List ℕ} → o₁ ≡ sets o at (bytesOf 4 behind) → o₂ ≡ sets o₁ (at + 4) (bytesOf 2 1)
     → o₃ ≡ sets o₂ (at + 6) (bytesOf 1 0) → o₄ ≡ sets o₃ (at + 7) (bytesOf 1 n)
     → o₄ ≡ sets o at (fieldBytes (4 ∷ 2 ∷ 1 ∷ 1 ∷ []) (behind ∷ 1 ∷ 0 ∷ n ∷ []))
 top-stored o at behind n {o₁} {o₂} {o₃} p q r s =
-    put-field o at 4 behind (2 ∷ 1 ∷ 1 ∷ []) (1 ∷ 0 ∷ n ∷ []) p refl
-    (put-field o₁ (at + 4) 2 1 (1 ∷ 1 ∷ []) (0 ∷ n ∷ []) q (omega arith)
-    (put-field o₂ (at + 6) 1 0 (1 ∷ []) (n ∷ []) r (omega arith)
-    (put-field o₃ (at + 7) 1 n [] [] s refl refl)))
+    field-then o at 4 behind (fieldBytes (2 ∷ 1 ∷ 1 ∷ []) (1 ∷ 0 ∷ n ∷ [])) refl p
+    (field-then o₁ (at + 4) 2 1 (fieldBytes (1 ∷ 1 ∷ []) (0 ∷ n ∷ [])) (omega arith) q
+    (field-then o₂ (at + 6) 1 0 (fieldBytes (1 ∷ []) (n ∷ [])) (omega arith) r
+    (field-last o₃ (at + 7) 1 n s)))

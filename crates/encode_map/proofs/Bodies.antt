@@ -19,13 +19,15 @@ use Rattle.format.proofs.Cpi.{body-length}
 use Rattle.format.proofs.Fields.{Fit, one, fits-fit}
 use Rattle.format.proofs.Loops.{flat-append}
 use Rattle.format.proofs.Numbers.{bytes-length}
+use Rattle.format.proofs.Read.{runs-few}
+use Rattle.format.proofs.Stores.{part-then}
 use Rattle.format.proofs.Rows.{all-rows, rows-length, flat-length}
 use Rattle.format.proofs.Tests.{both-true}
 use Rattle.cells.specs.Reads.{CellIs}
 use Rattle.runs.specs.Runs.{entriesAt, entriesFrom, keyed, pairRow, PairIs, begun}
-use Rattle.runs.proofs.Runs.{runs-few, entry-cell, left-all, left-turn, left-done, begun-none, begun-first, begun-later, begun-few}
+use Rattle.runs.proofs.Runs.{entry-cell, left-all, left-turn, left-done, begun-none, begun-first, begun-later, begun-few}
 use Rattle.encode_map.specs.Bodies.{EntriesFit, ownCoarse}
-use Rattle.map_rows.proofs.Puts.{sets-before, put-behind, put-below}
+use Rattle.map_rows.proofs.Puts.{sets-before, put-below}
 
 -- ---- an entry that fits
 
@@ -180,7 +182,7 @@ module _ (t : List ℕ) (p n : ℕ) (o₀ : List ℕ) (fine : ℕ) where
       let C = flat coarseBytes (coarseRows (entriesAt t p n)) in
       let e : fine + 4 * 0 ≡ fine = omega arith in
       let rest : o ≡ sets (sets o₀ to C) fine (flat fineBytes (entriesAt t p n)) = i .rest ∙ rw (e, left-all t p n) in
-      (i .place, put-behind o₀ to (8 * length (coarseRows (entriesAt t p n))) C (flat fineBytes (entriesAt t p n)) (coarse-size (coarseRows (entriesAt t p n))) refl (sym (i .place)) rest)
+      (i .place, part-then o₀ to (8 * length (coarseRows (entriesAt t p n))) C (flat fineBytes (entriesAt t p n)) (coarse-size (coarseRows (entriesAt t p n))) (sym (i .place)) refl rest)
 
   -- without entries nothing is
   pub stored-empty : n ≡ 0 → (fine + 8 * runs (entriesAt t p n) ≡ fine) × (o₀ ≡ sets o₀ fine (flat coarseBytes (coarseRows (entriesAt t p n)) ++ flat fineBytes (entriesAt t p n)))
@@ -264,8 +266,8 @@ body-stored es o at fine v {o₂ = o₂} f e p q r =
     let size = bytes-length 4 (4 + 8 * length (coarseRows es)) in
     let rows : length coarse ≡ 8 * length (coarseRows es) = flat-length 8 coarseBytes (all-rows (λ row. bytes-length 8 (packed coarseWidths row)) (coarseRows es)) in
     let swapped : o₂ ≡ sets (sets o at address) (at + 4) coarse = q ∙ rw (p, value) (sets-before o at address (at + 4) coarse (omega arith)) in
-    put-behind o at 4 address (coarse ++ flat fineBytes es) size refl refl
-    (put-behind (sets o at address) (at + 4) (8 * length (coarseRows es)) coarse (flat fineBytes es) rows swapped f r)
+    part-then o at 4 address (coarse ++ flat fineBytes es) size refl refl
+    (part-then (sets o at address) (at + 4) (8 * length (coarseRows es)) coarse (flat fineBytes es) rows f swapped r)
 
 -- the rows were stored, and then the fine address below them
 pub body-below : (es : List Row) (o : List ℕ) (coarse fine : ℕ) {o₁ o₂ : List ℕ} → coarse + 8 * runs es ≡ fine → 4 ≤ coarse

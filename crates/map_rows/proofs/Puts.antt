@@ -1,4 +1,4 @@
--- Stores that do not meet, fields stored one behind the other, and the rows of a map stored by their numbers.
+-- Stores that do not meet, and the rows of a map stored by their numbers.
 use Prim.Native.Nat.{ℕ, suc, _+_, _/_, _%_, _^_, _<_, _≤_}
 use mathlib.Core.Path.{_≡_, refl, sym, ap, _∙_}
 use mathlib.Core.List.{List, [], _∷_, _++_}
@@ -9,8 +9,7 @@ use Rattle.format.specs.Bytes.{bytesOf, fieldBytes, packed}
 use Rattle.format.specs.EntryPoints.{headerWidths, coarseWidths, fineWidths}
 use Rattle.format.specs.Rewriting.{coarseRow, coarseBytes, fineRow, fineBytes}
 use Rattle.format.proofs.Fields.{Fit, fit}
-use Rattle.format.proofs.Numbers.{bytes-length}
-use Rattle.format.proofs.Stores.{sets-append, bytes-parts, bytes-low}
+use Rattle.format.proofs.Stores.{sets-append, field-then, field-last, bytes-parts, bytes-low}
 use Rattle.bits.specs.Words.{lowBits}
 use Rattle.bits.proofs.Laws.{low-same}
 use Rattle.runs.specs.Runs.{keyed}
@@ -31,27 +30,17 @@ sets-before l i (v ∷ vs) j ws h =
     ap (λ (o : List ℕ). sets o (suc i) vs) (set-before l i v j ws (omega arith))
     ∙ sets-before (set l i v) (suc i) vs j ws (omega arith)
 
--- w bytes were stored, and then what is behind them
-pub put-behind : (o : List ℕ) (at w : ℕ) (part rest : List ℕ) {at′ : ℕ} {t t′ : List ℕ} → length part ≡ w → t ≡ sets o at part → at′ ≡ at + w
-    → t′ ≡ sets t at′ rest → t′ ≡ sets o at (part ++ rest)
-put-behind o at w part rest size p e q = q ∙ rw (e, p, ← size) (sym (sets-append o at part rest))
-
 -- bytes were stored, and then w right below them
 pub put-below : (o : List ℕ) (at w : ℕ) (part rest : List ℕ) {at′ : ℕ} {t t′ : List ℕ} → length part ≡ w → at′ ≡ at + w → t ≡ sets o at′ rest
     → t′ ≡ sets t at part → t′ ≡ sets o at (part ++ rest)
 put-below o at w part rest size e p q =
     q ∙ rw (p, e, ← size) (sets-before o at part (at + length part) rest (omega arith) ∙ sym (sets-append o at part rest))
 
--- a field was stored, and then those behind it
-pub put-field : (o : List ℕ) (at w v : ℕ) (ws vs : List ℕ) {at′ : ℕ} {t t′ : List ℕ} → t ≡ sets o at (bytesOf w v) → at′ ≡ at + w
-    → t′ ≡ sets t at′ (fieldBytes ws vs) → t′ ≡ sets o at (fieldBytes (w ∷ ws) (v ∷ vs))
-put-field o at w v ws vs p e q = put-behind o at w (bytesOf w v) (fieldBytes ws vs) (bytes-length w v) p e q
-
 -- two bytes and four are six
 pub six-stored : (o : List ℕ) (at v : ℕ) {t t′ : List ℕ} → t ≡ sets o at (bytesOf 2 (v / 4294967296)) → t′ ≡ sets t (at + 2) (bytesOf 4 (v % 4294967296))
     → t′ ≡ sets o at (bytesOf 6 v)
 six-stored o at v p q =
-    put-behind o at 2 (bytesOf 2 (v / 4294967296)) (bytesOf 4 (v % 4294967296)) (bytes-length 2 (v / 4294967296)) p refl q
+    field-then o at 2 (v / 4294967296) (bytesOf 4 (v % 4294967296)) refl p q
     ∙ ap (sets o at) (ap (λ (l : List ℕ). bytesOf 2 (v / 4294967296) ++ l) (bytes-low 4 v) ∙ sym (bytes-parts 2 4 v))
 
 -- ---- rows
@@ -65,9 +54,9 @@ header-stored o at pid kind coarse fine address {word} {t} {t′} a b c w p q r 
     let f = fit 10 0 (omega arith) (fit 4 kind a (fit 16 coarse b (fit 18 fine c Fit.none))) in
     let all = packed headerWidths (0 ∷ kind ∷ coarse ∷ fine ∷ []) in
     let q′ = q ∙ ap (λ (v : ℕ). sets t (at + 2) (bytesOf 6 v)) (w ∙ ap (packed headerWidths) (low-same f)) in
-    put-field o at 2 pid (6 ∷ 4 ∷ []) (all ∷ address ∷ []) p refl
-    (put-field t (at + 2) 6 all (4 ∷ []) (address ∷ []) q′ (omega arith)
-    (put-field t′ (at + 8) 4 address [] [] r refl refl))
+    field-then o at 2 pid (fieldBytes (6 ∷ 4 ∷ []) (all ∷ address ∷ [])) refl p
+    (field-then t (at + 2) 6 all (fieldBytes (4 ∷ []) (address ∷ [])) (omega arith) q′
+    (field-last t′ (at + 8) 4 address r))
 
 -- a coarse row of which the number fits
 pub coarse-stored : (o : List ℕ) (at first time packet : ℕ) {key word : ℕ} {t : List ℕ} → first < 2 ^ 18 → time < 2 ^ 32 → packet < 2 ^ 32

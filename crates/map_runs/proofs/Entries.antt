@@ -13,7 +13,8 @@ use Rattle.format.proofs.Loops.{one-left, none-left}
 use Rattle.format.proofs.Read.{entries-length}
 use Rattle.format.proofs.Rows.{rows-length}
 use Rattle.runs.specs.Runs.{runEnd, endFrom, coarseFrom}
-use Rattle.runs.proofs.Runs.{run-ends, after-run, runs-few}
+use Rattle.format.proofs.Read.{runs-few}
+use Rattle.runs.proofs.Runs.{run-ends, after-run}
 use Rattle.map_runs.specs.Entries.{coarseIn, entriesIn, entriesLeft, entryIn}
 use Rattle.map_runs.specs.declared.walked.MapBody.{MapBody}
 

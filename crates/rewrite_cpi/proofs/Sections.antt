@@ -17,7 +17,7 @@ use Rattle.format.proofs.Read.{own-length}
 use Rattle.format.proofs.Tests.{both-true}
 use Rattle.cpi_fill.proofs.Filling.{there}
 use Rattle.cpi.proofs.Sections.{counts-small}
-use Rattle.map_rows.proofs.Puts.{put-behind}
+use Rattle.format.proofs.Stores.{part-then}
 use Rattle.encode_cpi.specs.Cpi.{fewRuns}
 use Rattle.encode_cpi.proofs.Lengths.{topBytes, top-length, cpi-parts, cpi-size}
 use Rattle.encode_cpi.proofs.Section.{pair-more}
@@ -173,7 +173,7 @@ module _ (f : List ℕ) (c count : ℕ) (o₀ : List ℕ) (at : ℕ) where
         let rest = rw (maps-done f c count k h) at (i .rest) in
         let heads = headers (mapsFrom f c) (entriesFrom f c) (2 + 12 * count) in
         let size : length heads ≡ 12 * count = headers-length (mapsFrom f c) (entriesFrom f c) (2 + 12 * count) ∙ ap (λ (x : ℕ). 12 * x) (maps-count f c count counted) in
-        (omega arith, put-behind o₀ (at + 8) (12 * count) heads (bodies (mapsFrom f c) (entriesFrom f c)) size refl refl rest)
+        (omega arith, part-then o₀ (at + 8) (12 * count) heads (bodies (mapsFrom f c) (entriesFrom f c)) size refl refl rest)
 
 -- ---- the section
 
@@ -243,7 +243,7 @@ module _ (f : List ℕ) (c count len : ℕ) (o₀ : List ℕ) (at : ℕ) (room :
         let word : len - 4 ≡ 4 + 12 * count + size = omega (arith, cpi-long) in
         let top′ : o ≡ sets o₀ at (topBytes count size) = top ∙ rw word in
         let parts = rw all-count at (cpi-parts (mapsFrom f c) (entriesFrom f c) (omega (arith, all-count))) in
-        (omega (arith, e, cpi-long), put-behind o₀ at 8 (topBytes count size) (headersOf ++ bodiesOf) (top-length count size) top′ refl p ∙ ap (sets o₀ at) (sym parts))
+        (omega (arith, e, cpi-long), part-then o₀ at 8 (topBytes count size) (headersOf ++ bodiesOf) (top-length count size) refl top′ p ∙ ap (sets o₀ at) (sym parts))
 
 -- the same of a number that was read
 pub room-by : (f : List ℕ) (c count len size at : ℕ) {n : ℕ} → n ≡ count → CpiRoom f c count len size at → CpiRoom f c n len size at

@@ -102,22 +102,6 @@ pub coarse-all : (es : List Row) → coarseFrom 0 es ≡ coarseRows es
 coarse-all [] = refl
 coarse-all (x ∷ xs) = refl
 
--- there are not more runs than entries
-after-few : (e : Row) (k : ℕ) (xs : List Row) → length (coarseAfter e k xs) ≤ length xs
-unfolding coarseAfter
-after-few e k [] = omega arith
-after-few e k (x ∷ xs) = go (sameRun e x) (after-few x (suc k) xs)
-  where
-    go : (b : Bool) → length (coarseAfter x (suc k) xs) ≤ length xs → length (unlessSame b (coarseRow k x) (coarseAfter x (suc k) xs)) ≤ suc (length xs)
-    go true h = omega arith
-    go false h = omega arith
-
--- of all entries, too
-pub runs-few : (es : List Row) → runs es ≤ length es
-unfolding runs
-runs-few [] = omega arith
-runs-few (x ∷ xs) = omega (arith, after-few x 1 xs)
-
 -- ---- entries in a table
 
 -- what is read at the place of cell j of the entry at q is that cell
