@@ -1,6 +1,6 @@
-/* Prints the minutes remaining in a clip at a time in 90 kHz ticks: the front figure.
+/* Prints the minutes remaining in a clip at a time in 90 kHz ticks: the figure on a player's front.
  *
- *     cc -I include examples/minutes.c target/staticlib/libclpi.a -o minutes && ./minutes samples/one_map.clpi 0 */
+ *     cc -I include examples/minutes.c target/staticlib/libclpi.a -o minutes && ./minutes samples/lecture.clpi 0 */
 #include <inttypes.h>
 #include <stdio.h>
 #include <stdlib.h>

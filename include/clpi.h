@@ -1,8 +1,8 @@
 /* clpi.h: Blu-ray clip information (CLPI) files, read into tables that the caller lends, and written from them.
  *
- * For C99 or C++11 and later. Link with libclpi.a (`rt staticlib clpi`; x86-64, 64-bit size_t). Every call takes every
- * input, allocates nothing, keeps nothing, calls nothing, needs less than 1 KB of stack, and ends. What it answers and
- * what it stores is proved equal to the format's definitions; what is not proved is the caller's side of this page:
+ * For C99 or C++11 and later. Link with libclpi.a (`pkg-config --libs clpi`; x86-64, 64-bit size_t). Every call takes
+ * every input, allocates nothing, keeps nothing, calls nothing, needs less than 1 KB of stack, and ends. What it
+ * answers and stores is proved equal to the format's definitions; what is not proved is the caller's side of this page:
  *
  *  - a pointer points to as many bytes as its length says, at any alignment; with length 0 it may be NULL;
  *  - the tables lent to one call overlap neither one another nor the file, the output overlaps neither the tables
@@ -94,7 +94,9 @@ struct clpi_program {
     uint32_t stream_count; /* how many rows of table 4 (or 9), in order, are its own */
 };
 
-/* tables 4 and 9: a stream. The language is three bytes, the first one highest, A to Z lowered; 0 for none */
+/* tables 4 and 9: a stream. Of the coding types 0x02, 0x1B, 0x20, 0x24 and 0xEA are video, 0x80 to 0x86, 0xA1 and 0xA2
+ * audio. Video alone has an aspect, all others alone a language: three bytes, the first one highest, A to Z lowered; 0
+ * for none */
 struct clpi_stream {
     uint32_t pid;
     uint32_t stream_coding_type;
@@ -123,7 +125,7 @@ struct clpi_ep_entry {
 struct clpi_extension {
     uint32_t id1;
     uint32_t id2;
-    uint32_t start;
+    uint32_t start; /* counted from the file's first byte */
     uint32_t length;
 };
 
@@ -152,7 +154,7 @@ struct clpi_reading {
     uint32_t extensions;
     uint32_t list_programs;
     uint32_t list_streams;
-    uint32_t has_list; /* 1 where there is a (2, 5) list, which may be empty */
+    uint32_t has_list; /* 1 where the first extension with ids 2 and 5 reads as a list of programs, maybe empty */
 };
 
 /* Reads a file. Each table is given by its first byte and its length in bytes. */
@@ -319,10 +321,12 @@ struct clpi_part clpi_extension_data(
  * Each is asked of the tables that it looks at, as bytes, with the rows stated to be in each. CLPI_ROWS where more rows
  * are stated than lent, where a row number is not one of them, or, where a table of counts and the table counted are
  * both lent, where the counts don't add up to the rows stated. A time in 90 kHz ticks has 32 bits where entries are
- * looked up, else 64. A part of a table may be lent as a table: the streams of one program, say; and tables 8 and 9
- * may be lent where tables 3 and 4 are asked for. */
+ * looked up, else 64: C cuts a longer one off without a word, so look up UINT32_MAX where a time is greater, which has
+ * the same answer. A part of a table may be lent as a table: the streams of one program, say; and tables 8 and 9 may be
+ * lent where tables 3 and 4 are asked for. */
 
-/* An answer. `found` is 0 where there is none, which is no refusal; then, and beside a refusal, `value` is 0. */
+/* An answer. `found` is 0 where there is none, which is no refusal; then, and beside a refusal, `value` is 0. Below,
+ * "nothing" is `found` 0, and "0" is a value that is found. */
 struct clpi_answer {
     uint32_t refusal; /* 0 or CLPI_ROWS */
     uint32_t found;   /* 1 where there is a value */
@@ -342,8 +346,8 @@ struct clpi_answer clpi_extension_entry(
 
 /* ---- questions about the ATC and STC sequences */
 
-/* Minutes remaining at a time, the front figure: twice the latest STC end minus the time, not below 0, in whole
- * minutes; 0 without STCs. */
+/* Minutes remaining at a time, the figure on a player's front: the latest STC end, doubled to 90 kHz ticks, less the
+ * time, not below 0, in whole minutes; 0 without STCs. */
 struct clpi_answer clpi_minutes_remaining(const uint8_t *stcs, size_t stcs_bytes, uint32_t rows, uint64_t at_90k);
 
 /* Twice the latest STC end less twice the least start, not below 0, in 90 kHz ticks; 0 without STCs. */

@@ -238,5 +238,7 @@ int main(int argc, char **argv)
         return rewrite(argv[2], argv[3]);
     if (argc == 4 && strcmp(command, "minutes") == 0 && number(argv[3], &at))
         return minutes(argv[2], at);
+    if (argc == 4 && strcmp(command, "minutes") == 0)
+        fprintf(stderr, "clip: '%s' is no time: a whole number of 90 kHz ticks\n", argv[3]);
     return wrong_use();
 }

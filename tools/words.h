@@ -87,8 +87,8 @@ static const char overview[] =
     "Exit status:\n"
     "  0  all is done\n"
     "  1  the file is refused: standard error has the number and words for it\n"
-    "  2  clip was called in another way, or NEW is there already\n"
-    "  3  the system failed, or the copy is not what it must be\n"
+    "  2  the arguments are wrong, or NEW is there already\n"
+    "  3  the system failed (no such file, no space), or the copy is not what it must be\n"
     "\n"
     "Examples:\n"
     "  clip list 00001.clpi\n"
@@ -117,8 +117,8 @@ static const char help_list[] =
     "\n"
     "FILE is only read.\n"
     "\n"
-    "Exit status: 0 the file is listed, 1 it is refused, 2 clip was called in another\n"
-    "way, 3 the system failed.\n"
+    "Exit status: 0 the file is listed, 1 it is refused, 2 the arguments are wrong,\n"
+    "3 the system failed.\n"
     "\n"
     "Examples:\n"
     "  clip list BDMV/CLIPINF/00001.clpi\n"
@@ -128,7 +128,8 @@ static const char help_rewrite[] =
     "usage: clip rewrite OLD NEW\n"
     "\n"
     "Reads OLD, writes its record as a new file, reads that file back, and compares\n"
-    "the two records. Only then does the new file get the name NEW.\n"
+    "the two records. Only then does the new file get the name NEW, and one line says\n"
+    "how long it is.\n"
     "\n"
     "  OLD is only read: it is never replaced, truncated, renamed or removed.\n"
     "  NEW must not be there yet, be it a file, a folder or a link: nothing is ever\n"
@@ -143,11 +144,11 @@ static const char help_rewrite[] =
     "Until it gets its name, the new file is called .clip- and six more letters, in\n"
     "NEW's folder. Where the machine stops or clip is killed, such a file may be\n"
     "left; it may be deleted. NEW's folder must be one in which files can have two\n"
-    "names (hard links), which those of FAT can't.\n"
+    "names (hard links), which those of FAT can't, and must be readable.\n"
     "\n"
     "Exit status: 0 NEW is there and has OLD's record, 1 OLD is refused, 2 NEW is\n"
-    "there already, or clip was called in another way, 3 the system failed, or the\n"
-    "copy is not what it must be.\n"
+    "there already, or the arguments are wrong, 3 the system failed, or the copy is\n"
+    "not what it must be.\n"
     "\n"
     "Examples:\n"
     "  clip rewrite 00001.clpi 00001.new\n"
@@ -164,8 +165,8 @@ static const char help_minutes[] =
     "\n"
     "FILE is only read.\n"
     "\n"
-    "Exit status: 0 the figure is printed, 1 the file is refused, 2 clip was called in\n"
-    "another way, 3 the system failed.\n"
+    "Exit status: 0 the figure is printed, 1 the file is refused, 2 the arguments are\n"
+    "wrong, 3 the system failed.\n"
     "\n"
     "Example, at 40 minutes, which are 40 x 60 x 90000 ticks:\n"
     "  clip minutes 00001.clpi 216000000\n";
@@ -182,7 +183,7 @@ static int help_refusals(void)
     return printed();
 }
 
-/* Says how the tool is called, to one who called it in another way. */
+/* Says how the tool is called, where the arguments are wrong. */
 static int wrong_use(void)
 {
     fputs(usage, stderr);
