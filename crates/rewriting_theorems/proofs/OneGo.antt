@@ -23,7 +23,7 @@ use Rattle.query_theorems.specs.Calls.{Call}
 use Rattle.rewriting_theorems.specs.Rewriting.{ReadCall, tablesGiven, tablesLeft, givenTo, outputGiven, outputLeft}
 use Rattle.rewriting_theorems.specs.OneGo.{OneGoCall, given, left, LengthCall, newBytes, SizedCall, answerWith, AsByTables, OneGoKeeps}
 use Rattle.rewriting_theorems.proofs.Promises.{tables-left, write-answer, output-left}
-use Rattle.rewriting_theorems.proofs.Rewriting.{front, rewritable-again, stable, new-read, new-asked}
+use Rattle.rewriting_theorems.proofs.Rewriting.{front, rewritable-again, stable, tables-again, new-read, new-asked}
 
 -- ---- the definitions
 
@@ -155,6 +155,7 @@ one-go-keeps f h = record {
   output = output h;
   new = new h;
   reads-again = λ z. new-read h (new h z);
+  tables-again = λ z. tables-again h (new h z);
   asked = λ x z. new-asked h (new h z) x;
   equal-bytes = λ f₂ h₂ z z₂ e. rewriting-keeps f h .equal-bytes f₂ h₂ (sym (new h z) ∙ e ∙ new h₂ z₂);
   equal-records = λ f₂ h₂ z z₂ e. new h z ∙ rewriting-keeps f h .equal-records f₂ h₂ e ∙ sym (new h₂ z₂);
@@ -163,5 +164,9 @@ one-go-keeps f h = record {
       length-told (rewritable-again h (new h z)) m
       ∙ ap (λ (b : List ℕ). LengthAnswer.bytes (length b)) (stable h (new h z) ∙ new h z)
       ∙ sym (length-told h (z .length-call));
+  answer-again = λ z v.
+      answer (rewritable-again h (new h z)) v
+      ∙ ap (λ (b : List ℕ). written (length b)) (stable h (new h z) ∙ new h z)
+      ∙ sym (answer h z);
   unchanged = λ z v. new (rewritable-again h (new h z)) v ∙ stable h (new h z);
 }

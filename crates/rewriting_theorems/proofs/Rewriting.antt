@@ -77,7 +77,7 @@ module _ {f : List ℕ} (h : Rewritable f) {new : List ℕ} (is-new : new ≡ re
   stable = rw is-new (rewriting-keeps f h .stable)
 
   -- nor do its rows need more room
-  tables-again : (tables : Nine (List ℕ)) → Room (tablesOf f) tables → Room (tablesOf new) tables
+  pub tables-again : (tables : Nine (List ℕ)) → Room (tablesOf f) tables → Room (tablesOf new) tables
   tables-again tables room = rw is-new (room-again f h tables room)
 
   -- it is read

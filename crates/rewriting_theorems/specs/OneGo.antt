@@ -8,7 +8,8 @@ use lib.ListN.{length, take, drop}
 use lib.Dec.{eqb}
 use denote.Ref.{now}
 use Rattle.format.specs.Reading.{recordOf}
-use Rattle.format.specs.Refusals.{refusalOf, statedOf, WriteAnswer, written, writtenIn}
+use Rattle.format.specs.Refusals.{refusalOf, statedOf, tablesOf, WriteAnswer, written, writtenIn}
+use Rattle.format.specs.Tables.{Nine, Room}
 use Rattle.encode.specs.Writing.{bytesIn, answerOf as writeAnswerOf}
 use Rattle.encode.proofs.write.write.Reads as write
 use Rattle.rewrite.specs.Rewrite.{LengthAnswer, lengthOf}
@@ -83,6 +84,8 @@ pub record OneGoKeeps (f : List ℕ) : Type 0 where
   pub new : (z : SizedCall f) → newBytes (z .one-go) ≡ rewritten f
   -- 2. and 3. the new file is accepted, and reads to the same scalars and the same rows
   pub reads-again : (z : SizedCall f) (y : ReadCall (newBytes (z .one-go))) → ReadsAgain f y
+  -- tables that suffice for the old file suffice for the new one
+  pub tables-again : (z : SizedCall f) (tables : Nine (List ℕ)) → Room (tablesOf f) tables → Room (tablesOf (newBytes (z .one-go))) tables
   -- 4. every question answers alike from the tables that a reading of the old file filled and those that a reading of the new one filled
   pub asked : (x : ReadCall f) (z : SizedCall f) (y : ReadCall (newBytes (z .one-go)))
       → AskedAlike (handOver (statedOf f) (tablesLeft (x .call))) (handOver (kept (statedOf f)) (tablesLeft (y .call)))
@@ -95,5 +98,7 @@ pub record OneGoKeeps (f : List ℕ) : Type 0 where
   -- 6. the new file is such a file too, and is as long as its own new file
   pub again : (z : SizedCall f) → Rewritable (newBytes (z .one-go))
   pub same-length : (z : SizedCall f) (m : LengthCall (newBytes (z .one-go))) → lengthOf (m .call .result) ≡ lengthOf (z .length-call .call .result)
-  -- and rewriting it changes no byte
+  -- rewriting it succeeds too
+  pub answer-again : (z : SizedCall f) (v : SizedCall (newBytes (z .one-go))) → writeAnswerOf (v .one-go .call .result) ≡ writeAnswerOf (z .one-go .call .result)
+  -- and changes no byte
   pub unchanged : (z : SizedCall f) (v : SizedCall (newBytes (z .one-go))) → newBytes (v .one-go) ≡ newBytes (z .one-go)

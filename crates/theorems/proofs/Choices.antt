@@ -11,7 +11,7 @@ use borrow.Author.Tests.{leb-true, ltb-true, ltb-false, le-leb, lt-ltb, eqb-true
 use Rattle.format.specs.Bytes.{both, pick}
 use Rattle.format.specs.ClipRecord.{Row, atcStcCount, offsetId, stcPacket, streamPid, codingType, pmtPid, mapPid, mapType}
 use Rattle.format.specs.Programs.{isVideo}
-use Rattle.format.specs.Questions.{Answer, none, number, Best, nothing, best, bestOf, firstWhere, rowOr, orElse, isVideoMap, kinds, primaryMap, stcById, stcBySpn, videoPid, ofRow, nextWhere, answer}
+use Rattle.format.specs.Questions.{Answer, none, number, Best, nothing, best, bestOf, firstWhere, rowOr, orElse, isVideoMap, isAudio, kinds, primaryMap, stcById, stcBySpn, videoPid, ofRow, nextWhere, answer}
 use Rattle.format.proofs.Lookups.{not-both, IsFirst, FirstFrom, not-there, there, first-from, LastFrom, last-from, next-is, less-ranks, IsBest, BestUntil, best-is}
 use Rattle.format.proofs.Lookups.{NoRow as NonePasses}
 use Rattle.format.proofs.Tests.{both-true, true-both}
@@ -289,5 +289,7 @@ choices = record {
   stream-by-pid = λ c pid. first-with (c .streams) streamPid refl pid;
   program-by-pid = λ c pid. first-with (c .programs) pmtPid refl pid;
   primary-video-pid = λ c. video-pid (c .streams);
-  next-row = next-row;
+  next-video-stream = λ c from. next-row isVideo from (map codingType (c .streams));
+  next-audio-stream = λ c from. next-row isAudio from (map codingType (c .streams));
+  next-video-map = λ c from. next-row isVideoMap from (kinds (c .maps));
 }

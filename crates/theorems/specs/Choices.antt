@@ -1,12 +1,12 @@
 -- The other lookups that choose a row: the primary map, an STC by id and by packet, a stream by PID, the primary video PID, a program by PMT PID, the next row of a kind.
 use Prim.Native.Nat.{ℕ, _+_, _-_, _%_, _≤_, _<_}
 use mathlib.Core.Path.{_≡_}
-use mathlib.Core.List.{List, []}
+use mathlib.Core.List.{List, [], map}
 use mathlib.Core.Bool.{Bool, true, false}
 use lib.ListN.{length, getD}
 use Rattle.format.specs.ClipRecord.{Row, Clip, atcStcCount, offsetId, stcPacket, streamPid, codingType, pmtPid, mapPid, mapType}
 use Rattle.format.specs.Programs.{isVideo}
-use Rattle.format.specs.Questions.{Answer, none, number, firstRow, isVideoMap, primaryMap, stcById, stcBySpn, streamByPid, primaryVideoPid, programByPmtPid, nextWhere, answer}
+use Rattle.format.specs.Questions.{Answer, none, number, firstRow, isVideoMap, primaryMap, stcById, stcBySpn, streamByPid, primaryVideoPid, programByPmtPid, nextVideoStream, nextAudioStream, nextVideoEpMap, isAudio, kinds, answer}
 use Rattle.format.proofs.Lookups.{IsNext}
 
 -- ---- rows with a property, of n rows
@@ -108,5 +108,7 @@ pub record Choices : Type 0 where
   -- the PID of the first stream that is video
   pub primary-video-pid : (c : Clip)
       → FirstOrNone (length (c .streams)) (λ k. isVideo (codingType (getD (c .streams) k [])) ≡ true) (λ k. streamPid (getD (c .streams) k [])) (answer primaryVideoPid c)
-  -- the next row of a kind, as a column of numbers tells it
-  pub next-row : (test : ℕ → Bool) (from : ℕ) (column : List ℕ) → NextOrNone test from column (nextWhere test from column)
+  -- the next row of a kind
+  pub next-video-stream : (c : Clip) (from : ℕ) → NextOrNone isVideo from (map codingType (c .streams)) (answer (nextVideoStream from) c)
+  pub next-audio-stream : (c : Clip) (from : ℕ) → NextOrNone isAudio from (map codingType (c .streams)) (answer (nextAudioStream from) c)
+  pub next-video-map : (c : Clip) (from : ℕ) → NextOrNone isVideoMap from (kinds (c .maps)) (answer (nextVideoEpMap from) c)
