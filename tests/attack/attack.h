@@ -7,14 +7,14 @@
 enum { MOST_IN = 6, MOST_OUT = 9, MOST_ARGUMENTS = 7, MOST_NUMBERS = 21 };
 
 /* Bytes that are lent to a call. */
-struct lent {
+struct buffer {
     uint8_t *at;
     size_t bytes;
 };
 
 /* What a call is asked. The inputs are copied to the places where they are lent; of an output only the room counts. */
 struct ask {
-    struct lent in[MOST_IN];
+    struct buffer in[MOST_IN];
     uint32_t rows[MOST_IN]; /* stated of each input */
     uint64_t argument[MOST_ARGUMENTS];
     size_t room[MOST_OUT];
@@ -26,7 +26,7 @@ enum kind { NO_ARGUMENT, ROW, BYTE, WORD, CELL, LONG };
 /* An exported call. Its answer is given as numbers, the refusal first. */
 struct call {
     const char *name;
-    void (*run)(const struct ask *a, const struct lent *out, uint64_t *number);
+    void (*run)(const struct ask *a, const struct buffer *out, uint64_t *number);
     int table; /* a question: the number of the first table that it is of; else 0 */
     int ins, outs, numbers;
     uint8_t row_bytes[MOST_IN]; /* 0: a file, of which no rows are stated */

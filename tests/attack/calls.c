@@ -5,7 +5,7 @@
 
 #define SLICE(i) a->in[i].at, a->in[i].bytes
 #define TABLE(i) SLICE(i), a->rows[i]
-#define CALL(name) static void run_##name(const struct ask *a, const struct lent *out, uint64_t *number)
+#define CALL(name) static void run_##name(const struct ask *a, const struct buffer *out, uint64_t *number)
 
 /* The answers as numbers. */
 static void give_answer(uint64_t *number, struct clpi_answer r)

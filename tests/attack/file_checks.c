@@ -41,7 +41,7 @@ static struct ask of_file(const uint8_t *file, size_t bytes)
 {
     struct ask a;
     memset(&a, 0, sizeof a);
-    a.in[0] = (struct lent){(uint8_t *)file, bytes};
+    a.in[0] = (struct buffer){(uint8_t *)file, bytes};
     return a;
 }
 
@@ -166,7 +166,7 @@ static struct ask of_record(const struct record *r)
     struct ask a;
     memset(&a, 0, sizeof a);
     for (int i = 0; i < KEPT; i++) {
-        a.in[i] = (struct lent){r->rows[i], r->bytes[i]};
+        a.in[i] = (struct buffer){r->rows[i], r->bytes[i]};
         a.rows[i] = (uint32_t)r->number[COUNTS + i];
     }
     for (int i = 0; i < 7; i++)
@@ -208,7 +208,7 @@ static struct ask question(const struct call *c, const struct record *r, uint64_
     memset(&a, 0, sizeof a);
     for (int i = 0; i < c->ins; i++) {
         int table = c->table - 1 + i;
-        a.in[i] = (struct lent){r->rows[table], r->bytes[table]};
+        a.in[i] = (struct buffer){r->rows[table], r->bytes[table]};
         a.rows[i] = (uint32_t)r->number[COUNTS + table];
     }
     a.argument[0] = first;
@@ -239,7 +239,7 @@ static void ask_data(const uint8_t *file, size_t bytes, const struct record *r)
         for (size_t less = 0; less < 2; less++) {
             struct ask a = of_file(file, bytes - less);
             struct outcome o;
-            a.in[1] = (struct lent){r->rows[6], r->bytes[6]};
+            a.in[1] = (struct buffer){r->rows[6], r->bytes[6]};
             a.rows[1] = (uint32_t)r->number[COUNTS + 6];
             a.argument[0] = row;
             o = attempt(c, &a);

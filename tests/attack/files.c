@@ -99,7 +99,7 @@ static void look_at_made(void)
     struct ask a;
     struct outcome o;
     memset(&a, 0, sizeof a);
-    a.in[0] = (struct lent){made, made_bytes};
+    a.in[0] = (struct buffer){made, made_bytes};
     for (int i = 0; i < 9; i++)
         a.room[i] = 100;
     o = attempt(call_named("clpi_read"), &a);

@@ -111,8 +111,8 @@ static void attack_data(const struct call *c)
             memset(table[1], 0xFF, sizeof table[1]);
             put_cell(table[1] + 16 + 8, places[n % PLACES]);
             put_cell(table[1] + 16 + 12, places[n / PLACES % PLACES]);
-            a.in[0] = (struct lent){file, (size_t)(n / PLACES / PLACES)};
-            a.in[1] = (struct lent){table[1], 32 + row};
+            a.in[0] = (struct buffer){file, (size_t)(n / PLACES / PLACES)};
+            a.in[1] = (struct buffer){table[1], 32 + row};
             a.rows[1] = 2;
             a.argument[0] = row == 2 ? 0xFFFFFFFFu : row;
             if (!is_short || any() % 20 == 0)

@@ -18,7 +18,7 @@ static struct ask good(void)
     memset(table, 0, sizeof table);
     for (int i = 0; i < TABLES; i++) {
         memcpy(table[i], rows[i], 4u * cells_of[i]);
-        a.in[i] = (struct lent){table[i], 4u * cells_of[i]};
+        a.in[i] = (struct buffer){table[i], 4u * cells_of[i]};
         a.rows[i] = 1;
     }
     a.room[0] = 400;

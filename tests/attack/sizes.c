@@ -9,7 +9,7 @@ static const size_t about_2_32[] = {0xFFFFFFFFu, 0x100000000u, 0x100000001u, 0x1
 enum { LENGTHS = sizeof about_2_32 / sizeof *about_2_32 };
 
 /* Runs a call where its memory stands, and gives the answer. */
-static void run_there(const char *name, const struct ask *a, const struct lent *out, uint64_t *number)
+static void run_there(const char *name, const struct ask *a, const struct buffer *out, uint64_t *number)
 {
     memset(number, 0, MOST_NUMBERS * sizeof *number);
     attempts++;
@@ -23,7 +23,7 @@ static void long_file(size_t bytes, uint64_t wanted)
     static const char *const names[] = {"clpi_read", "clpi_rewritten_length", "clpi_rewrite"};
     uint8_t *file = wide(bytes, 1), output[242];
     struct ask a;
-    struct lent out[MOST_OUT] = {{output, sizeof output}};
+    struct buffer out[MOST_OUT] = {{output, sizeof output}};
     uint64_t number[MOST_NUMBERS];
     if (!file) {
         printf("no memory for a file of %zu bytes: left out\n", bytes);
@@ -34,7 +34,7 @@ static void long_file(size_t bytes, uint64_t wanted)
     put_be(file + 8, (uint32_t)bytes - 6, 4);
     put_be(file + 12, (uint32_t)bytes - 6, 4);
     put_be(file + 40, (uint32_t)bytes - 44, 4);
-    a.in[0] = (struct lent){file, bytes};
+    a.in[0] = (struct buffer){file, bytes};
     for (int i = 0; i < 3; i++) {
         memset(output, 0xA5, sizeof output);
         run_there(names[i], &a, out, number);
@@ -60,7 +60,7 @@ static void long_tables(size_t bytes)
             continue;
         memset(&a, 0, sizeof a);
         for (int k = 0; k < calls[i].ins; k++)
-            a.in[k] = (struct lent){zeros, bytes};
+            a.in[k] = (struct buffer){zeros, bytes};
         a.rows[0] = 3;
         run_there(calls[i].name, &a, NULL, number);
         must(number[0] == 0, "rows that are there are refused");
@@ -76,7 +76,7 @@ static void long_outputs(size_t bytes)
 {
     uint8_t file[256], *output = wide(bytes, 1);
     struct ask a;
-    struct lent out[MOST_OUT] = {{output, bytes}};
+    struct buffer out[MOST_OUT] = {{output, bytes}};
     uint64_t number[MOST_NUMBERS];
     if (!output) {
         printf("no memory for an output of %zu bytes: left out\n", bytes);
@@ -88,7 +88,7 @@ static void long_outputs(size_t bytes)
     put_be(file + 8, 200, 4);
     put_be(file + 12, 240, 4);
     file[205] = 1;
-    a.in[0] = (struct lent){file, sizeof file};
+    a.in[0] = (struct buffer){file, sizeof file};
     run_there("clpi_read", &a, out, number);
     must(number[0] == 0 && number[11] == 1, "a table of about 2^32 bytes is not filled");
     run_there("clpi_rewrite", &a, out, number);
@@ -112,11 +112,11 @@ static void last_row(const char *name, uint8_t row_bytes, uint32_t cell, uint64_
     memset(&a, 0, sizeof a);
     memset(head + (row_bytes == 16 ? 4 : 8), 0xFF, 4);
     rows[bytes - row_bytes + cell * 4] = 77;
-    a.in[0] = (struct lent){head, sizeof head};
+    a.in[0] = (struct buffer){head, sizeof head};
     a.rows[0] = 1;
     if (call_named(name)->row_of == 1)
-        a.in[0] = (struct lent){file, 1};
-    a.in[two] = (struct lent){rows, bytes};
+        a.in[0] = (struct buffer){file, 1};
+    a.in[two] = (struct buffer){rows, bytes};
     a.rows[two] = 0xFFFFFFFFu;
     a.argument[0] = two && call_named(name)->row_of == 0 ? 0 : 0xFFFFFFFEu;
     run_there(name, &a, NULL, number);

@@ -80,9 +80,9 @@ void prepare(void)
 /* ---- places */
 
 /* Lends so many bytes of an arena, with bytes around them that must stay. No bytes are lent at NULL too. */
-static struct lent lend(uint8_t *arena, size_t bytes, enum place place, size_t offset)
+static struct buffer buffer_in(uint8_t *arena, size_t bytes, enum place place, size_t offset)
 {
-    struct lent l = {arena, bytes};
+    struct buffer l = {arena, bytes};
     must(bytes <= ARENA - 3 * MARGIN, "the attack has no room for it");
     if (place == ON_HEAP) {
         l.at = malloc(bytes);
@@ -108,7 +108,7 @@ static int is_all(const uint8_t *at, size_t bytes, uint8_t value)
 }
 
 /* Sees that what is around lent bytes is as it was. */
-static void look_around(struct lent l, enum place place)
+static void look_around(struct buffer l, enum place place)
 {
     if (place == ON_HEAP || !l.at)
         return;
@@ -213,7 +213,7 @@ static void look_at_inputs(const struct call *c, const struct ask *a, const stru
 /* Sees that an output is as it was behind the rows, and that these are those of the first run. On the heap it was left
  * without a value, which valgrind tells if it is looked at. */
 static void look_at_outputs(
-    const struct call *c, const uint64_t *number, const struct lent *out, const struct lent *first, uint8_t fill, enum place place)
+    const struct call *c, const uint64_t *number, const struct buffer *out, const struct buffer *first, uint8_t fill, enum place place)
 {
     for (int i = 0; i < c->outs; i++) {
         size_t bytes = put_out(c, number, i);
@@ -228,22 +228,22 @@ static void look_at_outputs(
 
 /* Copies the inputs to where they are lent, and fills the outputs. */
 static void place_all(
-    const struct call *c, const struct ask *a, struct ask *placed, struct lent *out, int set, enum place place, uint8_t fill)
+    const struct call *c, const struct ask *a, struct ask *placed, struct buffer *out, int set, enum place place, uint8_t fill)
 {
     for (int i = 0; i < c->ins; i++) {
-        placed->in[i] = lend(arena_in[i], a->in[i].bytes, place, (attempts + (unsigned)i) % 8);
+        placed->in[i] = buffer_in(arena_in[i], a->in[i].bytes, place, (attempts + (unsigned)i) % 8);
         if (a->in[i].bytes > 0)
             memcpy(placed->in[i].at, a->in[i].at, a->in[i].bytes);
     }
     for (int i = 0; i < c->outs; i++) {
-        out[i] = lend(arena_out[set][i], a->room[i], place, (attempts + (unsigned)i * 3) % 8);
+        out[i] = buffer_in(arena_out[set][i], a->room[i], place, (attempts + (unsigned)i * 3) % 8);
         if (place != ON_HEAP && a->room[i] > 0)
             memset(out[i].at, fill, a->room[i]);
     }
 }
 
 /* Gives back what was lent on the heap. */
-static void free_all(const struct call *c, const struct ask *placed, const struct lent *out)
+static void free_all(const struct call *c, const struct ask *placed, const struct buffer *out)
 {
     for (int i = 0; i < c->ins; i++)
         free(placed->in[i].at);
@@ -253,7 +253,7 @@ static void free_all(const struct call *c, const struct ask *placed, const struc
 
 /* Makes an ask once, and looks at all that it may have done. */
 static void run_once(
-    const struct call *c, const struct ask *a, int nth, enum place place, struct lent *out, const struct lent *first,
+    const struct call *c, const struct ask *a, int nth, enum place place, struct buffer *out, const struct buffer *first,
     uint64_t *number)
 {
     struct ask placed = *a;
@@ -271,7 +271,7 @@ static void run_once(
 struct outcome attempt(const struct call *c, const struct ask *a)
 {
     struct outcome o;
-    struct lent first[MOST_OUT] = {{NULL, 0}}, out[MOST_OUT];
+    struct buffer first[MOST_OUT] = {{NULL, 0}}, out[MOST_OUT];
     uint64_t number[MOST_NUMBERS];
     running = c;
     attempts++;
