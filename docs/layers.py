@@ -2,14 +2,18 @@
 """Draws the layers of crates.txt as docs/layers.svg, and checks them.
 
 Every crate stands in one box of LAYERS, and depends only on crates of its own box, of its layer, or of a layer below.
+Bytes are stored into a slice by the crates of STORES alone.
 Without words it writes the picture; with --check it writes nothing, and fails where the picture is not what it would write.
 """
 import html
+import re
 import sys
 from pathlib import Path
 
 HERE = Path(__file__).resolve().parent
 KIT = {"io", "libc", "os"}
+# Table cells; the bytes of a new file; text.
+STORES = {"cells", "numbers", "text_lines"}
 
 # From the top: the name of a layer, then its boxes, each a title with its crates.
 LAYERS = [
@@ -81,6 +85,14 @@ def check(depends):
                 sys.exit(f"layers: {name} depends on {other}, which stands above it")
 
 
+def check_stores():
+    """No other crate stores into a slice by its own hand."""
+    for source in sorted((HERE.parent / "crates").glob("*/src/**/*.rt")):
+        crate = source.relative_to(HERE.parent / "crates").parts[0]
+        if crate not in STORES and re.search(r"(?m)^\s*\w+\[[^\]]*\] [-+*/|&^]?= ", source.read_text()):
+            sys.exit(f"layers: {crate} stores bytes itself, which {', '.join(sorted(STORES))} do for all")
+
+
 def wrapped(names, width):
     """The names in lines of at most that width."""
     lines = [""]
@@ -128,6 +140,7 @@ def drawn():
 
 def main():
     check(crates())
+    check_stores()
     picture = HERE / "layers.svg"
     if sys.argv[1:] == ["--check"]:
         if not picture.exists() or picture.read_text() != drawn():

@@ -11,6 +11,7 @@ use clpi_answers::answer_of;
 use clpi_answers::part::ClpiPart;
 use clpi_answers::part::part_of;
 use extension_entry::data_place;
+use extension_queries::entry;
 
 // The place of the data of a row of table 7, for any rows stated to be in it and any row number.
 #[no_mangle]
@@ -35,5 +36,5 @@ pub extern "C" fn clpi_extension_entry(
 ) -> ClpiAnswer
     ensures { λ r. ⌜ foundNumbers r ≡ answerNumbers (askEntry (stated (now (extensions .entry)) rows) id1 id2) ⌝ }
 {
-    answer_of(extension_queries::entry(extensions, rows, id1, id2))
+    answer_of(entry(extensions, rows, id1, id2))
 }

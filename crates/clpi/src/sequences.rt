@@ -5,12 +5,20 @@ ghost use Rattle.format.specs.Tables.{stcCells};
 ghost use Rattle.queries.specs.Asked.{stated, onlyStcs, atcsAndStcs};
 ghost use Rattle.table_rows.specs.OwnRows.{ownedRows, ownedNumbers};
 ghost use Rattle.clpi_answers.specs.Numbers.{foundNumbers, rowsNumbers};
+use atc_queries::stc_sequence_by_id;
+use atc_queries::stc_sequence_for_spn;
+use atc_queries::stcs_of_atc;
 use clpi_answers::ClpiAnswer;
 use clpi_answers::ClpiRows;
 use clpi_answers::answer_of;
 use clpi_answers::answer_of_45;
 use clpi_answers::answer_of_90;
 use clpi_answers::rows_of;
+use sequence_queries::duration_45k;
+use sequence_queries::duration_90k;
+use sequence_queries::first_stc_sequence;
+use sequence_queries::minutes_remaining;
+use sequence_queries::presentation_span_90k;
 use ticks::Ticks90;
 
 // Minutes remaining at a 90 kHz time.
@@ -18,7 +26,7 @@ use ticks::Ticks90;
 pub extern "C" fn clpi_minutes_remaining(stcs: &[u8], rows: u32, at_90k: u64) -> ClpiAnswer
     ensures { λ r. ⌜ foundNumbers r ≡ answerNumbers (ask (minutesRemaining (record { ticks = «at_90k» })) (onlyStcs (stated (now (stcs .entry)) rows))) ⌝ }
 {
-    answer_of(sequence_queries::minutes_remaining(stcs, rows, Ticks90(at_90k)))
+    answer_of(minutes_remaining(stcs, rows, Ticks90(at_90k)))
 }
 
 // The presentation span in 90 kHz ticks.
@@ -26,7 +34,7 @@ pub extern "C" fn clpi_minutes_remaining(stcs: &[u8], rows: u32, at_90k: u64) ->
 pub extern "C" fn clpi_presentation_span_90k(stcs: &[u8], rows: u32) -> ClpiAnswer
     ensures { λ r. ⌜ foundNumbers r ≡ answerNumbers (ask presentationSpan90k (onlyStcs (stated (now (stcs .entry)) rows))) ⌝ }
 {
-    answer_of_90(sequence_queries::presentation_span_90k(stcs, rows))
+    answer_of_90(presentation_span_90k(stcs, rows))
 }
 
 // How long an STC is, in 45 kHz ticks.
@@ -34,7 +42,7 @@ pub extern "C" fn clpi_presentation_span_90k(stcs: &[u8], rows: u32) -> ClpiAnsw
 pub extern "C" fn clpi_duration_45k(stcs: &[u8], rows: u32, stc: u32) -> ClpiAnswer
     ensures { λ r. ⌜ foundNumbers r ≡ answerNumbers (ask (duration45k stc) (onlyStcs (stated (now (stcs .entry)) rows))) ⌝ }
 {
-    answer_of_45(sequence_queries::duration_45k(stcs, rows, stc))
+    answer_of_45(duration_45k(stcs, rows, stc))
 }
 
 // How long an STC is, in 90 kHz ticks.
@@ -42,7 +50,7 @@ pub extern "C" fn clpi_duration_45k(stcs: &[u8], rows: u32, stc: u32) -> ClpiAns
 pub extern "C" fn clpi_duration_90k(stcs: &[u8], rows: u32, stc: u32) -> ClpiAnswer
     ensures { λ r. ⌜ foundNumbers r ≡ answerNumbers (ask (duration90k stc) (onlyStcs (stated (now (stcs .entry)) rows))) ⌝ }
 {
-    answer_of_90(sequence_queries::duration_90k(stcs, rows, stc))
+    answer_of_90(duration_90k(stcs, rows, stc))
 }
 
 // The row of the first STC.
@@ -50,7 +58,7 @@ pub extern "C" fn clpi_duration_90k(stcs: &[u8], rows: u32, stc: u32) -> ClpiAns
 pub extern "C" fn clpi_first_stc_sequence(stcs: &[u8], rows: u32) -> ClpiAnswer
     ensures { λ r. ⌜ foundNumbers r ≡ answerNumbers (ask firstStcSequence (onlyStcs (stated (now (stcs .entry)) rows))) ⌝ }
 {
-    answer_of(sequence_queries::first_stc_sequence(stcs, rows))
+    answer_of(first_stc_sequence(stcs, rows))
 }
 
 // The STCs of an ATC: the first and how many.
@@ -64,7 +72,7 @@ pub extern "C" fn clpi_stcs_of_atc(
 ) -> ClpiRows
     ensures { λ r. ⌜ rowsNumbers r ≡ ownedNumbers (ownedRows 1 stcCells (stated (now (atcs .entry)) «atc_rows») (stated (now (stcs .entry)) «stc_rows») atc) ⌝ }
 {
-    rows_of(atc_queries::stcs_of_atc(atcs, atc_rows, stcs, stc_rows, atc))
+    rows_of(stcs_of_atc(atcs, atc_rows, stcs, stc_rows, atc))
 }
 
 // The row of the STC with an id, through all ATCs.
@@ -78,7 +86,7 @@ pub extern "C" fn clpi_stc_sequence_by_id(
 ) -> ClpiAnswer
     ensures { λ r. ⌜ foundNumbers r ≡ answerNumbers (ask (stcSequenceById id) (atcsAndStcs (stated (now (atcs .entry)) «atc_rows») (stated (now (stcs .entry)) «stc_rows»))) ⌝ }
 {
-    answer_of(atc_queries::stc_sequence_by_id(atcs, atc_rows, stcs, stc_rows, id))
+    answer_of(stc_sequence_by_id(atcs, atc_rows, stcs, stc_rows, id))
 }
 
 // The row of the STC of a packet in one ATC, through all ATCs.
@@ -93,5 +101,5 @@ pub extern "C" fn clpi_stc_sequence_for_spn(
 ) -> ClpiAnswer
     ensures { λ r. ⌜ foundNumbers r ≡ answerNumbers (ask (stcSequenceForSpn atc spn) (atcsAndStcs (stated (now (atcs .entry)) «atc_rows») (stated (now (stcs .entry)) «stc_rows»))) ⌝ }
 {
-    answer_of(atc_queries::stc_sequence_for_spn(atcs, atc_rows, stcs, stc_rows, atc, spn))
+    answer_of(stc_sequence_for_spn(atcs, atc_rows, stcs, stc_rows, atc, spn))
 }

@@ -7,12 +7,12 @@ use native.Mathlib.Omega.{arith}
 use lib.ListN.{length, length-append}
 use lib.Seq.{sets}
 use Rattle.format.specs.Bytes.{bytesOf, widthOf, fieldBytes}
-use Rattle.format.specs.ClipRecord.{Scalars, Clip}
+use Rattle.format.specs.ClipRecord.{Scalars}
 use Rattle.format.specs.Rewriting.{headBytes, marksBytes}
 use Rattle.format.proofs.Numbers.{bytes-length}
 use Rattle.format.proofs.Loops.{put-more}
 use Rattle.format.proofs.Stores.{sets-append, bytes-parts}
-use Rattle.encode_head.specs.Heads.{headerWidths, headerNumbers, infoWidths, infoNumbers, headOf}
+use Rattle.encode_head.specs.Heads.{headerWidths, headerNumbers, infoWidths, infoNumbers}
 
 -- zeros: one, and the rest
 zeros-more : (n : ℕ) → bytesOf (1 + n) 0 ≡ bytesOf 1 0 ++ bytesOf n 0
@@ -59,12 +59,12 @@ fields-length (w ∷ ws) (v ∷ vs) e = rw (length-append (bytesOf w v) (fieldBy
 
 -- the header, and ClipInfo behind it
 pub head-parts : (s : Scalars) (programs cpi marks : ℕ)
-    → headOf s programs cpi marks ≡ fieldBytes headerWidths (headerNumbers (s .version) programs cpi marks) ++ fieldBytes infoWidths (infoNumbers s)
-unfolding headOf
+    → headBytes s programs cpi marks ≡ fieldBytes headerWidths (headerNumbers (s .version) programs cpi marks) ++ fieldBytes infoWidths (infoNumbers s)
+unfolding headBytes
 head-parts s programs cpi marks = fields-append headerWidths (headerNumbers (s .version) programs cpi marks) infoWidths (infoNumbers s) refl
 
 -- 220 bytes
-pub head-length : (s : Scalars) (programs cpi marks : ℕ) → length (headOf s programs cpi marks) ≡ 220
+pub head-length : (s : Scalars) (programs cpi marks : ℕ) → length (headBytes s programs cpi marks) ≡ 220
 head-length s programs cpi marks =
     let front = fieldBytes headerWidths (headerNumbers (s .version) programs cpi marks) in
     let info = fieldBytes infoWidths (infoNumbers s) in
@@ -75,17 +75,12 @@ head-length s programs cpi marks =
 -- the header stored, and ClipInfo behind it
 pub head-stored : (s : Scalars) (programs cpi marks : ℕ) (l : List ℕ) {l′ l″ : List ℕ}
     → l′ ≡ sets l 0 (fieldBytes headerWidths (headerNumbers (s .version) programs cpi marks)) → l″ ≡ sets l′ 40 (fieldBytes infoWidths (infoNumbers s))
-    → l″ ≡ sets l 0 (headOf s programs cpi marks)
+    → l″ ≡ sets l 0 (headBytes s programs cpi marks)
 head-stored s programs cpi marks l e f =
     let front = fieldBytes headerWidths (headerNumbers (s .version) programs cpi marks) in
     let forty : length front ≡ 40 = fields-length headerWidths (headerNumbers (s .version) programs cpi marks) refl in
     let long : 0 + length front ≡ 40 = omega (arith, forty) in
     f ∙ rw (e, head-parts s programs cpi marks, sets-append l 0 front (fieldBytes infoWidths (infoNumbers s)), long)
-
--- the head of a record
-pub head-is : (c : Clip) (programs cpi marks : ℕ) → headBytes c programs cpi marks ≡ headOf (c .scalars) programs cpi marks
-unfolding headBytes headOf
-head-is c programs cpi marks = refl
 
 -- empty marks have 6 bytes
 pub marks-length : length marksBytes ≡ 6

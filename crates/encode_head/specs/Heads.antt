@@ -1,9 +1,7 @@
 -- The first 220 bytes of a written file, in two parts: the header, and ClipInfo behind its length.
 use Prim.Native.Nat.{ℕ}
 use mathlib.Core.List.{List, [], _∷_}
-use Rattle.format.specs.Bytes.{fieldBytes}
 use Rattle.format.specs.ClipRecord.{clpi, Scalars}
-use Rattle.format.specs.Rewriting.{headWidths}
 
 -- letters, version, five starts and 12 spare bytes
 abbrev pub headerWidths : List ℕ
@@ -26,11 +24,3 @@ infoWidths = 4 ∷ 2 ∷ 1 ∷ 1 ∷ 4 ∷ 4 ∷ 4 ∷ 128 ∷ formatWidths
 abbrev pub infoNumbers : Scalars → List ℕ
 infoNumbers s =
     176 ∷ 0 ∷ s .streamType ∷ s .applicationType ∷ 0 ∷ s .rate ∷ s .packets ∷ 0 ∷ formatNumbers s
-
--- the head of a record's file, by its scalars
-unfoldable pub headOf : Scalars → (programs cpi marks : ℕ) → List ℕ
-headOf s programs cpi marks =
-    fieldBytes headWidths
-    (clpi ∷ s .version ∷ 220 ∷ programs ∷ cpi ∷ marks ∷ 0 ∷ 0
-    ∷ 176 ∷ 0 ∷ s .streamType ∷ s .applicationType ∷ 0 ∷ s .rate ∷ s .packets ∷ 0
-    ∷ s .validityFlags ∷ 0 ∷ s .formatId ∷ 0 ∷ [])

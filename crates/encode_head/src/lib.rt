@@ -5,8 +5,9 @@ ghost use Prim.Native.Nat.{_+_, _≤_};
 ghost use lib.ListN.{length};
 ghost use lib.Seq.{sets};
 ghost use Rattle.format.specs.Bytes.{bytesOf, fieldBytes};
+ghost use Rattle.format.specs.Rewriting.{headBytes};
 ghost use Rattle.clip_information.specs.Read.{scalarsBy};
-ghost use Rattle.encode_head.specs.Heads.{headerWidths, headerNumbers, formatWidths, formatNumbers, infoWidths, infoNumbers, headOf};
+ghost use Rattle.encode_head.specs.Heads.{headerWidths, headerNumbers, formatWidths, formatNumbers, infoWidths, infoNumbers};
 use clip_sections::info::ClipInfo;
 use numbers::put_u8;
 use numbers::put_u16;
@@ -72,7 +73,7 @@ fn put_clip_info(info: ClipInfo, out: &mut [u8])
 // The first 220 bytes, with the starts of programs, CPI and marks; the sequences start behind them.
 pub fn put_head(info: ClipInfo, programs: u32, cpi: u32, marks: u32, out: &mut [u8])
     requires { ⌜ 220 ≤ length (now out) ⌝ }
-    ensures { λ _. ⌜ now (out .exit) ≡ sets (now (out .entry)) 0 (headOf (scalarsBy info) programs cpi marks) ⌝ }
+    ensures { λ _. ⌜ now (out .exit) ≡ sets (now (out .entry)) 0 (headBytes (scalarsBy info) programs cpi marks) ⌝ }
 {
     put_header(info.version, programs, cpi, marks, out);
     put_clip_info(info, out);

@@ -10,15 +10,14 @@ use Rattle.format.specs.Rewriting.{headBytes, sequencesBytes, programsBytes, cp
 use Rattle.format.proofs.Good.{GoodClip}
 use Rattle.format.proofs.Lengths.{sequences-bound, programs-bound, cpi-bound}
 use Rattle.format.proofs.Stores.{part-then}
-use Rattle.encode_head.specs.Heads.{headOf}
-use Rattle.encode_head.proofs.Laws.{head-is, head-length, marks-length}
+use Rattle.encode_head.proofs.Laws.{head-length, marks-length}
 use Rattle.encode_measure.specs.Places.{programsPlace, cpiPlace, marksPlace, Placed}
 
 -- the new file, with the places of its sections
 pub encode-is : (c : Clip)
-    → encode c ≡ headOf (c .scalars) (programsPlace c) (cpiPlace c) (marksPlace c) ++ (sequencesBytes c ++ (programsBytes c ++ (cpiBytes c ++ marksBytes)))
+    → encode c ≡ headBytes (c .scalars) (programsPlace c) (cpiPlace c) (marksPlace c) ++ (sequencesBytes c ++ (programsBytes c ++ (cpiBytes c ++ marksBytes)))
 unfolding encode programsPlace cpiPlace marksPlace
-encode-is c = ap (λ (h : List ℕ). h ++ (sequencesBytes c ++ (programsBytes c ++ (cpiBytes c ++ marksBytes)))) (head-is c _ _ _)
+encode-is c = refl
 
 -- the places, as sums
 pub place-programs : (c : Clip) → programsPlace c ≡ 220 + length (sequencesBytes c)
@@ -36,7 +35,7 @@ place-marks c = refl
 -- and its length: the marks are its last 6 bytes
 pub encode-length : (c : Clip) → length (encode c) ≡ marksPlace c + 6
 encode-length c =
-    let head = headOf (c .scalars) (programsPlace c) (cpiPlace c) (marksPlace c) in
+    let head = headBytes (c .scalars) (programsPlace c) (cpiPlace c) (marksPlace c) in
     rw (
       encode-is c,
       length-append head (sequencesBytes c ++ (programsBytes c ++ (cpiBytes c ++ marksBytes))),
@@ -50,11 +49,11 @@ encode-length c =
 
 -- stored one behind the other, the parts are the file
 pub parts-stored : (c : Clip) (l : List ℕ) {l₁ l₂ l₃ l₄ l₅ : List ℕ}
-    → l₁ ≡ sets l 0 (headOf (c .scalars) (programsPlace c) (cpiPlace c) (marksPlace c)) → l₂ ≡ sets l₁ 220 (sequencesBytes c)
+    → l₁ ≡ sets l 0 (headBytes (c .scalars) (programsPlace c) (cpiPlace c) (marksPlace c)) → l₂ ≡ sets l₁ 220 (sequencesBytes c)
     → l₃ ≡ sets l₂ (programsPlace c) (programsBytes c) → l₄ ≡ sets l₃ (cpiPlace c) (cpiBytes c) → l₅ ≡ sets l₄ (marksPlace c) marksBytes
     → l₅ ≡ sets l 0 (encode c)
 parts-stored c l e₁ e₂ e₃ e₄ e₅ =
-    let head = headOf (c .scalars) (programsPlace c) (cpiPlace c) (marksPlace c) in
+    let head = headBytes (c .scalars) (programsPlace c) (cpiPlace c) (marksPlace c) in
     let first : 0 + length head ≡ 220 = omega (arith, head-length (c .scalars) (programsPlace c) (cpiPlace c) (marksPlace c)) in
     let four = part-then _ (cpiPlace c) _ (cpiBytes c) marksBytes refl (place-marks c) e₄ e₅ in
     let three = part-then _ (programsPlace c) _ (programsBytes c) (cpiBytes c ++ marksBytes) refl (place-cpi c) e₃ four in
@@ -63,7 +62,7 @@ parts-stored c l e₁ e₂ e₃ e₄ e₅ =
 
 -- the same, from places that are told
 pub placed-stored : (c : Clip) {programs cpi marks bytes : ℕ} → Placed c programs cpi marks bytes → (l : List ℕ) {l₁ l₂ l₃ l₄ l₅ : List ℕ}
-    → l₁ ≡ sets l 0 (headOf (c .scalars) programs cpi marks) → l₂ ≡ sets l₁ 220 (sequencesBytes c) → l₃ ≡ sets l₂ programs (programsBytes c)
+    → l₁ ≡ sets l 0 (headBytes (c .scalars) programs cpi marks) → l₂ ≡ sets l₁ 220 (sequencesBytes c) → l₃ ≡ sets l₂ programs (programsBytes c)
     → l₄ ≡ sets l₃ cpi (cpiBytes c) → l₅ ≡ sets l₄ marks marksBytes → l₅ ≡ sets l 0 (encode c)
 placed-stored c at l e₁ e₂ e₃ e₄ e₅ =
     parts-stored c l (rw (at .programs-at, at .cpi-at, at .marks-at) at e₁) e₂ (rw (at .programs-at) at e₃) (rw (at .cpi-at) at e₄) (rw (at .marks-at) at e₅)

@@ -24,11 +24,11 @@ use Rattle.format.proofs.Numbers.{Stands, left, right, bytes-length, Fi
 use Rattle.format.proofs.Sections.{sequences-back, programs-back}
 use Rattle.format.proofs.Tests.{true-both, pass}
 
-head-fill : (c : Clip) (pr cp mk : ℕ) → GoodClip 65535 c → pr < 2 ^ 32 → cp < 2 ^ 32 → mk < 2 ^ 32 → Fill headWidths (headValues c pr cp mk)
+head-fill : (c : Clip) (pr cp mk : ℕ) → GoodClip 65535 c → pr < 2 ^ 32 → cp < 2 ^ 32 → mk < 2 ^ 32 → Fill headWidths (headValues (c .scalars) pr cp mk)
 head-fill c pr cp mk g h0 h1 h2 = go (g .scalars)
   where
     go : Fit (32 ∷ 8 ∷ 8 ∷ 32 ∷ 32 ∷ 8 ∷ 32 ∷ []) (c .scalars .version ∷ c .scalars .streamType ∷ c .scalars .applicationType ∷ c .scalars .rate ∷ c .scalars .packets ∷ c .scalars .validityFlags ∷ c .scalars .formatId ∷ [])
-        → Fill headWidths (headValues c pr cp mk)
+        → Fill headWidths (headValues (c .scalars) pr cp mk)
     go (one v0 (one v1 (one v2 (one v3 (one v4 (one v5 (one v6 Fit.none))))))) =
         fill 4 0x434C5049 (lit< tt) (fill 4 (c .scalars .version) v0 (fill 4 220 (lit< tt) (fill 4 pr h0 (fill 4 cp h1 (fill 4 mk h2 (fill 4 0 (lit< tt)
         (fill 12 0 (lit< tt) (fill 4 176 (lit< tt) (fill 2 0 (lit< tt) (fill 1 (c .scalars .streamType) v1 (fill 1 (c .scalars .applicationType) v2 (fill 4 0 (lit< tt)
@@ -45,7 +45,7 @@ record Facts (c : Clip) (g : List ℕ) (pr cp mk : ℕ) : Type 0 where
   pr-is : pr ≡ 220 + length (sequencesBytes c)
   cp-is : cp ≡ pr + length (programsBytes c)
   mk-is : mk ≡ cp + length (cpiBytes c)
-  head : fieldsAt g 0 headWidths ≡ headValues c pr cp mk
+  head : fieldsAt g 0 headWidths ≡ headValues (c .scalars) pr cp mk
   sequences-at : Stands g 220 (sequencesBytes c)
   programs-at : Stands g pr (programsBytes c)
   cpi-at : Stands g cp (cpiBytes c)
@@ -68,7 +68,7 @@ module _ (c : Clip) (good : GoodClip 65535 c) where
       let pb = programs-bound c good in
       let cb = cpi-bound c good in
       let f = head-fill c pr cp mk good (omega arith) (omega arith) (omega arith) in
-      let h = fieldBytes headWidths (headValues c pr cp mk) in
+      let h = fieldBytes headWidths (headValues (c .scalars) pr cp mk) in
       let hl : length h ≡ 220 = fields-length f in
       let sq = sequencesBytes c in
       let pg = programsBytes c in
@@ -96,7 +96,7 @@ module _ (c : Clip) (good : GoodClip 65535 c) where
 -- ---- what is read of it
 
 module _ (c : Clip) (good : GoodClip 65535 c) where
-  at : (i : ℕ) → getD (fieldsAt (encode c) 0 headWidths) i 0 ≡ getD (headValues c (pr c good) (cp c good) (mk c good)) i 0
+  at : (i : ℕ) → getD (fieldsAt (encode c) 0 headWidths) i 0 ≡ getD (headValues (c .scalars) (pr c good) (cp c good) (mk c good)) i 0
   at i = ap (λ (l : List ℕ). getD l i 0) (facts c good .head)
 
   pub is-short : length (encode c) ≤ 402515706

@@ -9,7 +9,7 @@ use lib.Seq.{take-at, drop-at, length-take-le}
 use lib.Dec.{leb, eqb, lit<}
 use borrow.Author.Tests.{eqb-true, eq-eqb, leb-true, le-leb}
 use Rattle.format.specs.Bytes.{IsBytes, every, bytesOf, fieldBytes, packed, flat, total}
-use Rattle.format.specs.ClipRecord.{Row, Clip, atcStcCount, streamCount, codingType, aspect, language, mapType, entryCount, time, entryType}
+use Rattle.format.specs.ClipRecord.{Row, Scalars, Clip, atcStcCount, streamCount, codingType, aspect, language, mapType, entryCount, time, entryType}
 use Rattle.format.specs.EntryPoints.{coarseWidths, fineWidths, headerWidths}
 use Rattle.format.specs.Programs.{isVideo}
 use Rattle.format.specs.Refusals.{countsAdd, atcFits, stcFits, programFits, streamFits, mapFits, entryFits, everyMap, cellsFit, runsFit, writeRefusal}
@@ -92,9 +92,9 @@ cpi-bytes (m ∷ ms) es =
     all-append (field-bytes (4 ∷ 2 ∷ 1 ∷ 1 ∷ []) ((4 + 12 * n + length rows) ∷ 1 ∷ 0 ∷ n ∷ []))
     (all-append (headers-bytes (m ∷ ms) es (2 + 12 * n)) (bodies-bytes (m ∷ ms) es))
 
-head-bytes : (c : Clip) (a b d : ℕ) → All Byte (headBytes c a b d)
+head-bytes : (s : Scalars) (a b d : ℕ) → All Byte (headBytes s a b d)
 unfolding headBytes
-head-bytes c a b d = field-bytes headWidths (headValues c a b d)
+head-bytes s a b d = field-bytes headWidths (headValues s a b d)
 
 all-bytes : (c : Clip) → All Byte (encode c)
 unfolding encode cpiBytes
@@ -102,7 +102,7 @@ all-bytes c =
     let a = 220 + length (sequencesBytes c) in
     let b = a + length (programsBytes c) in
     let d = b + length (cpiBytes c) in
-    all-append (head-bytes c a b d) (all-append (sequences-bytes c) (all-append (programs-bytes c) (all-append (cpi-bytes (c .maps) (c .entries))
+    all-append (head-bytes (c .scalars) a b d) (all-append (sequences-bytes c) (all-append (programs-bytes c) (all-append (cpi-bytes (c .maps) (c .entries))
     (field-bytes (4 ∷ 2 ∷ []) (2 ∷ 0 ∷ [])))))
 
 all-is : {f : List ℕ} → All Byte f → IsBytes f

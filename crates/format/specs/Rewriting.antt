@@ -5,7 +5,7 @@ use mathlib.Core.Bool.{Bool, true, false}
 use lib.ListN.{length, getD, take, drop}
 use lib.Dec.{eqb}
 use Rattle.format.specs.Bytes.{both, bytesOf, fieldBytes, packed, flat}
-use Rattle.format.specs.ClipRecord.{clpi, Row, Clip, atcStcCount, streamCount, streamPid, codingType, formatByte, aspect, language, mapPid, mapType, entryCount, angle, iEnd, time, packet}
+use Rattle.format.specs.ClipRecord.{clpi, Row, Scalars, Clip, atcStcCount, streamCount, streamPid, codingType, formatByte, aspect, language, mapPid, mapType, entryCount, angle, iEnd, time, packet}
 use Rattle.format.specs.Programs.{isVideo}
 use Rattle.format.specs.EntryPoints.{coarseWidths, fineWidths, headerWidths}
 
@@ -131,14 +131,14 @@ cpiBytes c = cpiBytesBy (c .maps) (c .entries)
 abbrev pub headWidths : List ℕ
 headWidths = 4 ∷ 4 ∷ 4 ∷ 4 ∷ 4 ∷ 4 ∷ 4 ∷ 12 ∷ 4 ∷ 2 ∷ 1 ∷ 1 ∷ 4 ∷ 4 ∷ 4 ∷ 128 ∷ 1 ∷ 1 ∷ 4 ∷ 26 ∷ []
 
-abbrev pub headValues : Clip → ℕ → ℕ → ℕ → List ℕ
-headValues c programs cpi marks =
-    clpi ∷ c .scalars .version ∷ 220 ∷ programs ∷ cpi ∷ marks ∷ 0 ∷ 0
-    ∷ 176 ∷ 0 ∷ c .scalars .streamType ∷ c .scalars .applicationType ∷ 0 ∷ c .scalars .rate ∷ c .scalars .packets ∷ 0
-    ∷ c .scalars .validityFlags ∷ 0 ∷ c .scalars .formatId ∷ 0 ∷ []
+abbrev pub headValues : Scalars → (programs cpi marks : ℕ) → List ℕ
+headValues s programs cpi marks =
+    clpi ∷ s .version ∷ 220 ∷ programs ∷ cpi ∷ marks ∷ 0 ∷ 0
+    ∷ 176 ∷ 0 ∷ s .streamType ∷ s .applicationType ∷ 0 ∷ s .rate ∷ s .packets ∷ 0
+    ∷ s .validityFlags ∷ 0 ∷ s .formatId ∷ 0 ∷ []
 
-unfoldable pub headBytes : Clip → ℕ → ℕ → ℕ → List ℕ
-headBytes c programs cpi marks = fieldBytes headWidths (headValues c programs cpi marks)
+unfoldable pub headBytes : Scalars → (programs cpi marks : ℕ) → List ℕ
+headBytes s programs cpi marks = fieldBytes headWidths (headValues s programs cpi marks)
 
 -- empty marks: length 2, count 0
 abbrev pub marksBytes : List ℕ
@@ -150,4 +150,4 @@ encode c =
     let programs = 220 + length (sequencesBytes c) in
     let cpi = programs + length (programsBytes c) in
     let marks = cpi + length (cpiBytes c) in
-    headBytes c programs cpi marks ++ (sequencesBytes c ++ (programsBytes c ++ (cpiBytes c ++ marksBytes)))
+    headBytes (c .scalars) programs cpi marks ++ (sequencesBytes c ++ (programsBytes c ++ (cpiBytes c ++ marksBytes)))

@@ -1,11 +1,12 @@
-// Big-endian numbers of 1, 2, 4, 6 and 8 bytes, read and stored where they are known to lie inside the slice.
+// Big-endian numbers of 1, 2, 4, 6 and 8 bytes, read and stored where they are known to lie inside the slice, and bytes copied.
+// Every byte of a new file is stored by `put_u8` to `put_u64` and `copy`, and nowhere else: a walk over these is the one that would compare instead of store.
 ghost use mathlib.Core.Path.{_≡_};
 ghost use Prim.Native.Nat.{_+_, _≤_};
 ghost use lib.ListN.{length};
 ghost use lib.Seq.{sets};
 ghost use Rattle.format.specs.Bytes.{bytesOf};
 ghost use Rattle.cells.specs.Reads.{Wide};
-ghost use Rattle.numbers.specs.Reads.{ReadIs, swapped};
+ghost use Rattle.numbers.specs.Reads.{ReadIs, swapped, part};
 use cells::cell_at;
 use cells::put_cell;
 
@@ -101,4 +102,16 @@ pub fn put_u64(out: &mut [u8], at: usize, v: u64)
 {
     put_u32(out, at, (v / 4294967296) as u32);
     put_u32(out, at + 4, (v % 4294967296) as u32);
+}
+
+// Copies n bytes, from `from` on, to the output from `at` on.
+pub fn copy(s: &[u8], from: usize, n: usize, out: &mut [u8], at: usize)
+    requires { ⌜ (from + n ≤ length (now s)) × (at + n ≤ length (now out)) ⌝ }
+    ensures { λ _. ⌜ now (out .exit) ≡ sets (now (out .entry)) at (part (now (s .entry)) from n) ⌝ }
+{
+    let mut k: usize = 0;
+    while k < n {
+        out[at + k] = s[from + k];
+        k += 1;
+    }
 }

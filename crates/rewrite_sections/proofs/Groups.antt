@@ -17,8 +17,10 @@ use Rattle.format.proofs.Rows.{rows-length}
 use Rattle.format.proofs.Sweep.{end-steps}
 use Rattle.format.proofs.Stores.{part-then}
 use Rattle.section_heads.proofs.Stored.{sectionHead, section-head}
-use Rattle.rewrite_sections.specs.Sections.{part, newSequences, newItems, newPrograms}
-use Rattle.rewrite_sections.proofs.Parts.{part-length, part-two, fields-part, items-part}
+use Rattle.rewrite_sections.specs.Sections.{newSequences, newItems, newPrograms}
+use Rattle.numbers.specs.Reads.{part}
+use Rattle.numbers.proofs.Parts.{part-length, part-two}
+use Rattle.rewrite_sections.proofs.Parts.{fields-part, items-part}
 
 -- ---- any kind of items
 

@@ -16,8 +16,9 @@ use Rattle.row_values.specs.declared.Row as value
 use Rattle.row_values.proofs.Lengths.{program-length, row-short}
 use Rattle.section_heads.proofs.Stored.{sectionHead, section-head}
 use Rattle.rewrite_program.specs.Programs.{newStreams, newProgram}
-use Rattle.rewrite_sections.specs.Sections.{part, newSequences, newPrograms}
-use Rattle.rewrite_sections.proofs.Parts.{part-length}
+use Rattle.rewrite_sections.specs.Sections.{newSequences, newPrograms}
+use Rattle.numbers.specs.Reads.{part}
+use Rattle.numbers.proofs.Parts.{part-length}
 use Rattle.rewrite_sections.proofs.Groups.{flat-gather, sequences-end, sequences-are, programs-long}
 
 -- n items of at most w each

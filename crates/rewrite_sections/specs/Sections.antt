@@ -2,16 +2,12 @@
 use Prim.Native.Nat.{ℕ, _+_, _*_, _≤_}
 use mathlib.Core.Path.{_≡_}
 use mathlib.Core.List.{List}
-use lib.ListN.{length, take, drop}
+use lib.ListN.{length}
 use Rattle.format.specs.Bytes.{gather}
 use Rattle.format.specs.ClipRecord.{atcStcCount, streamCount, atcsFrom, stcsFrom, sequencesEnd}
 use Rattle.format.specs.Programs.{nextProgram, programsFrom, streamsFrom, programsEnd}
 use Rattle.format.specs.Rewriting.{groups, sectionBytes, atcBytes, stcBytes, programBytes, streamBytes}
 use Rattle.rewrite_program.specs.Programs.{newProgram}
-
--- the n bytes of f from place p on
-abbrev pub part : List ℕ → ℕ → ℕ → List ℕ
-part f p n = take n (drop p f)
 
 -- ---- sequences
 

@@ -5,23 +5,12 @@ ghost use lib.ListN.{length};
 ghost use lib.Seq.{sets};
 ghost use Rattle.format.specs.Bytes.{endOf};
 ghost use Rattle.format.specs.Programs.{nextProgram, programsEnd};
-ghost use Rattle.rewrite_sections.specs.Sections.{part, newSequences, SequencesRoom, newItems, newPrograms, ProgramsRoom};
+ghost use Rattle.rewrite_sections.specs.Sections.{newSequences, SequencesRoom, newItems, newPrograms, ProgramsRoom};
+use numbers::copy;
 use numbers::u8_at;
 use rewrite_program::measure_program;
 use rewrite_program::put_program;
 use section_heads::put_head;
-
-// Copies n bytes of the file, from `from` on, to the output from `at` on.
-fn copy(file: &[u8], from: usize, n: usize, out: &mut [u8], at: usize)
-    requires { ⌜ (from + n ≤ length (now file)) × (at + n ≤ length (now out)) ⌝ }
-    ensures { λ _. ⌜ now (out .exit) ≡ sets (now (out .entry)) at (part (now (file .entry)) from n) ⌝ }
-{
-    let mut k: usize = 0;
-    while k < n {
-        out[at + k] = file[from + k];
-        k += 1;
-    }
-}
 
 // Stores the new sequences from `at` on, behind their head the very bytes of the old ones; answers the place behind.
 pub fn put_sequences(

@@ -7,7 +7,7 @@ use lib.ListN.{length}
 use lib.Seq.{sets}
 use Rattle.format.proofs.Stores.{part-then}
 use Rattle.section_heads.proofs.Stored.{sectionHead, section-head}
-use Rattle.rewrite_sections.specs.Sections.{part}
+use Rattle.numbers.specs.Reads.{part}
 use Rattle.rewrite_sections.proofs.Groups.{sequences-end, sequences-are}
 use Rattle.rewrite_sections.proofs.Lengths.{sequences-short}
 use borrow.Author.Needs.{needs}
