@@ -95,13 +95,7 @@ pub fn prepare(file: &[u8], bytes: Rows) -> Prepared
                 list_streams: list_streams(second),
             };
             match table_room(rows, bytes) {
-                Room::Short {
-                    table,
-                    rows: needed,
-                } => Prepared::TooShort {
-                    table,
-                    rows: needed,
-                },
+                Room::Short { table, rows } => Prepared::TooShort { table, rows },
                 Room::Enough => Prepared::Ready {
                     rows,
                     list,
