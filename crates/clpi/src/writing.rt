@@ -13,6 +13,7 @@ use clpi_writing::ClpiWriting;
 use clpi_writing::length_of;
 use clpi_writing::writing_of;
 use encode::write::write;
+use limits::tables::StatedRows;
 use rewrite::rewrite::rewrite;
 use rewrite::rewrite::rewritten_length;
 
@@ -37,20 +38,23 @@ pub extern "C" fn clpi_write(
     ensures { λ r. ⌜ writingNumbers r ≡ writeNumbers (writeAnswer (tablesWith (scalarsBy info) (stated (now (atcs .entry)) «atc_rows») (stated (now (stcs .entry)) «stc_rows») (stated (now (programs .entry)) «program_rows») (stated (now (streams .entry)) «stream_rows») (stated (now (maps .entry)) «map_rows») (stated (now (entries .entry)) «entry_rows»)) (now (output .entry))) ⌝ }
     ensures { λ _. ⌜ now (output .exit) ≡ outputAfter (tablesWith (scalarsBy info) (stated (now (atcs .entry)) «atc_rows») (stated (now (stcs .entry)) «stc_rows») (stated (now (programs .entry)) «program_rows») (stated (now (streams .entry)) «stream_rows») (stated (now (maps .entry)) «map_rows») (stated (now (entries .entry)) «entry_rows»)) (now (output .entry)) ⌝ }
 {
+    let rows = StatedRows {
+        atcs: atc_rows,
+        stcs: stc_rows,
+        programs: program_rows,
+        streams: stream_rows,
+        maps: map_rows,
+        entries: entry_rows,
+    };
     writing_of(write(
         info,
+        rows,
         atcs,
-        atc_rows,
         stcs,
-        stc_rows,
         programs,
-        program_rows,
         streams,
-        stream_rows,
         maps,
-        map_rows,
         entries,
-        entry_rows,
         output,
     ))
 }

@@ -6,16 +6,20 @@ ghost use Rattle.format.specs.Refusals.{writeAnswer, outputBy};
 ghost use Rattle.format.specs.Rewriting.{encode};
 ghost use Rattle.format.specs.Tables.{clipIn};
 ghost use Rattle.clip_information.specs.Read.{scalarsBy};
-ghost use Rattle.queries.specs.Asked.{stated, tablesWith};
+ghost use Rattle.limits.specs.Stated.{statedTables};
+ghost use Rattle.encode_sections.specs.Sections.{sectionIn, Storable};
+ghost use Rattle.encode_sections.specs.declared.Section.{Section};
 ghost use Rattle.encode_measure.specs.Places.{Ready};
 ghost use Rattle.encode.specs.Writing.{answerOf};
 use clip_sections::info::ClipInfo;
 use encode_cpi::put_cpi;
 use encode_head::put_head;
 use encode_measure::Measured;
+use encode_measure::Places;
 use encode_measure::measure;
 use encode_sections::Section;
 use encode_sections::put_section;
+use limits::tables::StatedRows;
 use section_heads::put_marks;
 
 // How many bytes were written; the refusal's number; or how many bytes the output needs.
@@ -25,130 +29,110 @@ pub enum Answer {
     TooShort(usize),
 }
 
-// Stores the new file, section by section.
-fn put_sections(
-    info: ClipInfo,
-    atcs: &[u8],
-    atc_rows: u32,
-    stcs: &[u8],
-    stc_rows: u32,
-    programs: &[u8],
-    program_rows: u32,
-    streams: &[u8],
-    stream_rows: u32,
-    maps: &[u8],
-    map_rows: u32,
-    entries: &[u8],
-    entry_rows: u32,
-    programs_at: usize,
-    cpi_at: usize,
-    marks_at: usize,
-    out: &mut [u8],
-)
-    requires { ⌜ Ready (tablesWith (scalarsBy info) (stated (now atcs) «atc_rows») (stated (now stcs) «stc_rows») (stated (now programs) «program_rows») (stated (now streams) «stream_rows») (stated (now maps) «map_rows») (stated (now entries) «entry_rows»)) «programs_at» «cpi_at» «marks_at» (length (now out)) ⌝ }
-    ensures { λ _. ⌜ now (out .exit) ≡ sets (now (out .entry)) 0 (encode (clipIn (tablesWith (scalarsBy info) (stated (now (atcs .entry)) «atc_rows») (stated (now (stcs .entry)) «stc_rows») (stated (now (programs .entry)) «program_rows») (stated (now (streams .entry)) «stream_rows») (stated (now (maps .entry)) «map_rows») (stated (now (entries .entry)) «entry_rows»)))) ⌝ }
+// Stores the sequences, of `len` bytes, which are at 220.
+fn put_sequences(rows: StatedRows, atcs: &[u8], stcs: &[u8], len: usize, out: &mut [u8])
+    requires { ⌜ Storable Section.Sequences (now atcs) (rows .atcs) (now stcs) (rows .stcs) len (now out) 220 ⌝ }
+    ensures { λ _. ⌜ now (out .exit) ≡ sets (now (out .entry)) 220 (sectionIn Section.Sequences (now (atcs .entry)) (rows .atcs) (now (stcs .entry)) (rows .stcs)) ⌝ }
 {
-    put_head(
-        info,
-        programs_at as u32,
-        cpi_at as u32,
-        marks_at as u32,
-        out,
-    );
     put_section(
         Section::Sequences,
         atcs,
-        atc_rows,
+        rows.atcs,
         stcs,
-        stc_rows,
-        programs_at - 220,
+        rows.stcs,
+        len,
         out,
         220,
     );
+}
+
+// Stores the programs, of `len` bytes, from `at`.
+fn put_programs(
+    rows: StatedRows,
+    programs: &[u8],
+    streams: &[u8],
+    len: usize,
+    out: &mut [u8],
+    at: usize,
+)
+    requires { ⌜ Storable Section.Programs (now programs) (rows .programs) (now streams) (rows .streams) len (now out) at ⌝ }
+    ensures { λ _. ⌜ now (out .exit) ≡ sets (now (out .entry)) at (sectionIn Section.Programs (now (programs .entry)) (rows .programs) (now (streams .entry)) (rows .streams)) ⌝ }
+{
     put_section(
         Section::Programs,
         programs,
-        program_rows,
+        rows.programs,
         streams,
-        stream_rows,
-        cpi_at - programs_at,
+        rows.streams,
+        len,
         out,
-        programs_at,
+        at,
     );
-    put_cpi(
-        maps,
-        map_rows,
-        entries,
-        entry_rows,
-        marks_at - cpi_at,
+}
+
+// Stores the new file, section by section.
+fn put_sections(
+    info: ClipInfo,
+    rows: StatedRows,
+    atcs: &[u8],
+    stcs: &[u8],
+    programs: &[u8],
+    streams: &[u8],
+    maps: &[u8],
+    entries: &[u8],
+    places: Places,
+    out: &mut [u8],
+)
+    requires { ⌜ Ready (statedTables (scalarsBy info) rows (now atcs) (now stcs) (now programs) (now streams) (now maps) (now entries)) places (length (now out)) ⌝ }
+    ensures { λ _. ⌜ now (out .exit) ≡ sets (now (out .entry)) 0 (encode (clipIn (statedTables (scalarsBy info) rows (now (atcs .entry)) (now (stcs .entry)) (now (programs .entry)) (now (streams .entry)) (now (maps .entry)) (now (entries .entry))))) ⌝ }
+{
+    put_head(
+        info,
+        places.programs as u32,
+        places.cpi as u32,
+        places.marks as u32,
         out,
-        cpi_at,
     );
-    put_marks(out, marks_at);
+    put_sequences(rows, atcs, stcs, places.programs - 220, out);
+    let len = places.cpi - places.programs;
+    put_programs(rows, programs, streams, len, out, places.programs);
+    let len = places.marks - places.cpi;
+    put_cpi(maps, rows.maps, entries, rows.entries, len, out, places.cpi);
+    put_marks(out, places.marks);
 }
 
 // Writes the record that the six tables hold; a refusal leaves the output as it was.
 pub fn write(
     info: ClipInfo,
+    rows: StatedRows,
     atcs: &[u8],
-    atc_rows: u32,
     stcs: &[u8],
-    stc_rows: u32,
     programs: &[u8],
-    program_rows: u32,
     streams: &[u8],
-    stream_rows: u32,
     maps: &[u8],
-    map_rows: u32,
     entries: &[u8],
-    entry_rows: u32,
     out: &mut [u8],
 ) -> Answer
-    ensures { λ r. ⌜ answerOf r ≡ writeAnswer (tablesWith (scalarsBy info) (stated (now (atcs .entry)) «atc_rows») (stated (now (stcs .entry)) «stc_rows») (stated (now (programs .entry)) «program_rows») (stated (now (streams .entry)) «stream_rows») (stated (now (maps .entry)) «map_rows») (stated (now (entries .entry)) «entry_rows»)) (now (out .entry)) ⌝ }
-    ensures { λ r. ⌜ now (out .exit) ≡ outputBy (answerOf r) (encode (clipIn (tablesWith (scalarsBy info) (stated (now (atcs .entry)) «atc_rows») (stated (now (stcs .entry)) «stc_rows») (stated (now (programs .entry)) «program_rows») (stated (now (streams .entry)) «stream_rows») (stated (now (maps .entry)) «map_rows») (stated (now (entries .entry)) «entry_rows»)))) (now (out .entry)) ⌝ }
+    ensures { λ r. ⌜ answerOf r ≡ writeAnswer (statedTables (scalarsBy info) rows (now (atcs .entry)) (now (stcs .entry)) (now (programs .entry)) (now (streams .entry)) (now (maps .entry)) (now (entries .entry))) (now (out .entry)) ⌝ }
+    ensures { λ r. ⌜ now (out .exit) ≡ outputBy (answerOf r) (encode (clipIn (statedTables (scalarsBy info) rows (now (atcs .entry)) (now (stcs .entry)) (now (programs .entry)) (now (streams .entry)) (now (maps .entry)) (now (entries .entry))))) (now (out .entry)) ⌝ }
 {
-    match measure(
-        info,
-        atcs,
-        atc_rows,
-        stcs,
-        stc_rows,
-        programs,
-        program_rows,
-        streams,
-        stream_rows,
-        maps,
-        map_rows,
-        entries,
-        entry_rows,
-    ) {
+    match measure(info, rows, atcs, stcs, programs, streams, maps, entries) {
         Measured::Refused(n) => Answer::Refused(n),
-        Measured::Places {
-            programs: programs_at,
-            cpi: cpi_at,
-            marks: marks_at,
-        } => {
-            let len = marks_at + 6;
+        Measured::Places(places) => {
+            let len = places.marks + 6;
             if out.len() < len {
                 return Answer::TooShort(len);
             }
             put_sections(
                 info,
+                rows,
                 atcs,
-                atc_rows,
                 stcs,
-                stc_rows,
                 programs,
-                program_rows,
                 streams,
-                stream_rows,
                 maps,
-                map_rows,
                 entries,
-                entry_rows,
-                programs_at,
-                cpi_at,
-                marks_at,
+                places,
                 out,
             );
             Answer::Written(len)

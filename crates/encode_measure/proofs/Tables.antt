@@ -1,17 +1,17 @@
 -- What the tests have shown of the six tables, as the section's functions ask for it, and what a test that fails says of the refusal.
-use Prim.Native.Nat.{ℕ, _+_, _-_, _^_, _<_, _≤_}
+use Prim.Native.Nat.{ℕ, _+_, _-_, _≤_}
 use mathlib.Core.Path.{_≡_, refl, sym, ap, _∙_}
-use mathlib.Core.List.{List, [], _∷_}
+use mathlib.Core.List.{List}
 use mathlib.Core.Bool.{Bool, true, false, not}
 use native.Mathlib.Omega.{arith}
 use lib.ListN.{length}
 use lib.Dec.{leb}
 use borrow.Author.Tests.{not-true, not-false}
 use Rattle.format.specs.Bytes.{both, pick, unless, every, fits}
-use Rattle.format.specs.ClipRecord.{Scalars, Clip, mapType, entryCount}
-use Rattle.format.specs.Tables.{Table, ClipTables, clipIn, isStated, addUp, rowsOf, mapCells, stcCells, streamCells, entryCells}
+use Rattle.format.specs.ClipRecord.{Clip, mapType, entryCount}
+use Rattle.format.specs.Tables.{ClipTables, clipIn, isStated, addUp, rowsOf, mapCells, stcCells, streamCells, entryCells}
 use Rattle.format.specs.Rewriting.{sequencesBytes, programsBytes, cpiBytes, cpiBytesBy}
-use Rattle.format.specs.Refusals.{mapFits, entryFits, scalarsFit, cellsFit, runsFit, countsAdd, allStated, writeRefusal, everyMap}
+use Rattle.format.specs.Refusals.{mapFits, entryFits, scalarsFit, cellsFit, runsFit, allStated, writeRefusal, everyMap}
 use Rattle.format.proofs.Tests.{both-true, split-both, true-both, passed, left-fails, right-fails}
 use Rattle.format.proofs.Maker.{good-made}
 use Rattle.queries.specs.Asked.{noScalars, tablesWith}
@@ -25,7 +25,8 @@ use Rattle.encode_sections.specs.Sections as sections
 use Rattle.encode_sections.proofs.Sections.{sequences-are, programs-are}
 use Rattle.encode_cpi.specs.declared.Length.{Length}
 use Rattle.encode_cpi.specs.Cpi as cpi
-use Rattle.encode_measure.specs.Places.{refusalIn, pairsCounted, scalarWidths, programsPlace, cpiPlace, marksPlace, Placed, Ready}
+use Rattle.encode_measure.specs.declared.Places.{Places}
+use Rattle.encode_measure.specs.Places.{refusalIn, pairsCounted, marksPlace, Ready}
 use Rattle.encode_measure.proofs.Tests.{refusal-is}
 use Rattle.encode_measure.proofs.Parts.{place-programs, place-cpi, place-marks, InOrder, placed-order, good-short}
 
@@ -54,11 +55,11 @@ marks-bound l h =
     good-short c (good-made c (passed (allStated l) 21 (writeRefusal c) h .1))
 
 -- the places are in order, and the last is a number of 32 bits
-pub in-order : (l : ClipTables) {programs cpi marks bytes : ℕ} → Ready l programs cpi marks bytes → InOrder programs cpi marks bytes
+pub in-order : (l : ClipTables) {at : Places} {bytes : ℕ} → Ready l at bytes → InOrder (at .programs) (at .cpi) (at .marks) bytes
 in-order l r = placed-order (clipIn l) (marks-bound l (r .writable)) (r .placed)
 
 -- stores keep the output's length, and so what is ready
-pub ready-kept : (l : ClipTables) {programs cpi marks bytes bytes′ : ℕ} → bytes′ ≡ bytes → Ready l programs cpi marks bytes → Ready l programs cpi marks bytes′
+pub ready-kept : (l : ClipTables) {at : Places} {bytes bytes′ : ℕ} → bytes′ ≡ bytes → Ready l at bytes → Ready l at bytes′
 ready-kept l same r = rw same r
 
 -- ---- choices by a test
@@ -87,167 +88,163 @@ maps-parts c fit =
 
 -- ---- six tables
 
-module _ (s : Scalars) (atcs stcs programs streams maps entries : Table) where
-  -- the tables with the scalars
-  abbrev handed : ClipTables
-  handed = tablesWith s atcs stcs programs streams maps entries
-
-  -- and without
+module _ (l : ClipTables) where
+  -- the tables without the scalars
   abbrev bare : ClipTables
-  bare = tablesWith noScalars atcs stcs programs streams maps entries
+  bare = tablesWith noScalars (l .atcs) (l .stcs) (l .programs) (l .streams) (l .maps) (l .entries)
 
   -- the pairs of tables
-  pub pairs : pairsCounted handed ≡ true
-      → (isCounted 1 stcCells atcs stcs ≡ true) × ((isCounted 2 streamCells programs streams ≡ true) × (isCounted 2 entryCells maps entries ≡ true))
+  pub pairs : pairsCounted l ≡ true
+      → (isCounted 1 stcCells (l .atcs) (l .stcs) ≡ true) × ((isCounted 2 streamCells (l .programs) (l .streams) ≡ true) × (isCounted 2 entryCells (l .maps) (l .entries) ≡ true))
   unfolding pairsCounted
   pairs h = let first = split-both h in (first .0, split-both (first .1))
 
   -- counts that do not add up
-  pub refused-22 : {r : Bool} → r ≡ pairsCounted bare → not r ≡ true → refusalIn handed ≡ 22
+  pub refused-22 : {r : Bool} → r ≡ pairsCounted bare → not r ≡ true → refusalIn l ≡ 22
   unfolding pairsCounted
   refused-22 {r} is h =
-      let fails : pairsCounted handed ≡ false = sym is ∙ not-true r h in
-      refusal-is handed ∙ rw fails
+      let fails : pairsCounted l ≡ false = sym is ∙ not-true r h in
+      refusal-is l ∙ rw fails
 
   -- counts that do
-  pub counted-by : {r : Bool} → r ≡ pairsCounted bare → not r ≡ false → pairsCounted handed ≡ true
+  pub counted-by : {r : Bool} → r ≡ pairsCounted bare → not r ≡ false → pairsCounted l ≡ true
   unfolding pairsCounted
   counted-by {r} is h = sym is ∙ not-false r h
 
   -- scalars that do not fit
-  pub scalars-refused : {r : Bool} → pairsCounted handed ≡ true → r ≡ scalarsFit s → not r ≡ true → refusalIn handed ≡ 30
+  pub scalars-refused : {r : Bool} → pairsCounted l ≡ true → r ≡ scalarsFit (l .scalars) → not r ≡ true → refusalIn l ≡ 30
   unfolding clipIn
   scalars-refused {r} p is h =
-      let fails : cellsFit (clipIn handed) ≡ false = scalars-and-tables (clipIn handed) ∙ left-fails (tablesFit (clipIn handed)) (sym is ∙ not-true r h) in
-      refusal-is handed ∙ rw (p, fails)
+      let fails : cellsFit (clipIn l) ≡ false = scalars-and-tables (clipIn l) ∙ left-fails (tablesFit (clipIn l)) (sym is ∙ not-true r h) in
+      refusal-is l ∙ rw (p, fails)
 
   -- tables that do not fit
-  pub tables-refused : {r : Bool} → pairsCounted handed ≡ true → r ≡ tablesFit (clipIn bare) → not r ≡ true → refusalIn handed ≡ 30
+  pub tables-refused : {r : Bool} → pairsCounted l ≡ true → r ≡ tablesFit (clipIn bare) → not r ≡ true → refusalIn l ≡ 30
   unfolding clipIn tablesFit
   tables-refused {r} p is h =
-      let fails : cellsFit (clipIn handed) ≡ false = scalars-and-tables (clipIn handed) ∙ right-fails (scalarsFit s) (sym is ∙ not-true r h) in
-      refusal-is handed ∙ rw (p, fails)
+      let fails : cellsFit (clipIn l) ≡ false = scalars-and-tables (clipIn l) ∙ right-fails (scalarsFit (l .scalars)) (sym is ∙ not-true r h) in
+      refusal-is l ∙ rw (p, fails)
 
   -- scalars and tables that do
-  pub fit-by : {r q : Bool} → r ≡ scalarsFit s → not r ≡ false → q ≡ tablesFit (clipIn bare) → not q ≡ false → cellsFit (clipIn handed) ≡ true
+  pub fit-by : {r q : Bool} → r ≡ scalarsFit (l .scalars) → not r ≡ false → q ≡ tablesFit (clipIn bare) → not q ≡ false → cellsFit (clipIn l) ≡ true
   unfolding clipIn tablesFit
-  fit-by {r} {q} is h js g = scalars-and-tables (clipIn handed) ∙ true-both (sym is ∙ not-false r h) (sym js ∙ not-false q g)
+  fit-by {r} {q} is h js g = scalars-and-tables (clipIn l) ∙ true-both (sym is ∙ not-false r h) (sym js ∙ not-false q g)
 
   -- what the maps and entries are, for the functions of the CPI
   abbrev lengthIn : Length
-  lengthIn = cpi.cpiLengthOf (cpi.mapRows (maps .bytes) (maps .rows)) (cpi.entryRows (entries .bytes) (entries .rows))
+  lengthIn = cpi.cpiLengthOf (cpi.mapRows (l .maps .bytes) (l .maps .rows)) (cpi.entryRows (l .entries .bytes) (l .entries .rows))
 
   -- a map has too many runs
-  pub runs-refused : pairsCounted handed ≡ true → cellsFit (clipIn handed) ≡ true → lengthIn ≡ Length.TooManyRuns → refusalIn handed ≡ 31
+  pub runs-refused : pairsCounted l ≡ true → cellsFit (clipIn l) ≡ true → lengthIn ≡ Length.TooManyRuns → refusalIn l ≡ 31
   unfolding clipIn runsFit cpi.cpiLengthOf
   runs-refused p fit is =
-      let fails : runsFit (clipIn handed) ≡ false = too-many (runsFit (clipIn handed)) (length (cpiBytesBy (cpi.mapRows (maps .bytes) (maps .rows)) (cpi.entryRows (entries .bytes) (entries .rows)))) is in
-      refusal-is handed ∙ rw (p, fit, fails)
+      let fails : runsFit (clipIn l) ≡ false = too-many (runsFit (clipIn l)) (length (cpiBytesBy (cpi.mapRows (l .maps .bytes) (l .maps .rows)) (cpi.entryRows (l .entries .bytes) (l .entries .rows)))) is in
+      refusal-is l ∙ rw (p, fit, fails)
 
   -- none has, and the section's length is told
-  pub runs-few : {len : ℕ} → lengthIn ≡ Length.Bytes len → (runsFit (clipIn handed) ≡ true) × (len ≡ length (cpiBytes (clipIn handed)))
+  pub runs-few : {len : ℕ} → lengthIn ≡ Length.Bytes len → (runsFit (clipIn l) ≡ true) × (len ≡ length (cpiBytes (clipIn l)))
   unfolding clipIn runsFit cpi.cpiLengthOf cpiBytes
-  runs-few is = few-told (runsFit (clipIn handed)) is
+  runs-few is = few-told (runsFit (clipIn l)) is
 
   -- ---- what the section's functions ask
 
-  pub sequences-counted : pairsCounted handed ≡ true → sections.Counted Section.Sequences (atcs .bytes) (atcs .rows) (stcs .bytes) (stcs .rows)
+  pub sequences-counted : pairsCounted l ≡ true → sections.Counted Section.Sequences (l .atcs .bytes) (l .atcs .rows) (l .stcs .bytes) (l .stcs .rows)
   sequences-counted h =
-      let is = counts 1 stcCells atcs stcs (pairs h .0) in
+      let is = counts 1 stcCells (l .atcs) (l .stcs) (pairs h .0) in
       record { heads-there = is .heads-there; rows-there = is .rows-there; adds = is .adds }
 
-  pub programs-counted : pairsCounted handed ≡ true → sections.Counted Section.Programs (programs .bytes) (programs .rows) (streams .bytes) (streams .rows)
+  pub programs-counted : pairsCounted l ≡ true → sections.Counted Section.Programs (l .programs .bytes) (l .programs .rows) (l .streams .bytes) (l .streams .rows)
   programs-counted h =
-      let is = counts 2 streamCells programs streams (pairs h .1 .0) in
+      let is = counts 2 streamCells (l .programs) (l .streams) (pairs h .1 .0) in
       record { heads-there = is .heads-there; rows-there = is .rows-there; adds = is .adds }
 
-  pub sequences-long : {n : ℕ} → n ≡ length (sections.sectionIn Section.Sequences (atcs .bytes) (atcs .rows) (stcs .bytes) (stcs .rows))
-      → n ≡ length (sequencesBytes (clipIn handed))
+  pub sequences-long : {n : ℕ} → n ≡ length (sections.sectionIn Section.Sequences (l .atcs .bytes) (l .atcs .rows) (l .stcs .bytes) (l .stcs .rows))
+      → n ≡ length (sequencesBytes (clipIn l))
   unfolding clipIn
-  sequences-long is = is ∙ ap length (sym (sequences-are (clipIn handed)))
+  sequences-long is = is ∙ ap length (sym (sequences-are (clipIn l)))
 
-  pub programs-long : {n : ℕ} → n ≡ length (sections.sectionIn Section.Programs (programs .bytes) (programs .rows) (streams .bytes) (streams .rows))
-      → n ≡ length (programsBytes (clipIn handed))
+  pub programs-long : {n : ℕ} → n ≡ length (sections.sectionIn Section.Programs (l .programs .bytes) (l .programs .rows) (l .streams .bytes) (l .streams .rows))
+      → n ≡ length (programsBytes (clipIn l))
   unfolding clipIn
-  programs-long is = is ∙ ap length (sym (programs-are (clipIn handed)))
+  programs-long is = is ∙ ap length (sym (programs-are (clipIn l)))
 
-  pub cpi-there : pairsCounted handed ≡ true → cpi.BothThere (maps .bytes) (maps .rows) (entries .bytes) (entries .rows)
+  pub cpi-there : pairsCounted l ≡ true → cpi.BothThere (l .maps .bytes) (l .maps .rows) (l .entries .bytes) (l .entries .rows)
   cpi-there h =
-      let is = counts 2 entryCells maps entries (pairs h .1 .1) in
+      let is = counts 2 entryCells (l .maps) (l .entries) (pairs h .1 .1) in
       record { maps-there = is .heads-there; entries-there = is .rows-there }
 
-  pub cpi-counted : pairsCounted handed ≡ true → cellsFit (clipIn handed) ≡ true
-      → cpi.Counted (cpi.mapRows (maps .bytes) (maps .rows)) (cpi.entryRows (entries .bytes) (entries .rows))
+  pub cpi-counted : pairsCounted l ≡ true → cellsFit (clipIn l) ≡ true
+      → cpi.Counted (cpi.mapRows (l .maps .bytes) (l .maps .rows)) (cpi.entryRows (l .entries .bytes) (l .entries .rows))
   unfolding clipIn isCounted
   cpi-counted h fit =
-      let fits = maps-parts (clipIn handed) fit in
-      let stated = both (isStated mapCells maps) (both (isStated entryCells entries) true) in
-      let counted = both-true stated (addUp entryCount (rowsOf mapCells maps) (rowsOf entryCells entries)) (pairs h .1 .1) in
+      let fits = maps-parts (clipIn l) fit in
+      let stated = both (isStated mapCells (l .maps)) (both (isStated entryCells (l .entries)) true) in
+      let counted = both-true stated (addUp entryCount (rowsOf mapCells (l .maps)) (rowsOf entryCells (l .entries))) (pairs h .1 .1) in
       record { add = counted .1; few = fits .0; fit = fits .1 .0 }
 
-  pub cpi-writable : Passed handed → cpi.Writable (cpi.mapRows (maps .bytes) (maps .rows)) (cpi.entryRows (entries .bytes) (entries .rows))
+  pub cpi-writable : Passed l → cpi.Writable (cpi.mapRows (l .maps .bytes) (l .maps .rows)) (cpi.entryRows (l .entries .bytes) (l .entries .rows))
   unfolding clipIn runsFit
   cpi-writable p =
-      let fits = maps-parts (clipIn handed) (p .fit) in
+      let fits = maps-parts (clipIn l) (p .fit) in
       record { counted = cpi-counted (p .counted) (p .fit); entries-fit = fits .1 .1; runs-few = p .runs-fit }
 
   -- ---- what storing each section asks, in an output of so many bytes
 
-  pub sequences-storable : (programs-at cpi-at marks-at : ℕ) (out : List ℕ) → Ready handed programs-at cpi-at marks-at (length out)
-      → sections.Storable Section.Sequences (atcs .bytes) (atcs .rows) (stcs .bytes) (stcs .rows) (programs-at - 220) out 220
-  sequences-storable programs-at cpi-at marks-at out r =
-      let c = clipIn handed in
-      let at = r .placed in
-      let long : programs-at - 220 ≡ length (sequencesBytes c) = omega (arith, at .programs-at, place-programs c) in
+  pub sequences-storable : (at : Places) (out : List ℕ) → Ready l at (length out)
+      → sections.Storable Section.Sequences (l .atcs .bytes) (l .atcs .rows) (l .stcs .bytes) (l .stcs .rows) (at .programs - 220) out 220
+  sequences-storable at out r =
+      let c = clipIn l in
+      let told = r .placed in
+      let long : at .programs - 220 ≡ length (sequencesBytes c) = omega (arith, told .programs-at, place-programs c) in
       record {
-        counted = sequences-counted (all-passed handed (r .writable) .counted);
+        counted = sequences-counted (all-passed l (r .writable) .counted);
         is-long = long ∙ sym (sequences-long refl);
-        narrow = omega (arith, at .programs-at, marks-bound handed (r .writable), place-programs c, place-cpi c, place-marks c);
-        room = omega (arith, at .programs-at, at .room, at .marks-at, place-programs c, place-cpi c, place-marks c);
+        narrow = omega (arith, told .programs-at, marks-bound l (r .writable), place-programs c, place-cpi c, place-marks c);
+        room = omega (arith, told .programs-at, told .room, told .marks-at, place-programs c, place-cpi c, place-marks c);
       }
 
-  pub programs-storable : (programs-at cpi-at marks-at : ℕ) (out : List ℕ) → Ready handed programs-at cpi-at marks-at (length out)
-      → sections.Storable Section.Programs (programs .bytes) (programs .rows) (streams .bytes) (streams .rows) (cpi-at - programs-at) out programs-at
-  programs-storable programs-at cpi-at marks-at out r =
-      let c = clipIn handed in
-      let at = r .placed in
-      let long : cpi-at - programs-at ≡ length (programsBytes c) = omega (arith, at .programs-at, at .cpi-at, place-cpi c) in
+  pub programs-storable : (at : Places) (out : List ℕ) → Ready l at (length out)
+      → sections.Storable Section.Programs (l .programs .bytes) (l .programs .rows) (l .streams .bytes) (l .streams .rows) (at .cpi - at .programs) out (at .programs)
+  programs-storable at out r =
+      let c = clipIn l in
+      let told = r .placed in
+      let long : at .cpi - at .programs ≡ length (programsBytes c) = omega (arith, told .programs-at, told .cpi-at, place-cpi c) in
       record {
-        counted = programs-counted (all-passed handed (r .writable) .counted);
+        counted = programs-counted (all-passed l (r .writable) .counted);
         is-long = long ∙ sym (programs-long refl);
-        narrow = omega (arith, at .programs-at, at .cpi-at, marks-bound handed (r .writable), place-programs c, place-cpi c, place-marks c);
-        room = omega (arith, at .programs-at, at .cpi-at, at .room, at .marks-at, place-programs c, place-cpi c, place-marks c);
+        narrow = omega (arith, told .programs-at, told .cpi-at, marks-bound l (r .writable), place-programs c, place-cpi c, place-marks c);
+        room = omega (arith, told .programs-at, told .cpi-at, told .room, told .marks-at, place-programs c, place-cpi c, place-marks c);
       }
 
-  pub cpi-storable : (programs-at cpi-at marks-at bytes : ℕ) → Ready handed programs-at cpi-at marks-at bytes
-      → cpi.CpiRoom (maps .bytes) (maps .rows) (entries .bytes) (entries .rows) (marks-at - cpi-at) bytes cpi-at
+  pub cpi-storable : (at : Places) (bytes : ℕ) → Ready l at bytes
+      → cpi.CpiRoom (l .maps .bytes) (l .maps .rows) (l .entries .bytes) (l .entries .rows) (at .marks - at .cpi) bytes (at .cpi)
   unfolding clipIn cpiBytes
-  cpi-storable programs-at cpi-at marks-at bytes r =
-      let c = clipIn handed in
-      let at = r .placed in
-      let passed = all-passed handed (r .writable) in
-      let long : marks-at - cpi-at ≡ length (cpiBytes c) = omega (arith, at .marks-at, at .cpi-at, place-marks c) in
+  cpi-storable at bytes r =
+      let c = clipIn l in
+      let told = r .placed in
+      let passed = all-passed l (r .writable) in
+      let long : at .marks - at .cpi ≡ length (cpiBytes c) = omega (arith, told .marks-at, told .cpi-at, place-marks c) in
       record {
         rows-there = cpi-there (passed .counted);
         writable = cpi-writable passed;
         long = long;
-        room = omega (arith, at .marks-at, at .cpi-at, at .room, place-marks c);
+        room = omega (arith, told .marks-at, told .cpi-at, told .room, place-marks c);
       }
 
   -- ---- the sections as parts of the file
 
-  pub sequences-in : sections.sectionIn Section.Sequences (atcs .bytes) (atcs .rows) (stcs .bytes) (stcs .rows) ≡ sequencesBytes (clipIn handed)
+  pub sequences-in : sections.sectionIn Section.Sequences (l .atcs .bytes) (l .atcs .rows) (l .stcs .bytes) (l .stcs .rows) ≡ sequencesBytes (clipIn l)
   unfolding clipIn
-  sequences-in = sym (sequences-are (clipIn handed))
+  sequences-in = sym (sequences-are (clipIn l))
 
-  pub programs-in : sections.sectionIn Section.Programs (programs .bytes) (programs .rows) (streams .bytes) (streams .rows) ≡ programsBytes (clipIn handed)
+  pub programs-in : sections.sectionIn Section.Programs (l .programs .bytes) (l .programs .rows) (l .streams .bytes) (l .streams .rows) ≡ programsBytes (clipIn l)
   unfolding clipIn
-  programs-in = sym (programs-are (clipIn handed))
+  programs-in = sym (programs-are (clipIn l))
 
-  pub cpi-in : cpiBytesBy (cpi.mapRows (maps .bytes) (maps .rows)) (cpi.entryRows (entries .bytes) (entries .rows)) ≡ cpiBytes (clipIn handed)
+  pub cpi-in : cpiBytesBy (cpi.mapRows (l .maps .bytes) (l .maps .rows)) (cpi.entryRows (l .entries .bytes) (l .entries .rows)) ≡ cpiBytes (clipIn l)
   unfolding clipIn cpiBytes
   cpi-in = refl
 
-  pub scalars-in : clipIn handed .scalars ≡ s
+  pub scalars-in : clipIn l .scalars ≡ l .scalars
   unfolding clipIn
   scalars-in = refl

@@ -1,7 +1,6 @@
 -- The refusals of writing, in the order in which the code tests them.
 use Prim.Native.Nat.{ℕ, _+_, _≤_}
 use mathlib.Core.Path.{_≡_, refl, sym, ap, _∙_}
-use mathlib.Core.List.{List}
 use mathlib.Core.Bool.{Bool, true, false}
 use native.Mathlib.Omega.{arith}
 use lib.Dec.{eqb}
@@ -12,7 +11,8 @@ use Rattle.format.specs.Tables.{ClipTables, clipIn}
 use Rattle.format.specs.Refusals.{allStated, countsAdd, cellsFit, runsFit, writeRefusal}
 use Rattle.limits.proofs.Clips.{all-counted}
 use Rattle.encode_measure.specs.declared.Measured.{Measured}
-use Rattle.encode_measure.specs.Places.{refusalIn, pairsCounted, programsPlace, cpiPlace, marksPlace, measuredBy, Placed}
+use Rattle.encode_measure.specs.declared.Places.{Places}
+use Rattle.encode_measure.specs.Places.{refusalIn, pairsCounted, programsPlace, cpiPlace, marksPlace, placesOf, measuredBy, Placed}
 
 -- two tests of one number are one test
 unless-both : (a b : Bool) (n later : ℕ) → unless a n (unless b n later) ≡ unless (both a b) n later
@@ -33,33 +33,32 @@ refused-by refusal c n h e = rw (e, h)
 
 -- without one, the places are told
 pub places-by : (refusal : ℕ) (c : Clip) {programs cpi marks : ℕ} → refusal ≡ 0 → programs ≡ programsPlace c → cpi ≡ cpiPlace c → marks ≡ marksPlace c
-    → Measured.Places programs cpi marks ≡ measuredBy refusal c
+    → Measured.Places (record { programs = programs; cpi = cpi; marks = marks }) ≡ measuredBy refusal c
 unfolding measuredBy
 places-by refusal c e p q m = rw (e, p, q, m)
 
 -- ---- what the answer says of the refusal
 
 -- of places and a refusal, chosen by a test: the refusal is told where the test fails, the places where it passes
-told-refused : (b : Bool) (p q m r : ℕ) {n : ℕ} → pick b (Measured.Places p q m) (Measured.Refused r) ≡ Measured.Refused n → (b ≡ false) × (r ≡ n)
-told-refused false p q m r e = (refl, cc)
-told-refused true p q m r e = let z : _≡_ {A = ℕ} 0 1 = cc in absurd (omega arith)
+told-refused : (b : Bool) (at : Places) (r : ℕ) {n : ℕ} → pick b (Measured.Places at) (Measured.Refused r) ≡ Measured.Refused n → (b ≡ false) × (r ≡ n)
+told-refused false at r e = (refl, cc)
+told-refused true at r e = let z : _≡_ {A = ℕ} 0 1 = cc in absurd (omega arith)
 
-told-placed : (b : Bool) (p q m r : ℕ) {p′ q′ m′ : ℕ} → pick b (Measured.Places p q m) (Measured.Refused r) ≡ Measured.Places p′ q′ m′
-    → (b ≡ true) × ((p′ ≡ p) × ((q′ ≡ q) × (m′ ≡ m)))
-told-placed true p q m r e = (refl, (cc, (cc, cc)))
-told-placed false p q m r e = let z : _≡_ {A = ℕ} 0 1 = cc in absurd (omega arith)
+told-placed : (b : Bool) (at : Places) (r : ℕ) {at′ : Places} → pick b (Measured.Places at) (Measured.Refused r) ≡ Measured.Places at′ → (b ≡ true) × (at′ ≡ at)
+told-placed true at r e = (refl, cc)
+told-placed false at r e = let z : _≡_ {A = ℕ} 0 1 = cc in absurd (omega arith)
 
 module _ (refusal : ℕ) (c : Clip) {m : Measured} (is : m ≡ measuredBy refusal c) where
   pub refused-told : {n : ℕ} → m ≡ Measured.Refused n → (eqb refusal 0 ≡ false) × (refusal ≡ n)
   unfolding measuredBy
-  refused-told told = told-refused (eqb refusal 0) (programsPlace c) (cpiPlace c) (marksPlace c) refusal (sym is ∙ told)
+  refused-told told = told-refused (eqb refusal 0) (placesOf c) refusal (sym is ∙ told)
 
-  pub none-told : {p q k : ℕ} → m ≡ Measured.Places p q k → refusal ≡ 0
+  pub none-told : {at : Places} → m ≡ Measured.Places at → refusal ≡ 0
   unfolding measuredBy
-  none-told told = eqb-true refusal 0 (told-placed (eqb refusal 0) (programsPlace c) (cpiPlace c) (marksPlace c) refusal (sym is ∙ told) .0)
+  none-told told = eqb-true refusal 0 (told-placed (eqb refusal 0) (placesOf c) refusal (sym is ∙ told) .0)
 
-  pub placed-told : {p q k : ℕ} (bytes : ℕ) → m ≡ Measured.Places p q k → k + 6 ≤ bytes → Placed c p q k bytes
+  pub placed-told : {at : Places} (bytes : ℕ) → m ≡ Measured.Places at → at .marks + 6 ≤ bytes → Placed c (at .programs) (at .cpi) (at .marks) bytes
   unfolding measuredBy
   placed-told bytes told h =
-      let all = told-placed (eqb refusal 0) (programsPlace c) (cpiPlace c) (marksPlace c) refusal (sym is ∙ told) in
-      record { programs-at = all .1 .0; cpi-at = all .1 .1 .0; marks-at = all .1 .1 .1; room = h }
+      let same = told-placed (eqb refusal 0) (placesOf c) refusal (sym is ∙ told) .1 in
+      record { programs-at = ap (λ (p : Places). p .programs) same; cpi-at = ap (λ (p : Places). p .cpi) same; marks-at = ap (λ (p : Places). p .marks) same; room = h }

@@ -1,7 +1,6 @@
 -- What writing tests and measures first: the refusal, and the places of the sections.
 use Prim.Native.Nat.{ℕ, _+_, _≤_}
 use mathlib.Core.Path.{_≡_}
-use mathlib.Core.List.{List, [], _∷_}
 use lib.ListN.{length}
 use lib.Dec.{eqb}
 use mathlib.Core.Bool.{Bool}
@@ -12,6 +11,7 @@ use Rattle.format.specs.Rewriting.{sequencesBytes, programsBytes, cpiBytes}
 use Rattle.format.specs.Refusals.{allStated, writeRefusal}
 use Rattle.table_rows.specs.OwnRows.{isCounted}
 use Rattle.encode_measure.specs.declared.Measured.{Measured}
+use Rattle.encode_measure.specs.declared.Places.{Places}
 
 -- 22, 30 or 31; 0 where the record can be written
 abbrev pub refusalIn : ClipTables → ℕ
@@ -21,10 +21,6 @@ refusalIn l = unless (allStated l) 22 (writeRefusal (clipIn l))
 unfoldable pub pairsCounted : ClipTables → Bool
 pairsCounted l =
     both (isCounted 1 stcCells (l .atcs) (l .stcs)) (both (isCounted 2 streamCells (l .programs) (l .streams)) (isCounted 2 entryCells (l .maps) (l .entries)))
-
--- the widths of the scalars' fields in bits: version, stream type, application type, rate, packets, validity flags, format id
-abbrev pub scalarWidths : List ℕ
-scalarWidths = 32 ∷ 8 ∷ 8 ∷ 32 ∷ 32 ∷ 8 ∷ 32 ∷ []
 
 -- where the sections of the new file stand; the sequences are at 220
 unfoldable pub programsPlace : Clip → ℕ
@@ -36,9 +32,16 @@ cpiPlace c = programsPlace c + length (programsBytes c)
 unfoldable pub marksPlace : Clip → ℕ
 marksPlace c = cpiPlace c + length (cpiBytes c)
 
+abbrev pub placesOf : Clip → Places
+placesOf c = record { programs = programsPlace c; cpi = cpiPlace c; marks = marksPlace c }
+
 -- the refusal, or these places
 unfoldable pub measuredBy : ℕ → Clip → Measured
-measuredBy refusal c = pick (eqb refusal 0) (Measured.Places (programsPlace c) (cpiPlace c) (marksPlace c)) (Measured.Refused refusal)
+measuredBy refusal c = pick (eqb refusal 0) (Measured.Places (placesOf c)) (Measured.Refused refusal)
+
+-- those of a record in tables
+abbrev pub measuredIn : ClipTables → Measured
+measuredIn l = measuredBy (refusalIn l) (clipIn l)
 
 -- the places of a record's sections, and room for its file in an output of so many bytes
 pub record Placed (c : Clip) (programs cpi marks bytes : ℕ) : Type 0 where
@@ -48,6 +51,6 @@ pub record Placed (c : Clip) (programs cpi marks bytes : ℕ) : Type 0 where
   pub room : marks + 6 ≤ bytes
 
 -- a record that can be written
-pub record Ready (l : ClipTables) (programs cpi marks bytes : ℕ) : Type 0 where
+pub record Ready (l : ClipTables) (at : Places) (bytes : ℕ) : Type 0 where
   pub writable : refusalIn l ≡ 0
-  pub placed : Placed (clipIn l) programs cpi marks bytes
+  pub placed : Placed (clipIn l) (at .programs) (at .cpi) (at .marks) bytes

@@ -4,16 +4,27 @@ ghost use mathlib.Core.Bool.{true};
 ghost use Prim.Native.Nat.{_≤_};
 ghost use Rattle.format.specs.Bytes.{every};
 ghost use Rattle.format.specs.Tables.{tableRows, rowRoom, clipIn, stcCells, streamCells, mapCells, entryCells};
-ghost use Rattle.queries.specs.Asked.{stated, noScalars, tablesWith};
+ghost use Rattle.queries.specs.Asked.{stated, noScalars};
 ghost use Rattle.table_rows.specs.OwnRows.{isCounted};
 ghost use Rattle.row_limits.specs.Kinds.{cellsOf, fitsBy};
 ghost use Rattle.limits.specs.Clips.{headsFit, groupsFit, mapsFit, tablesFit};
+ghost use Rattle.limits.specs.Stated.{statedTables};
 use crate::rows::entries_fit;
 use crate::rows::rows_fit;
 use row_limits::Kind;
 
 // The most ATCs, programs or maps.
 const MOST: u32 = 255;
+
+// How many rows are stated to be in each of the six tables.
+pub struct StatedRows {
+    pub atcs: u32,
+    pub stcs: u32,
+    pub programs: u32,
+    pub streams: u32,
+    pub maps: u32,
+    pub entries: u32,
+}
 
 // Whether every row of a table fits.
 fn table_fits(t: &[u8], rows: u32, kind: Kind) -> bool
@@ -65,36 +76,31 @@ fn maps_fit(maps: &[u8], map_rows: u32, entries: &[u8], entry_rows: u32) -> bool
 
 // Whether all six tables fit, else 30. That the rows are there and the counts add up is tested before.
 pub fn cells_fit(
+    rows: StatedRows,
     atcs: &[u8],
-    atc_rows: u32,
     stcs: &[u8],
-    stc_rows: u32,
     programs: &[u8],
-    program_rows: u32,
     streams: &[u8],
-    stream_rows: u32,
     maps: &[u8],
-    map_rows: u32,
     entries: &[u8],
-    entry_rows: u32,
 ) -> bool
-    requires sequences { ⌜ isCounted 1 stcCells (stated (now atcs) «atc_rows») (stated (now stcs) «stc_rows») ≡ true ⌝ }
-    requires programs { ⌜ isCounted 2 streamCells (stated (now programs) «program_rows») (stated (now streams) «stream_rows») ≡ true ⌝ }
-    requires maps { ⌜ isCounted 2 entryCells (stated (now maps) «map_rows») (stated (now entries) «entry_rows») ≡ true ⌝ }
-    ensures { λ r. ⌜ r ≡ tablesFit (clipIn (tablesWith noScalars (stated (now (atcs .entry)) «atc_rows») (stated (now (stcs .entry)) «stc_rows») (stated (now (programs .entry)) «program_rows») (stated (now (streams .entry)) «stream_rows») (stated (now (maps .entry)) «map_rows») (stated (now (entries .entry)) «entry_rows»))) ⌝ }
+    requires sequences { ⌜ isCounted 1 stcCells (stated (now atcs) (rows .atcs)) (stated (now stcs) (rows .stcs)) ≡ true ⌝ }
+    requires programs { ⌜ isCounted 2 streamCells (stated (now programs) (rows .programs)) (stated (now streams) (rows .streams)) ≡ true ⌝ }
+    requires maps { ⌜ isCounted 2 entryCells (stated (now maps) (rows .maps)) (stated (now entries) (rows .entries)) ≡ true ⌝ }
+    ensures { λ r. ⌜ r ≡ tablesFit (clipIn (statedTables noScalars rows (now (atcs .entry)) (now (stcs .entry)) (now (programs .entry)) (now (streams .entry)) (now (maps .entry)) (now (entries .entry)))) ⌝ }
 {
-    if !groups_fit(atcs, atc_rows, Kind::Atc, stcs, stc_rows, Kind::Stc) {
+    if !groups_fit(atcs, rows.atcs, Kind::Atc, stcs, rows.stcs, Kind::Stc) {
         return false;
     }
     if !groups_fit(
         programs,
-        program_rows,
+        rows.programs,
         Kind::Program,
         streams,
-        stream_rows,
+        rows.streams,
         Kind::Stream,
     ) {
         return false;
     }
-    maps_fit(maps, map_rows, entries, entry_rows)
+    maps_fit(maps, rows.maps, entries, rows.entries)
 }

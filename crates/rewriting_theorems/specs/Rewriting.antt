@@ -11,7 +11,7 @@ use Rattle.format.specs.Reading.{recordOf}
 use Rattle.format.specs.Tables.{Nine, ClipTables, HoldsClip, Room}
 use Rattle.format.specs.Refusals.{Stated, statedOf, tablesOf, tablesAfter, accepted, written}
 use Rattle.format.proofs.Counts.{AtMost}
-use Rattle.queries.specs.Asked.{stated, tablesWith}
+use Rattle.limits.specs.Stated.{statedTables}
 use Rattle.clip_information.specs.Read.{scalarsBy, nineTables, answerOf as readAnswerOf}
 use Rattle.clip_information.proofs.read.read.Reads as read
 use Rattle.encode.specs.Writing.{bytesIn, answerOf as writeAnswerOf}
@@ -60,22 +60,23 @@ tablesLeft x =
 -- the scalars and the six tables that it is given, each with its rows
 abbrev pub givenTo : Call write.Post → ClipTables
 givenTo w =
-    tablesWith
+    statedTables
     (scalarsBy (w .arguments .0))
-    (stated (now (w .arguments .1 .0)) (w .arguments .1 .1 .0))
-    (stated (now (w .arguments .1 .1 .1 .0)) (w .arguments .1 .1 .1 .1 .0))
-    (stated (now (w .arguments .1 .1 .1 .1 .1 .0)) (w .arguments .1 .1 .1 .1 .1 .1 .0))
-    (stated (now (w .arguments .1 .1 .1 .1 .1 .1 .1 .0)) (w .arguments .1 .1 .1 .1 .1 .1 .1 .1 .0))
-    (stated (now (w .arguments .1 .1 .1 .1 .1 .1 .1 .1 .1 .0)) (w .arguments .1 .1 .1 .1 .1 .1 .1 .1 .1 .1 .0))
-    (stated (now (w .arguments .1 .1 .1 .1 .1 .1 .1 .1 .1 .1 .1 .0)) (w .arguments .1 .1 .1 .1 .1 .1 .1 .1 .1 .1 .1 .1 .0))
+    (w .arguments .1 .0)
+    (now (w .arguments .1 .1 .0))
+    (now (w .arguments .1 .1 .1 .0))
+    (now (w .arguments .1 .1 .1 .1 .0))
+    (now (w .arguments .1 .1 .1 .1 .1 .0))
+    (now (w .arguments .1 .1 .1 .1 .1 .1 .0))
+    (now (w .arguments .1 .1 .1 .1 .1 .1 .1 .0))
 
 -- the output as it is lent
 abbrev pub outputGiven : Call write.Post → List ℕ
-outputGiven w = now (w .arguments .1 .1 .1 .1 .1 .1 .1 .1 .1 .1 .1 .1 .1 .0)
+outputGiven w = now (w .arguments .1 .1 .1 .1 .1 .1 .1 .1 .0)
 
 -- and as the call leaves it
 abbrev pub outputLeft : Call write.Post → List ℕ
-outputLeft w = now (w .exit .1 .1 .1 .1 .1 .1 .1 .1 .1 .1 .1 .1 .1 .0)
+outputLeft w = now (w .exit .1 .1 .1 .1 .1 .1 .1 .1 .0)
 
 -- the new file: as many bytes from the output's front as the call says it wrote
 abbrev pub newFile : Call write.Post → List ℕ

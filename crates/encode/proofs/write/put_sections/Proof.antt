@@ -1,111 +1,95 @@
 -- The sections one behind the other; each store keeps the output's length.
-use Prim.Native.Nat.{_+_}
-use mathlib.Core.Path.{_≡_, refl, sym, ap, _∙_}
+use mathlib.Core.Path.{_∙_}
 use native.Mathlib.Omega.{arith}
 use denote.Ref.{now}
 use lib.ListN.{length}
-use lib.Seq.{sets}
-use Rattle.format.specs.Tables.{clipIn}
+use Rattle.format.specs.Tables.{ClipTables, clipIn}
 use Rattle.clip_information.specs.Read.{scalarsBy}
-use Rattle.queries.specs.Asked.{stated, tablesWith}
-use Rattle.encode_head.specs.Heads.{headOf}
-use Rattle.encode_measure.proofs.Parts.{placed-stored, stored-as}
-use Rattle.encode_measure.proofs.Tables.{in-order, ready-kept, sequences-storable, programs-storable, cpi-storable, sequences-in, programs-in, cpi-in, scalars-in}
+use Rattle.limits.specs.Stated.{statedTables}
+use Rattle.encode_measure.proofs.Parts.{InOrder, placed-stored, stored-as}
+use Rattle.encode_measure.proofs.Tables.{in-order, ready-kept, sequences-storable, programs-storable, cpi-storable, sequences-in, programs-in, cpi-in}
 use borrow.Author.Needs.{needs}
 use Rattle.encode.proofs.write.put_sections.Statement.{statement}
 use Rattle.encode.proofs.write.put_sections.Tie as tie
 
+-- the tables that are handed over
+abbrev tables : tie.Start → ClipTables
+tables s =
+    let a = s .args in
+    statedTables (scalarsBy (a .info)) (a .rows) (now (a .atcs)) (now (a .stcs)) (now (a .programs)) (now (a .streams)) (now (a .maps)) (now (a .entries))
+
+-- the call's start, from each store
+abbrev start : tie.After-struct-known → tie.Start
+start c = c .before .before .before .before .before .before .before .before
+
+abbrev head : tie.After-put-head → tie.After-struct-known
+head c = c .before .before .before .before
+
+abbrev sequences : tie.After-put-sequences → tie.After-put-head
+sequences c = c .before .before .before .before .before
+
+abbrev programs : tie.After-put-programs → tie.After-put-sequences
+programs c = c .before .before .before .before .before
+
+abbrev cpi : tie.After-put-cpi → tie.After-put-programs
+cpi c = c .before .before .before .before .before
+
+-- the places are in order
+order : (c : tie.After-struct-known) → let at = start c .args .places in InOrder (at .programs) (at .cpi) (at .marks) (length (now (start c .args .out)))
+order c = in-order (tables (start c)) (start c .pre)
+
 cast-put-head : tie.Need-cast-put-head
-cast-put-head c =
-    let a = c .before .before .before .before .before .before .before .args in
-    let i = scalarsBy (a .info) in
-    let l = tablesWith i (stated (now (a .atcs)) (a .atc-rows)) (stated (now (a .stcs)) (a .stc-rows)) (stated (now (a .programs)) (a .program-rows)) (stated (now (a .streams)) (a .stream-rows)) (stated (now (a .maps)) (a .map-rows)) (stated (now (a .entries)) (a .entry-rows)) in
-    let r = c .before .before .before .before .before .before .before .pre in
-    let o = in-order l r in
-    record { fits = omega (arith, o .narrow, o .programs-end, o .sequences) }
+cast-put-head c = let o = order c in record { fits = omega (arith, o .narrow, o .programs-end, o .sequences) }
 
 cast-put-head-2 : tie.Need-cast-put-head-2
-cast-put-head-2 c =
-    let a = c .before .before .before .before .before .before .before .args in
-    let i = scalarsBy (a .info) in
-    let l = tablesWith i (stated (now (a .atcs)) (a .atc-rows)) (stated (now (a .stcs)) (a .stc-rows)) (stated (now (a .programs)) (a .program-rows)) (stated (now (a .streams)) (a .stream-rows)) (stated (now (a .maps)) (a .map-rows)) (stated (now (a .entries)) (a .entry-rows)) in
-    let r = c .before .before .before .before .before .before .before .pre in
-    let o = in-order l r in
-    record { fits = omega (arith, o .narrow, o .programs-end, o .sequences) }
+cast-put-head-2 c = let o = order (c .before) in record { fits = omega (arith, o .narrow, o .programs-end, o .sequences) }
 
 cast-put-head-3 : tie.Need-cast-put-head-3
-cast-put-head-3 c =
-    let a = c .before .before .before .before .before .before .before .args in
-    let i = scalarsBy (a .info) in
-    let l = tablesWith i (stated (now (a .atcs)) (a .atc-rows)) (stated (now (a .stcs)) (a .stc-rows)) (stated (now (a .programs)) (a .program-rows)) (stated (now (a .streams)) (a .stream-rows)) (stated (now (a .maps)) (a .map-rows)) (stated (now (a .entries)) (a .entry-rows)) in
-    let r = c .before .before .before .before .before .before .before .pre in
-    let o = in-order l r in
-    record { fits = omega (arith, o .narrow, o .programs-end, o .sequences) }
+cast-put-head-3 c = let o = order (c .before .before) in record { fits = omega (arith, o .narrow, o .programs-end, o .sequences) }
 
 put-head-requires : tie.Need-put-head-requires
 put-head-requires c κs =
-    let a = c .before .before .before .before .before .before .before .before .args in
-    let i = scalarsBy (a .info) in
-    let l = tablesWith i (stated (now (a .atcs)) (a .atc-rows)) (stated (now (a .stcs)) (a .stc-rows)) (stated (now (a .programs)) (a .program-rows)) (stated (now (a .streams)) (a .stream-rows)) (stated (now (a .maps)) (a .map-rows)) (stated (now (a .entries)) (a .entry-rows)) in
-    let r = c .before .before .before .before .before .before .before .before .pre in
-    let o = in-order l r in
+    let o = order (c .before .before .before) in
     omega (arith, o .head, o .sequences, o .programs-end, o .room)
 
-sub-put-section : tie.Need-sub-put-section
-sub-put-section c =
-    let a = c .before .before .before .before .before .before .before .before .before .before .before .args in
-    let i = scalarsBy (a .info) in
-    let l = tablesWith i (stated (now (a .atcs)) (a .atc-rows)) (stated (now (a .stcs)) (a .stc-rows)) (stated (now (a .programs)) (a .program-rows)) (stated (now (a .streams)) (a .stream-rows)) (stated (now (a .maps)) (a .map-rows)) (stated (now (a .entries)) (a .entry-rows)) in
-    let r = c .before .before .before .before .before .before .before .before .before .before .before .pre in
-    in-order l r .head
+sub-put-sequences : tie.Need-sub-put-sequences
+sub-put-sequences c = order (head (c .before .before .before)) .head
 
-put-section-requires : tie.Need-put-section-requires
-put-section-requires c κs =
-    let a = c .before .before .before .before .before .before .before .before .before .before .before .before .args in
-    let i = scalarsBy (a .info) in
-    let l = tablesWith i (stated (now (a .atcs)) (a .atc-rows)) (stated (now (a .stcs)) (a .stc-rows)) (stated (now (a .programs)) (a .program-rows)) (stated (now (a .streams)) (a .stream-rows)) (stated (now (a .maps)) (a .map-rows)) (stated (now (a .entries)) (a .entry-rows)) in
-    let r = c .before .before .before .before .before .before .before .before .before .before .before .before .pre in
-    sequences-storable i (stated (now (a .atcs)) (a .atc-rows)) (stated (now (a .stcs)) (a .stc-rows)) (stated (now (a .programs)) (a .program-rows)) (stated (now (a .streams)) (a .stream-rows)) (stated (now (a .maps)) (a .map-rows)) (stated (now (a .entries)) (a .entry-rows)) (a .programs-at) (a .cpi-at) (a .marks-at) _ (ready-kept l (c .before .before .before .put-head .kept .1 .1 .1 .1 .0) r)
+put-sequences-requires : tie.Need-put-sequences-requires
+put-sequences-requires c κs =
+    let h = c .before .before .before .before in
+    let s = start (head h) in
+    sequences-storable (tables s) (s .args .places) _ (ready-kept (tables s) (h .put-head .kept .1 .1 .1 .1 .0) (s .pre))
 
-sub-put-section-2 : tie.Need-sub-put-section-2
-sub-put-section-2 c =
-    let a = c .before .before .before .before .before .before .before .before .before .before .before .before .before .before .before .args in
-    let i = scalarsBy (a .info) in
-    let l = tablesWith i (stated (now (a .atcs)) (a .atc-rows)) (stated (now (a .stcs)) (a .stc-rows)) (stated (now (a .programs)) (a .program-rows)) (stated (now (a .streams)) (a .stream-rows)) (stated (now (a .maps)) (a .map-rows)) (stated (now (a .entries)) (a .entry-rows)) in
-    let r = c .before .before .before .before .before .before .before .before .before .before .before .before .before .before .before .pre in
-    in-order l r .sequences
+sub-len : tie.Need-sub-len
+sub-len c = order (head (sequences (c .before .before .before))) .sequences
 
-put-section-requires-2 : tie.Need-put-section-requires-2
-put-section-requires-2 c κs =
-    let a = c .before .before .before .before .before .before .before .before .before .before .before .before .before .before .before .before .args in
-    let i = scalarsBy (a .info) in
-    let l = tablesWith i (stated (now (a .atcs)) (a .atc-rows)) (stated (now (a .stcs)) (a .stc-rows)) (stated (now (a .programs)) (a .program-rows)) (stated (now (a .streams)) (a .stream-rows)) (stated (now (a .maps)) (a .map-rows)) (stated (now (a .entries)) (a .entry-rows)) in
-    let r = c .before .before .before .before .before .before .before .before .before .before .before .before .before .before .before .before .pre in
-    programs-storable i (stated (now (a .atcs)) (a .atc-rows)) (stated (now (a .stcs)) (a .stc-rows)) (stated (now (a .programs)) (a .program-rows)) (stated (now (a .streams)) (a .stream-rows)) (stated (now (a .maps)) (a .map-rows)) (stated (now (a .entries)) (a .entry-rows)) (a .programs-at) (a .cpi-at) (a .marks-at) _ (ready-kept l (c .before .before .before .put-section .kept .1 .1 .1 .1 .1 .1 .0 ∙ c .before .before .before .before .before .before .before .put-head .kept .1 .1 .1 .1 .0) r)
+put-programs-requires : tie.Need-put-programs-requires
+put-programs-requires c κs =
+    let q = c .before .before .before .before in
+    let h = sequences q in
+    let s = start (head h) in
+    programs-storable (tables s) (s .args .places) _ (ready-kept (tables s) (q .put-sequences .kept .1 .1 .1 .1 .0 ∙ h .put-head .kept .1 .1 .1 .1 .0) (s .pre))
 
-sub-put-cpi : tie.Need-sub-put-cpi
-sub-put-cpi c =
-    let a = c .before .before .before .before .before .before .before .before .before .before .before .before .before .before .before .before .before .before .before .args in
-    let i = scalarsBy (a .info) in
-    let l = tablesWith i (stated (now (a .atcs)) (a .atc-rows)) (stated (now (a .stcs)) (a .stc-rows)) (stated (now (a .programs)) (a .program-rows)) (stated (now (a .streams)) (a .stream-rows)) (stated (now (a .maps)) (a .map-rows)) (stated (now (a .entries)) (a .entry-rows)) in
-    let r = c .before .before .before .before .before .before .before .before .before .before .before .before .before .before .before .before .before .before .before .pre in
-    in-order l r .programs-end
+sub-len-2 : tie.Need-sub-len-2
+sub-len-2 c = order (head (sequences (programs (c .before .before .before)))) .programs-end
 
 put-cpi-requires : tie.Need-put-cpi-requires
 put-cpi-requires c κs =
-    let a = c .before .before .before .before .before .before .before .before .before .before .before .before .before .before .before .before .before .before .before .before .args in
-    let i = scalarsBy (a .info) in
-    let l = tablesWith i (stated (now (a .atcs)) (a .atc-rows)) (stated (now (a .stcs)) (a .stc-rows)) (stated (now (a .programs)) (a .program-rows)) (stated (now (a .streams)) (a .stream-rows)) (stated (now (a .maps)) (a .map-rows)) (stated (now (a .entries)) (a .entry-rows)) in
-    let r = c .before .before .before .before .before .before .before .before .before .before .before .before .before .before .before .before .before .before .before .before .pre in
-    cpi-storable i (stated (now (a .atcs)) (a .atc-rows)) (stated (now (a .stcs)) (a .stc-rows)) (stated (now (a .programs)) (a .program-rows)) (stated (now (a .streams)) (a .stream-rows)) (stated (now (a .maps)) (a .map-rows)) (stated (now (a .entries)) (a .entry-rows)) (a .programs-at) (a .cpi-at) (a .marks-at) _ (ready-kept l (c .before .before .before .put-section2 .kept .1 .1 .1 .1 .1 .1 .0 ∙ c .before .before .before .before .before .before .before .put-section .kept .1 .1 .1 .1 .1 .1 .0 ∙ c .before .before .before .before .before .before .before .before .before .before .before .put-head .kept .1 .1 .1 .1 .0) r)
+    let p = c .before .before .before .before in
+    let q = programs p in
+    let h = sequences q in
+    let s = start (head h) in
+    cpi-storable (tables s) (s .args .places) _ (ready-kept (tables s) (p .put-programs .kept .1 .1 .1 .1 .0 ∙ q .put-sequences .kept .1 .1 .1 .1 .0 ∙ h .put-head .kept .1 .1 .1 .1 .0) (s .pre))
 
 put-marks-requires : tie.Need-put-marks-requires
 put-marks-requires c κs =
-    let a = c .before .before .before .before .before .before .before .before .before .before .before .before .before .before .before .before .before .before .before .before .before .before .before .before .args in
-    let i = scalarsBy (a .info) in
-    let l = tablesWith i (stated (now (a .atcs)) (a .atc-rows)) (stated (now (a .stcs)) (a .stc-rows)) (stated (now (a .programs)) (a .program-rows)) (stated (now (a .streams)) (a .stream-rows)) (stated (now (a .maps)) (a .map-rows)) (stated (now (a .entries)) (a .entry-rows)) in
-    let r = c .before .before .before .before .before .before .before .before .before .before .before .before .before .before .before .before .before .before .before .before .before .before .before .before .pre in
-    in-order l (ready-kept l (c .before .before .before .put-cpi .kept .1 .1 .1 .1 .1 .0 ∙ c .before .before .before .before .before .before .before .put-section2 .kept .1 .1 .1 .1 .1 .1 .0 ∙ c .before .before .before .before .before .before .before .before .before .before .before .put-section .kept .1 .1 .1 .1 .1 .1 .0 ∙ c .before .before .before .before .before .before .before .before .before .before .before .before .before .before .before .put-head .kept .1 .1 .1 .1 .0) r) .room
+    let i = c .before .before .before in
+    let p = cpi i in
+    let q = programs p in
+    let h = sequences q in
+    let s = start (head h) in
+    in-order (tables s) (ready-kept (tables s) (i .put-cpi .kept .1 .1 .1 .1 .1 .0 ∙ p .put-programs .kept .1 .1 .1 .1 .0 ∙ q .put-sequences .kept .1 .1 .1 .1 .0 ∙ h .put-head .kept .1 .1 .1 .1 .0) (s .pre)) .room
 
 same-length : tie.Need-same-length
 same-length c = search needs
@@ -113,12 +97,16 @@ same-length c = search needs
 returns : tie.Need-returns
 unfolding clipIn
 returns c =
-    let a = c .before .before .before .before .before .before .before .before .before .before .before .before .before .before .before .before .before .before .before .before .before .before .before .before .before .before .before .args in
-    let i = scalarsBy (a .info) in
-    let l = tablesWith i (stated (now (a .atcs)) (a .atc-rows)) (stated (now (a .stcs)) (a .stc-rows)) (stated (now (a .programs)) (a .program-rows)) (stated (now (a .streams)) (a .stream-rows)) (stated (now (a .maps)) (a .map-rows)) (stated (now (a .entries)) (a .entry-rows)) in
-    let r = c .before .before .before .before .before .before .before .before .before .before .before .before .before .before .before .before .before .before .before .before .before .before .before .before .before .before .before .pre in
-    placed-stored (clipIn l) (r .placed) (now (a .out)) (c .before .before .before .before .before .before .before .before .before .before .before .before .before .before .before .before .before .before .put-head .ensures) (stored-as _ 220 (c .before .before .before .before .before .before .before .before .before .before .before .before .before .before .put-section .ensures .1) (sequences-in i (stated (now (a .atcs)) (a .atc-rows)) (stated (now (a .stcs)) (a .stc-rows)) (stated (now (a .programs)) (a .program-rows)) (stated (now (a .streams)) (a .stream-rows)) (stated (now (a .maps)) (a .map-rows)) (stated (now (a .entries)) (a .entry-rows))))
-    (stored-as _ (a .programs-at) (c .before .before .before .before .before .before .before .before .before .before .put-section2 .ensures .1) (programs-in i (stated (now (a .atcs)) (a .atc-rows)) (stated (now (a .stcs)) (a .stc-rows)) (stated (now (a .programs)) (a .program-rows)) (stated (now (a .streams)) (a .stream-rows)) (stated (now (a .maps)) (a .map-rows)) (stated (now (a .entries)) (a .entry-rows)))) (stored-as _ (a .cpi-at) (c .before .before .before .before .before .before .put-cpi .ensures .1) (cpi-in i (stated (now (a .atcs)) (a .atc-rows)) (stated (now (a .stcs)) (a .stc-rows)) (stated (now (a .programs)) (a .program-rows)) (stated (now (a .streams)) (a .stream-rows)) (stated (now (a .maps)) (a .map-rows)) (stated (now (a .entries)) (a .entry-rows)))) (c .before .before .put-marks .ensures)
+    let m = c .before .before in
+    let i = m .before .before .before .before in
+    let p = cpi i in
+    let q = programs p in
+    let h = sequences q in
+    let s = start (head h) in
+    let l = tables s in
+    let at = s .args .places in
+    placed-stored (clipIn l) (s .pre .placed) (now (s .args .out)) (h .put-head .ensures) (stored-as _ 220 (q .put-sequences .ensures) (sequences-in l))
+    (stored-as _ (at .programs) (p .put-programs .ensures) (programs-in l)) (stored-as _ (at .cpi) (i .put-cpi .ensures .1) (cpi-in l)) (m .put-marks .ensures)
 
 pub put-sections-spec : {M : Type 1} → statement M
 put-sections-spec =
@@ -128,11 +116,11 @@ put-sections-spec =
     cast-put-head-2
     cast-put-head-3
     put-head-requires
-    sub-put-section
-    put-section-requires
-    sub-put-section-2
-    put-section-requires-2
-    sub-put-cpi
+    sub-put-sequences
+    put-sequences-requires
+    sub-len
+    put-programs-requires
+    sub-len-2
     put-cpi-requires
     put-marks-requires
     same-length

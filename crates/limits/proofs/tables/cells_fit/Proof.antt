@@ -2,7 +2,8 @@
 use denote.Ref.{now}
 use borrow.Author.Needs.{needs}
 use Rattle.format.specs.Tables.{ClipTables, stcCells, streamCells}
-use Rattle.queries.specs.Asked.{stated, noScalars, tablesWith}
+use Rattle.queries.specs.Asked.{noScalars}
+use Rattle.limits.specs.Stated.{statedTables}
 use Rattle.limits.proofs.Walks.{counts}
 use Rattle.limits.proofs.Clips.{sequences-fail, programs-fail, maps-decide}
 use Rattle.limits.proofs.tables.cells_fit.Statement.{statement}
@@ -12,13 +13,12 @@ use Rattle.limits.proofs.tables.cells_fit.Tie as tie
 abbrev tables : tie.Start → ClipTables
 tables s =
     let a = s .args in
-    tablesWith noScalars (stated (now (a .atcs)) (a .atc-rows)) (stated (now (a .stcs)) (a .stc-rows)) (stated (now (a .programs)) (a .program-rows)) (stated (now (a .streams)) (a .stream-rows)) (stated (now (a .maps)) (a .map-rows)) (stated (now (a .entries)) (a .entry-rows))
+    statedTables noScalars (a .rows) (now (a .atcs)) (now (a .stcs)) (now (a .programs)) (now (a .streams)) (now (a .maps)) (now (a .entries))
 
 groups-fit-requires : tie.Need-groups-fit-requires
 groups-fit-requires c κs =
     let s = c .before .before .before .before .before .before in
-    let a = s .args in
-    let there = counts 1 stcCells (stated (now (a .atcs)) (a .atc-rows)) (stated (now (a .stcs)) (a .stc-rows)) (s .pre .0) in
+    let there = counts 1 stcCells (tables s .atcs) (tables s .stcs) (s .pre .0) in
     (there .heads-there, there .rows-there)
 
 returns : tie.Need-returns
@@ -27,8 +27,7 @@ returns c = sequences-fail (tables (c .before .before .before .before .before .b
 groups-fit-requires-2 : tie.Need-groups-fit-requires-2
 groups-fit-requires-2 c κs =
     let s = c .before .before .before .before .before .before .before .before in
-    let a = s .args in
-    let there = counts 2 streamCells (stated (now (a .programs)) (a .program-rows)) (stated (now (a .streams)) (a .stream-rows)) (s .pre .1 .0) in
+    let there = counts 2 streamCells (tables s .programs) (tables s .streams) (s .pre .1 .0) in
     (there .heads-there, there .rows-there)
 
 returns-2 : tie.Need-returns-2
