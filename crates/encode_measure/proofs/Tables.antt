@@ -1,17 +1,17 @@
 -- What the tests have shown of the six tables, as the section's functions ask for it, and what a test that fails says of the refusal.
-use Prim.Native.Nat.{ℕ, _+_, _-_, _^_, _<_, _≤_}
+use Prim.Native.Nat.{ℕ, _+_, _-_, _≤_}
 use mathlib.Core.Path.{_≡_, refl, sym, ap, _∙_}
-use mathlib.Core.List.{List, [], _∷_}
+use mathlib.Core.List.{List}
 use mathlib.Core.Bool.{Bool, true, false, not}
 use native.Mathlib.Omega.{arith}
 use lib.ListN.{length}
 use lib.Dec.{leb}
 use borrow.Author.Tests.{not-true, not-false}
 use Rattle.format.specs.Bytes.{both, pick, unless, every, fits}
-use Rattle.format.specs.ClipRecord.{Scalars, Clip, mapType, entryCount}
-use Rattle.format.specs.Tables.{Table, ClipTables, clipIn, isStated, addUp, rowsOf, mapCells, stcCells, streamCells, entryCells}
+use Rattle.format.specs.ClipRecord.{Clip, mapType, entryCount}
+use Rattle.format.specs.Tables.{ClipTables, clipIn, isStated, addUp, rowsOf, mapCells, stcCells, streamCells, entryCells}
 use Rattle.format.specs.Rewriting.{sequencesBytes, programsBytes, cpiBytes, cpiBytesBy}
-use Rattle.format.specs.Refusals.{mapFits, entryFits, scalarsFit, cellsFit, runsFit, countsAdd, allStated, writeRefusal, everyMap}
+use Rattle.format.specs.Refusals.{mapFits, entryFits, scalarsFit, cellsFit, runsFit, allStated, writeRefusal, everyMap}
 use Rattle.format.proofs.Tests.{both-true, split-both, true-both, passed, left-fails, right-fails}
 use Rattle.format.proofs.Maker.{good-made}
 use Rattle.queries.specs.Asked.{noScalars, tablesWith}
@@ -26,7 +26,7 @@ use Rattle.encode_sections.proofs.Sections.{sequences-are, programs-are}
 use Rattle.encode_cpi.specs.declared.Length.{Length}
 use Rattle.encode_cpi.specs.Cpi as cpi
 use Rattle.encode_measure.specs.declared.Places.{Places}
-use Rattle.encode_measure.specs.Places.{refusalIn, pairsCounted, programsPlace, cpiPlace, marksPlace, Placed, Ready}
+use Rattle.encode_measure.specs.Places.{refusalIn, pairsCounted, marksPlace, Ready}
 use Rattle.encode_measure.proofs.Tests.{refusal-is}
 use Rattle.encode_measure.proofs.Parts.{place-programs, place-cpi, place-marks, InOrder, placed-order, good-short}
 
