@@ -23,6 +23,7 @@ use ep_map_queries::own::entries_of_map;
 use ep_map_times::first_pts;
 use ep_map_times::indexed_span_90k;
 use ep_map_times::last_pts;
+use ticks::Pts90;
 
 // The entry of a map with the greatest time not above the one given.
 #[no_mangle]
@@ -36,7 +37,7 @@ pub extern "C" fn clpi_entry_point_at_or_before(
 ) -> ClpiAnswer
     ensures { λ r. ⌜ foundNumbers r ≡ answerNumbers (ask (entryPointAtOrBefore map (record { ticks = «at_90k» })) (mapsAndEntries (stated (now (maps .entry)) «map_rows») (stated (now (entries .entry)) «entry_rows»))) ⌝ }
 {
-    answer_of(entry_point_at_or_before(maps, map_rows, entries, entry_rows, map, at_90k))
+    answer_of(entry_point_at_or_before(maps, map_rows, entries, entry_rows, map, Pts90(at_90k)))
 }
 
 // The entry of a map with the least time above the one given.
@@ -51,7 +52,7 @@ pub extern "C" fn clpi_entry_point_after(
 ) -> ClpiAnswer
     ensures { λ r. ⌜ foundNumbers r ≡ answerNumbers (ask (entryPointAfter map (record { ticks = «at_90k» })) (mapsAndEntries (stated (now (maps .entry)) «map_rows») (stated (now (entries .entry)) «entry_rows»))) ⌝ }
 {
-    answer_of(entry_point_after(maps, map_rows, entries, entry_rows, map, at_90k))
+    answer_of(entry_point_after(maps, map_rows, entries, entry_rows, map, Pts90(at_90k)))
 }
 
 // The packet to read from for a time: that of the entry at or before it.
@@ -66,7 +67,7 @@ pub extern "C" fn clpi_seek_spn(
 ) -> ClpiAnswer
     ensures { λ r. ⌜ foundNumbers r ≡ answerNumbers (ask (seekSpn map (record { ticks = «at_90k» })) (mapsAndEntries (stated (now (maps .entry)) «map_rows») (stated (now (entries .entry)) «entry_rows»))) ⌝ }
 {
-    answer_of(seek_spn(maps, map_rows, entries, entry_rows, map, at_90k))
+    answer_of(seek_spn(maps, map_rows, entries, entry_rows, map, Pts90(at_90k)))
 }
 
 // The packet of the entry after a time.
@@ -81,7 +82,7 @@ pub extern "C" fn clpi_next_seek_spn(
 ) -> ClpiAnswer
     ensures { λ r. ⌜ foundNumbers r ≡ answerNumbers (ask (nextSeekSpn map (record { ticks = «at_90k» })) (mapsAndEntries (stated (now (maps .entry)) «map_rows») (stated (now (entries .entry)) «entry_rows»))) ⌝ }
 {
-    answer_of(next_seek_spn(maps, map_rows, entries, entry_rows, map, at_90k))
+    answer_of(next_seek_spn(maps, map_rows, entries, entry_rows, map, Pts90(at_90k)))
 }
 
 // The time of the first entry of a map.
@@ -159,7 +160,7 @@ pub extern "C" fn clpi_primary_seek_spn(
 ) -> ClpiAnswer
     ensures { λ r. ⌜ foundNumbers r ≡ answerNumbers (ask (primarySeekSpn (record { ticks = «at_90k» })) (mapsAndEntries (stated (now (maps .entry)) «map_rows») (stated (now (entries .entry)) «entry_rows»))) ⌝ }
 {
-    answer_of(primary_seek_spn(maps, map_rows, entries, entry_rows, at_90k))
+    answer_of(primary_seek_spn(maps, map_rows, entries, entry_rows, Pts90(at_90k)))
 }
 
 // The packet of the entry after a time, by the primary map.
@@ -173,7 +174,7 @@ pub extern "C" fn clpi_primary_next_seek_spn(
 ) -> ClpiAnswer
     ensures { λ r. ⌜ foundNumbers r ≡ answerNumbers (ask (primaryNextSeekSpn (record { ticks = «at_90k» })) (mapsAndEntries (stated (now (maps .entry)) «map_rows») (stated (now (entries .entry)) «entry_rows»))) ⌝ }
 {
-    answer_of(primary_next_seek_spn(maps, map_rows, entries, entry_rows, at_90k))
+    answer_of(primary_next_seek_spn(maps, map_rows, entries, entry_rows, Pts90(at_90k)))
 }
 
 // The row of the first map of a type.

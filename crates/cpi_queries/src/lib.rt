@@ -7,6 +7,7 @@ ghost use Rattle.format.specs.Questions.{ask, primaryVideoEpMap, epMapByKind, n
 ghost use Rattle.format.specs.Tables.{tableRows, rowRoom, mapCells};
 ghost use Rattle.queries.specs.Answers.{foundOf};
 ghost use Rattle.queries.specs.Asked.{stated, onlyMaps, mapsAndEntries};
+ghost use Rattle.ticks.specs.Times.{asPts};
 ghost use Rattle.ep_map_queries.specs.InMap.{primarySeekQuestion};
 ghost use Rattle.cpi_queries.specs.PrimaryMap.{leastPid, videoOrLeast};
 use cells::cell_at;
@@ -17,6 +18,7 @@ use nearest::none_yet;
 use queries::Found;
 use row_search::Test;
 use row_search::first_row;
+use ticks::Pts90;
 
 // The cells of a map's row: PID, type, entry count.
 const MAP: usize = 3;
@@ -83,9 +85,9 @@ fn primary_seek(
     entries: &[u8],
     entry_rows: u32,
     is_after: bool,
-    at: u32,
+    at: Pts90,
 ) -> Found
-    ensures { λ r. ⌜ foundOf r ≡ ask (primarySeekQuestion «is_after» at) (mapsAndEntries (stated (now (maps .entry)) «map_rows») (stated (now (entries .entry)) «entry_rows»)) ⌝ }
+    ensures { λ r. ⌜ foundOf r ≡ ask (primarySeekQuestion «is_after» (at .0)) (mapsAndEntries (stated (now (maps .entry)) «map_rows») (stated (now (entries .entry)) «entry_rows»)) ⌝ }
 {
     match primary_video_ep_map(maps, map_rows) {
         Found::Refused(refusal) => Found::Refused(refusal),
@@ -113,9 +115,9 @@ pub fn primary_seek_spn(
     map_rows: u32,
     entries: &[u8],
     entry_rows: u32,
-    at: u32,
+    at: Pts90,
 ) -> Found
-    ensures { λ r. ⌜ foundOf r ≡ ask (primarySeekSpn (record { ticks = at })) (mapsAndEntries (stated (now (maps .entry)) «map_rows») (stated (now (entries .entry)) «entry_rows»)) ⌝ }
+    ensures { λ r. ⌜ foundOf r ≡ ask (primarySeekSpn (asPts at)) (mapsAndEntries (stated (now (maps .entry)) «map_rows») (stated (now (entries .entry)) «entry_rows»)) ⌝ }
 {
     primary_seek(maps, map_rows, entries, entry_rows, false, at)
 }
@@ -126,9 +128,9 @@ pub fn primary_next_seek_spn(
     map_rows: u32,
     entries: &[u8],
     entry_rows: u32,
-    at: u32,
+    at: Pts90,
 ) -> Found
-    ensures { λ r. ⌜ foundOf r ≡ ask (primaryNextSeekSpn (record { ticks = at })) (mapsAndEntries (stated (now (maps .entry)) «map_rows») (stated (now (entries .entry)) «entry_rows»)) ⌝ }
+    ensures { λ r. ⌜ foundOf r ≡ ask (primaryNextSeekSpn (asPts at)) (mapsAndEntries (stated (now (maps .entry)) «map_rows») (stated (now (entries .entry)) «entry_rows»)) ⌝ }
 {
     primary_seek(maps, map_rows, entries, entry_rows, true, at)
 }

@@ -7,6 +7,7 @@ ghost use Rattle.format.specs.ClipRecord.{time};
 ghost use Rattle.format.specs.Questions.{ask, entryPointAtOrBefore, entryPointAfter, seekSpn, nextSeekSpn};
 ghost use Rattle.queries.specs.Answers.{foundOf};
 ghost use Rattle.queries.specs.Asked.{stated, mapsAndEntries};
+ghost use Rattle.ticks.specs.Times.{asPts};
 ghost use Rattle.nearest.specs.Nearest.{NearestIn};
 ghost use Rattle.ep_map_queries.specs.InMap.{entriesAt, findIn, seekIn, findQuestion, seekQuestion};
 use crate::own::entries_of_map;
@@ -17,6 +18,7 @@ use nearest::look_at_time;
 use nearest::none_yet;
 use queries::Found;
 use table_rows::own::Own;
+use ticks::Pts90;
 
 // The nearest of `count` entries from the one with the number `first`.
 fn scan(entries: &[u8], first: u64, count: u32, is_after: bool, at: u32) -> Nearest
@@ -68,13 +70,13 @@ fn find(
     entry_rows: u32,
     map: u32,
     is_after: bool,
-    at: u32,
+    at: Pts90,
 ) -> Found
-    ensures { λ r. ⌜ foundOf r ≡ ask (findQuestion «is_after» map at) (mapsAndEntries (stated (now (maps .entry)) «map_rows») (stated (now (entries .entry)) «entry_rows»)) ⌝ }
+    ensures { λ r. ⌜ foundOf r ≡ ask (findQuestion «is_after» map (at .0)) (mapsAndEntries (stated (now (maps .entry)) «map_rows») (stated (now (entries .entry)) «entry_rows»)) ⌝ }
 {
     match entries_of_map(maps, map_rows, entries, entry_rows, map) {
         Own::Refused => Found::Refused(22),
-        Own::Rows { first, count } => find_in(entries, first, count, is_after, at),
+        Own::Rows { first, count } => find_in(entries, first, count, is_after, at.0),
     }
 }
 
@@ -86,13 +88,13 @@ pub fn seek(
     entry_rows: u32,
     map: u32,
     is_after: bool,
-    at: u32,
+    at: Pts90,
 ) -> Found
-    ensures { λ r. ⌜ foundOf r ≡ ask (seekQuestion «is_after» map at) (mapsAndEntries (stated (now (maps .entry)) «map_rows») (stated (now (entries .entry)) «entry_rows»)) ⌝ }
+    ensures { λ r. ⌜ foundOf r ≡ ask (seekQuestion «is_after» map (at .0)) (mapsAndEntries (stated (now (maps .entry)) «map_rows») (stated (now (entries .entry)) «entry_rows»)) ⌝ }
 {
     match entries_of_map(maps, map_rows, entries, entry_rows, map) {
         Own::Refused => Found::Refused(22),
-        Own::Rows { first, count } => seek_in(entries, first, count, is_after, at),
+        Own::Rows { first, count } => seek_in(entries, first, count, is_after, at.0),
     }
 }
 
@@ -103,9 +105,9 @@ pub fn entry_point_at_or_before(
     entries: &[u8],
     entry_rows: u32,
     map: u32,
-    at: u32,
+    at: Pts90,
 ) -> Found
-    ensures { λ r. ⌜ foundOf r ≡ ask (entryPointAtOrBefore map (record { ticks = at })) (mapsAndEntries (stated (now (maps .entry)) «map_rows») (stated (now (entries .entry)) «entry_rows»)) ⌝ }
+    ensures { λ r. ⌜ foundOf r ≡ ask (entryPointAtOrBefore map (asPts at)) (mapsAndEntries (stated (now (maps .entry)) «map_rows») (stated (now (entries .entry)) «entry_rows»)) ⌝ }
 {
     find(maps, map_rows, entries, entry_rows, map, false, at)
 }
@@ -117,9 +119,9 @@ pub fn entry_point_after(
     entries: &[u8],
     entry_rows: u32,
     map: u32,
-    at: u32,
+    at: Pts90,
 ) -> Found
-    ensures { λ r. ⌜ foundOf r ≡ ask (entryPointAfter map (record { ticks = at })) (mapsAndEntries (stated (now (maps .entry)) «map_rows») (stated (now (entries .entry)) «entry_rows»)) ⌝ }
+    ensures { λ r. ⌜ foundOf r ≡ ask (entryPointAfter map (asPts at)) (mapsAndEntries (stated (now (maps .entry)) «map_rows») (stated (now (entries .entry)) «entry_rows»)) ⌝ }
 {
     find(maps, map_rows, entries, entry_rows, map, true, at)
 }
@@ -131,9 +133,9 @@ pub fn seek_spn(
     entries: &[u8],
     entry_rows: u32,
     map: u32,
-    at: u32,
+    at: Pts90,
 ) -> Found
-    ensures { λ r. ⌜ foundOf r ≡ ask (seekSpn map (record { ticks = at })) (mapsAndEntries (stated (now (maps .entry)) «map_rows») (stated (now (entries .entry)) «entry_rows»)) ⌝ }
+    ensures { λ r. ⌜ foundOf r ≡ ask (seekSpn map (asPts at)) (mapsAndEntries (stated (now (maps .entry)) «map_rows») (stated (now (entries .entry)) «entry_rows»)) ⌝ }
 {
     seek(maps, map_rows, entries, entry_rows, map, false, at)
 }
@@ -145,9 +147,9 @@ pub fn next_seek_spn(
     entries: &[u8],
     entry_rows: u32,
     map: u32,
-    at: u32,
+    at: Pts90,
 ) -> Found
-    ensures { λ r. ⌜ foundOf r ≡ ask (nextSeekSpn map (record { ticks = at })) (mapsAndEntries (stated (now (maps .entry)) «map_rows») (stated (now (entries .entry)) «entry_rows»)) ⌝ }
+    ensures { λ r. ⌜ foundOf r ≡ ask (nextSeekSpn map (asPts at)) (mapsAndEntries (stated (now (maps .entry)) «map_rows») (stated (now (entries .entry)) «entry_rows»)) ⌝ }
 {
     seek(maps, map_rows, entries, entry_rows, map, true, at)
 }

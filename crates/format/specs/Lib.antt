@@ -1,5 +1,5 @@
 -- Document 01 as definitions. A file is a list of numbers below 256.
--- The words that the sections are told in
+-- the words that the sections are told in
 pub mod Bytes
 pub mod Ticks
 -- "The clip record", "Programs and languages", "Entry points", "Extensions"
@@ -7,14 +7,14 @@ pub mod ClipRecord
 pub mod Programs
 pub mod EntryPoints
 pub mod Extensions
--- The record of a file, and tables that hold one
+-- the record of a file, and tables that hold one
 pub mod Reading
 pub mod Tables
 -- "Questions and the front figure", "Rewriting", "Who can be refused"
 pub mod Questions
 pub mod Rewriting
 pub mod Refusals
--- The listing of "Checked by hand"
+-- the listing of "Checked by hand"
 pub mod Listing
--- The refusals of reading told a second time, read by read
+-- the refusals of reading told a second time, read by read
 pub mod ReadByRead

@@ -15,9 +15,9 @@ use Rattle.format.specs.Tables.{ClipTables, isStated, addUp, isRow, clip
 
 -- every question with its arguments, and what it answers. Rows are counted from 0, entries within their map, STCs through all ATCs.
 -- A caller's 90 kHz time has 32 bits for entry lookups and 64 elsewhere; the answers here hold for any number.
--- From seekSpn on: questions that document 01 does not list, further methods of the Rust and, for the primary map, the next packet too
+-- duration90k, and all from seekSpn on: questions that document 01 does not list, further methods of the Rust and, for the primary map, the next packet too
 pub data Question : Type 0 where
-  entryPointAtOrBefore : (map : ℕ) (at : Ticks90) → Question  -- a row of the map's entries
+  entryPointAtOrBefore : (map : ℕ) (at : Ticks90) → Question  -- a row of the map's entries, or none
   entryPointAfter : (map : ℕ) (at : Ticks90) → Question  -- a row of the map's entries, or none
   primaryVideoEpMap : Question  -- a row of table 5, or none
   spnToByte : (spn : ℕ) → Question  -- a byte, or none

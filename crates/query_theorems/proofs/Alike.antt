@@ -7,6 +7,7 @@ use Rattle.format.specs.Questions.{partsOf, ask}
 use Rattle.format.specs.Questions as of
 use Rattle.ticks.specs.Times.{as90}
 use Rattle.queries.specs.Asked.{onlyCounts, onlyScalars}
+use Rattle.ticks.specs.Times.{asPts}
 use Rattle.ep_map_queries.specs.InMap.{seekQuestion}
 use Rattle.theorems.specs.Rewriting.{Rewritable}
 use Rattle.query_theorems.specs.Alike.{Alike}
@@ -41,18 +42,18 @@ module _ (f : List ℕ) (h : Rewritable f) where
     spn_to_byte = from-number found (λ o p. ask (of.spnToByte (o .0)) (onlyScalars (onlyCounts 0 p))) (packets f h) (λ x. x .allowed);
     byte_to_spn = from-number found (λ o p. ask (of.byteToSpn (o .0)) (onlyScalars (onlyCounts 0 p))) (packets f h) (λ x. x .allowed);
     transfer_duration_secs = from-numbers duration (λ o r p. ask of.transferDurationSecs (onlyScalars (onlyCounts r p))) (rate f h) (packets f h) (λ x. x .allowed .0);
-    seek = from-tables found (λ o. of-entries f h (seekQuestion (o .1 .0) (o .0) (o .1 .1 .0)) (seek-parts (o .1 .0) (o .0) (o .1 .1 .0))) (λ x. x .allowed);
+    seek = from-tables found (λ o. of-entries f h (seekQuestion (o .1 .0) (o .0) (o .1 .1 .0 .0)) (seek-parts (o .1 .0) (o .0) (o .1 .1 .0 .0))) (λ x. x .allowed);
     entries_of_map = from-tables own (λ o. own-entries f h (o .0)) (λ x. x .allowed);
-    entry_point_at_or_before = from-tables found (λ o. of-entries f h (of.entryPointAtOrBefore (o .0) (record { ticks = o .1 .0 })) refl) (λ x. x .allowed);
-    entry_point_after = from-tables found (λ o. of-entries f h (of.entryPointAfter (o .0) (record { ticks = o .1 .0 })) refl) (λ x. x .allowed);
-    seek_spn = from-tables found (λ o. of-entries f h (of.seekSpn (o .0) (record { ticks = o .1 .0 })) refl) (λ x. x .allowed);
-    next_seek_spn = from-tables found (λ o. of-entries f h (of.nextSeekSpn (o .0) (record { ticks = o .1 .0 })) refl) (λ x. x .allowed);
+    entry_point_at_or_before = from-tables found (λ o. of-entries f h (of.entryPointAtOrBefore (o .0) (asPts (o .1 .0))) refl) (λ x. x .allowed);
+    entry_point_after = from-tables found (λ o. of-entries f h (of.entryPointAfter (o .0) (asPts (o .1 .0))) refl) (λ x. x .allowed);
+    seek_spn = from-tables found (λ o. of-entries f h (of.seekSpn (o .0) (asPts (o .1 .0))) refl) (λ x. x .allowed);
+    next_seek_spn = from-tables found (λ o. of-entries f h (of.nextSeekSpn (o .0) (asPts (o .1 .0))) refl) (λ x. x .allowed);
     first_pts = from-tables time90 (λ o. of-entries f h (of.firstPts (o .0)) refl) (λ x. x .allowed);
     last_pts = from-tables time90 (λ o. of-entries f h (of.lastPts (o .0)) refl) (λ x. x .allowed);
     indexed_span_90k = from-tables time90 (λ o. of-entries f h (of.indexedSpan90k (o .0)) refl) (λ x. x .allowed);
     ep_map_by_kind = from-table found (λ o. of-maps f h (of.epMapByKind (o .0)) refl) (λ x. x .allowed);
     next_video_ep_map = from-table found (λ o. of-maps f h (of.nextVideoEpMap (o .0)) refl) (λ x. x .allowed);
     primary_video_ep_map = from-table found (λ o. of-maps f h of.primaryVideoEpMap refl) (λ x. x .allowed);
-    primary_seek_spn = from-tables found (λ o. of-entries f h (of.primarySeekSpn (record { ticks = o .0 })) refl) (λ x. x .allowed);
-    primary_next_seek_spn = from-tables found (λ o. of-entries f h (of.primaryNextSeekSpn (record { ticks = o .0 })) refl) (λ x. x .allowed);
+    primary_seek_spn = from-tables found (λ o. of-entries f h (of.primarySeekSpn (asPts (o .0))) refl) (λ x. x .allowed);
+    primary_next_seek_spn = from-tables found (λ o. of-entries f h (of.primaryNextSeekSpn (asPts (o .0))) refl) (λ x. x .allowed);
   }

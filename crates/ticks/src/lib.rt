@@ -6,8 +6,11 @@ ghost use Rattle.ticks.specs.Times.{as45, as90};
 // A time in 45 kHz ticks, as the file's STC times.
 pub struct Ticks45(pub u32);
 
-// A time in 90 kHz ticks, as entry times and the questions.
+// A time in 90 kHz ticks.
 pub struct Ticks90(pub u64);
+
+// A time in 90 kHz ticks of 32 bits, which entries have and entry lookups are given.
+pub struct Pts90(pub u32);
 
 impl Ticks45 {
     // The doubling, the only way from 45 kHz ticks to 90 kHz ticks.

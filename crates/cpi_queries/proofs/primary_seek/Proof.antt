@@ -30,10 +30,10 @@ module _ (k : tie.After-known-told2) where
   found-map = sym (ap foundOf (k .before .row .given .1)) ∙ k .before .before .before .primary-video-ep-map .ensures
 
   below : let a = k .before .before .before .before .before .before .args in k .before .row .given .0 .0 < a .map-rows
-  below = let a = k .before .before .before .before .before .before .args in map-below (a .is-after) (a .at) (stated (now (a .maps)) (a .map-rows)) (stated (now (a .entries)) (a .entry-rows)) found-map
+  below = let a = k .before .before .before .before .before .before .args in map-below (a .is-after) (a .at .0) (stated (now (a .maps)) (a .map-rows)) (stated (now (a .entries)) (a .entry-rows)) found-map
 
 returns : tie.Need-returns
-returns c = let a = c .before .before .before .before .before .before .args in no-maps-refused (a .is-after) (a .at) (stated (now (a .maps)) (a .map-rows)) (stated (now (a .entries)) (a .entry-rows)) (none-found (c .before)) (c .if1 .taken)
+returns c = let a = c .before .before .before .before .before .before .args in no-maps-refused (a .is-after) (a .at .0) (stated (now (a .maps)) (a .map-rows)) (stated (now (a .entries)) (a .entry-rows)) (none-found (c .before)) (c .if1 .taken)
 
 enum-known-row : tie.Need-enum-known-row
 enum-known-row c = search needs
@@ -45,16 +45,16 @@ seek-requires : tie.Need-seek-requires
 seek-requires c κs = search needs
 
 returns-2 : tie.Need-returns-2
-returns-2 c = let a = c .before .before .before .before .before .before .args in not-there (a .is-after) (a .at) (stated (now (a .maps)) (a .map-rows)) (stated (now (a .entries)) (a .entry-rows)) (sym (ap foundOf (c .before .refusal .given .1)) ∙ c .before .before .before .primary-video-ep-map .ensures)
+returns-2 c = let a = c .before .before .before .before .before .before .args in not-there (a .is-after) (a .at .0) (stated (now (a .maps)) (a .map-rows)) (stated (now (a .entries)) (a .entry-rows)) (sym (ap foundOf (c .before .refusal .given .1)) ∙ c .before .before .before .primary-video-ep-map .ensures)
 
 returns-3 : tie.Need-returns-3
-returns-3 c = let a = c .before .before .before .before .before .before .args in no-maps-none (a .is-after) (a .at) (stated (now (a .maps)) (a .map-rows)) (stated (now (a .entries)) (a .entry-rows)) (none-found (c .before)) (c .if1 .left)
+returns-3 c = let a = c .before .before .before .before .before .before .args in no-maps-none (a .is-after) (a .at .0) (stated (now (a .maps)) (a .map-rows)) (stated (now (a .entries)) (a .entry-rows)) (none-found (c .before)) (c .if1 .left)
 
 returns-4 : tie.Need-returns-4
 returns-4 c =
     let k = c .before in
     let a = k .before .before .before .before .before .before .args in
-    c .seek .ensures ∙ sought (a .is-after) (a .at) (stated (now (a .maps)) (a .map-rows)) (stated (now (a .entries)) (a .entry-rows)) (found-map k)
+    c .seek .ensures ∙ sought (a .is-after) (a .at .0) (stated (now (a .maps)) (a .map-rows)) (stated (now (a .entries)) (a .entry-rows)) (found-map k)
 
 pub primary-seek-spec : {M : Type 1} → statement M
 primary-seek-spec =

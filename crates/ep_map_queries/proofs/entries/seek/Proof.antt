@@ -28,13 +28,13 @@ seek-in-requires c κs = let a = c .before .before .before .before .before .befo
 returns : tie.Need-returns
 returns c =
     let a = c .before .before .before .before .before .args in
-    not-asked (seek-asks (stated (now (a .maps)) (a .map-rows)) (stated (now (a .entries)) (a .entry-rows)) (a .map) (a .is-after) (a .at)) (sym (ap ownedOf (c .enum-told .given .1)) ∙ c .before .before .entries-of-map .ensures)
+    not-asked (seek-asks (stated (now (a .maps)) (a .map-rows)) (stated (now (a .entries)) (a .entry-rows)) (a .map) (a .is-after) (a .at .0)) (sym (ap ownedOf (c .enum-told .given .1)) ∙ c .before .before .entries-of-map .ensures)
 
 returns-2 : tie.Need-returns-2
 returns-2 c =
     let k = c .before in
     let a = k .before .before .before .before .before .before .args in
-    c .seek-in .ensures ∙ asked (seek-asks (stated (now (a .maps)) (a .map-rows)) (stated (now (a .entries)) (a .entry-rows)) (a .map) (a .is-after) (a .at)) (own k)
+    c .seek-in .ensures ∙ asked (seek-asks (stated (now (a .maps)) (a .map-rows)) (stated (now (a .entries)) (a .entry-rows)) (a .map) (a .is-after) (a .at .0)) (own k)
 
 pub seek-spec : {M : Type 1} → statement M
 seek-spec =
