@@ -8,8 +8,6 @@ ghost use Rattle.ep_rows.specs.Rows.{headerOf, headerValues, coarseOf, c
 use bits::put_bits;
 use bits::take_bits;
 
-// ---- rows
-
 // The packed fields of a map header, behind ten spare bits: stream type, number of coarse rows, number of fine rows.
 pub struct MapHeader {
     pub ep_stream_type: u32,
@@ -95,8 +93,6 @@ pub fn fine_row_word(f: FineRow) -> u32
     let time = put_bits(i_end, f.time, 11);
     put_bits(time, f.packet, 17) as u32
 }
-
-// ---- an entry's time and packet
 
 // The coarse time at bit 19 or the fine time at bit 9: bit 19 is shared.
 pub fn entry_time(coarse: u32, fine: u32) -> u32

@@ -29,8 +29,8 @@ tableOf a = stated (now (a .0)) (a .1 .0)
 abbrev pub behind : {Others : Type 0} → WithTable Others → Others
 behind a = a .1 .1
 
--- A call on a table that holds the old rows and a call on one that holds the new, whatever stands beyond the rows and however long the
--- slices are: if the other arguments are equal, so are the results.
+-- a call on a table that holds the old rows and a call on one that holds the new, whatever stands beyond the rows and however long the
+-- slices are: if the other arguments are equal, so are the results
 abbrev pub FromTable : {L Others R : Type 0} {E : L → Type 0} (Post : (κs : L) → WithTable Others → R → E κs → Type 0) (old new : List Row) → Type 0
 FromTable Post old new =
     (x y : Call Post) → HoldsRows (tableOf (x .arguments)) old → HoldsRows (tableOf (y .arguments)) new

@@ -90,8 +90,8 @@ pub record ReadCall (f : List ℕ) : Type 0 where
   pub file : fileOf call ≡ f
   pub room : Room (tablesOf f) (tablesGiven call)
 
--- A call of `write` on what that call gave back: the scalars and the row counts of its answer, and the very tables that it filled;
--- and on an output with room for the new file, which may be longer and hold anything.
+-- a call of `write` on what that call gave back: the scalars and the row counts of its answer, and the very tables that it filled;
+-- and on an output with room for the new file, which may be longer and hold anything
 pub record WriteCall {f : List ℕ} (x : ReadCall f) : Type 0 where
   pub call : Call write.Post
   pub told : Stated
