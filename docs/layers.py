@@ -43,7 +43,7 @@ LAYERS = [
     ]),
     ("rows", [
         ("read", "ep_rows ep_entries stream_coding_info"),
-        ("written", "row_limits row_values row_bytes section_heads encode_rows runs map_rows"),
+        ("written", "row_limits row_values row_bytes section_heads encode_rows runs entry_runs map_rows"),
     ]),
     ("bytes", [
         ("bytes, bits, cells, ticks", "common numbers cells bits ticks stream_coding"),

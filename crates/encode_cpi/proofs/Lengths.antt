@@ -1,14 +1,15 @@
--- How long the section is, and the pass that measures it.
+-- How long the section is, and the pass that measures it and tests the entries.
 use Prim.Native.Nat.{ℕ, _+_, _*_, _<_, _≤_}
 use mathlib.Core.Path.{_≡_, refl, sym, ap, _∙_}
 use mathlib.Core.List.{List, [], _∷_, _++_}
-use mathlib.Core.Bool.{true}
+use mathlib.Core.Bool.{Bool, true, false, not}
 use native.Mathlib.Omega.{arith}
-use borrow.Author.Tests.{le-leb, lt-leb}
+use borrow.Author.Tests.{not-true, not-false}
+use lib.Dec.{leb}
 use lib.ListN.{length, length-append}
-use Rattle.format.specs.Bytes.{fieldBytes}
-use Rattle.format.specs.ClipRecord.{Row}
-use Rattle.format.specs.Refusals.{everyMap}
+use Rattle.format.specs.Bytes.{both, every, fieldBytes}
+use Rattle.format.specs.ClipRecord.{Row, mapType}
+use Rattle.format.specs.Refusals.{entryFits, everyMap}
 use Rattle.format.specs.Rewriting.{runs, bodyBytes, bodies, headers, cpiBytesBy}
 use Rattle.format.specs.Tables.{tableRows, mapCells, entryCells}
 use Rattle.format.proofs.Cpi.{headers-length}
@@ -16,10 +17,14 @@ use Rattle.format.proofs.Numbers.{bytes-length}
 use Rattle.cells.specs.Reads.{CellIs}
 use Rattle.table_rows.proofs.Scans.{left-all, left-done}
 use Rattle.runs.specs.Runs.{entriesAt}
-use Rattle.encode_map.proofs.Bodies.{body-size}
-use Rattle.encode_cpi.specs.Cpi.{Counted, fewRuns, mapRows, entryRows, cpiLengthOf}
+use Rattle.entry_runs.specs.Fitting.{runsFit}
+use Rattle.entry_runs.specs.declared.RunCount.{RunCount}
+use Rattle.entry_runs.proofs.Choices.{runs-told, unfit-told}
+use Rattle.encode_map.proofs.Bodies.{map-cell, body-size, runs-within}
+use Rattle.encode_cpi.specs.Cpi.{Counted, fewRuns, entriesFit, mapRows, entryRows, cpiLengthOf, testedOf}
 use Rattle.encode_cpi.specs.declared.Length.{Length}
-use Rattle.encode_cpi.proofs.Maps.{mapsLeft, entriesLeft, maps-count, Walk, walk-first, walk-turn, count-few, every-turn, bodies-turn}
+use Rattle.encode_cpi.specs.declared.Tested.{Tested}
+use Rattle.encode_cpi.proofs.Maps.{mapsLeft, entriesLeft, mapRow, maps-count, Walk, walk-first, walk-turn, count-few, every-turn, bodies-turn}
 
 -- ---- lists
 
@@ -48,58 +53,104 @@ cpi-size ms es h =
 
 -- ---- the pass
 
+-- tests in a row, and in pairs
+pairs : (a b c : Bool) → both (both a b) c ≡ both a (both b c)
+pairs true b c = refl
+pairs false b c = refl
+
+-- a test before one that passes
+before-true : (a : Bool) → both a true ≡ a
+before-true true = refl
+before-true false = refl
+
 module _ (maps : List ℕ) (n : ℕ) (entries : List ℕ) (m : ℕ) where
-  -- no map among the first k has too many runs, and they are measured
-  pub record Measured (len j k : ℕ) : Type 0 where
+  -- the entries of the first k maps fit, whether one of these has too many runs is told, and they are measured
+  pub record Measured (len : ℕ) (few : Bool) (j k : ℕ) : Type 0 where
     pub walk : Walk maps n entries m j k
-    pub small : len ≤ 8 + 12 * n + 1572856 * k
-    pub fits : everyMap fewRuns (mapsLeft maps n entries m k) (entriesLeft maps n entries m j) ≡ everyMap fewRuns (mapRows maps n) (entryRows entries m)
+    pub small : len ≤ 8 + 12 * n + 3145720 * k
+    pub fit : everyMap entriesFit (mapsLeft maps n entries m k) (entriesLeft maps n entries m j) ≡ everyMap entriesFit (mapRows maps n) (entryRows entries m)
+    pub runs-few : both few (everyMap fewRuns (mapsLeft maps n entries m k) (entriesLeft maps n entries m j)) ≡ everyMap fewRuns (mapRows maps n) (entryRows entries m)
     pub rest : len + length (bodies (mapsLeft maps n entries m k) (entriesLeft maps n entries m j)) ≡ 8 + 12 * n + length (bodies (mapRows maps n) (entryRows entries m))
 
   -- before the first map the top and the headers are
-  pub measured-first : Counted (mapRows maps n) (entryRows entries m) → Measured (8 + 12 * n) 0 0
+  pub measured-first : Counted (mapRows maps n) (entryRows entries m) → Measured (8 + 12 * n) true 0 0
   measured-first c = record {
     walk = walk-first maps n entries m c;
     small = omega arith;
-    fits = rw (left-all mapCells maps n, left-all entryCells entries m);
+    fit = rw (left-all mapCells maps n, left-all entryCells entries m);
+    runs-few = rw (left-all mapCells maps n, left-all entryCells entries m);
     rest = rw (left-all mapCells maps n, left-all entryCells entries m);
   }
 
-  module _ (len j k : ℕ) (i : Measured len j k) (h : k < n) {c r : ℕ} (cell : CellIs maps (12 * k + 8) c) (is : r ≡ runs (entriesAt entries (20 * j) c)) where
-    -- the map has not too many runs
-    pub measured-turn : r ≤ 65535 → Measured (len + (4 + 8 * r + 4 * c)) (j + c) (k + 1)
-    measured-turn few =
-        let own = entriesAt entries (20 * j) c in
-        let later = bodies (mapsLeft maps n entries m (k + 1)) (entriesLeft maps n entries m (j + c)) in
-        let passes = le-leb (runs own) 65535 (rw (← is) few) in
-        let size = body-size entries (20 * j) c in
-        let rest = rw (bodies-turn maps n entries m j k (i .walk) h cell, length-append (bodyBytes own) later, size, ← is) at (i .rest) in
-        record {
-          walk = walk-turn maps n entries m j k (i .walk) h cell;
-          small = omega (arith, i .small, few, count-few maps n entries m j k (i .walk) h cell);
-          fits = rw (every-turn maps n entries m j k (i .walk) h cell fewRuns, passes) at (i .fits);
-          rest = omega arith;
-        }
+  module _ (len : ℕ) (few : Bool) (j k : ℕ) (i : Measured len few j k) (h : k < n) {type c : ℕ} (kind : CellIs maps (12 * k + 4) type) (cell : CellIs maps (12 * k + 8) c)
+      {told : RunCount} (is : told ≡ runsFit type (entriesAt entries (20 * j) c)) where
+    -- the map's own entries
+    abbrev own : List Row
+    own = entriesAt entries (20 * j) c
 
-    -- it has
-    pub measured-refused : 65535 < r → Length.TooManyRuns ≡ cpiLengthOf (mapRows maps n) (entryRows entries m)
-    unfolding cpiLengthOf
-    measured-refused many =
-        let fails = lt-leb (runs (entriesAt entries (20 * j) c)) 65535 (rw (← is) many) in
-        rw (← i .fits, every-turn maps n entries m j k (i .walk) h cell fewRuns, fails)
+    -- its type
+    type-is : type ≡ mapType (mapRow maps n entries m k)
+    type-is = map-cell maps (12 * k) 1 (omega arith) kind
+
+    -- the entries left: its own, and those of the maps behind it
+    fit-turn : both (every (entryFits type) own) (everyMap entriesFit (mapsLeft maps n entries m (k + 1)) (entriesLeft maps n entries m (j + c)))
+        ≡ everyMap entriesFit (mapRows maps n) (entryRows entries m)
+    fit-turn = rw type-is (rw (every-turn maps n entries m j k (i .walk) h cell entriesFit) at (i .fit))
+
+    -- an entry does not fit
+    pub measured-unfit : told ≡ RunCount.Unfit → Tested.Unfit ≡ testedOf (mapRows maps n) (entryRows entries m)
+    unfolding testedOf
+    measured-unfit u =
+        let fails = unfit-told type own is u in
+        rw (← fit-turn, fails)
+
+    module _ {r : ℕ} (counted : told ≡ RunCount.Runs r) where
+      -- there are not more runs than entries
+      pub runs-within-count : r ≤ c
+      runs-within-count = omega (arith, runs-told type own is counted .1, runs-within entries (20 * j) c)
+
+      -- they fit
+      pub measured-turn : {few′ : Bool} → few′ ≡ both few (leb r 65535) → Measured (len + (4 + 8 * r + 4 * c)) few′ (j + c) (k + 1)
+      measured-turn still =
+          let all = runs-told type own is counted in
+          let later = bodies (mapsLeft maps n entries m (k + 1)) (entriesLeft maps n entries m (j + c)) in
+          let behind = everyMap fewRuns (mapsLeft maps n entries m (k + 1)) (entriesLeft maps n entries m (j + c)) in
+          let size = body-size entries (20 * j) c in
+          let rest = rw (bodies-turn maps n entries m j k (i .walk) h cell, length-append (bodyBytes own) later, size, ← all .1) at (i .rest) in
+          record {
+            walk = walk-turn maps n entries m j k (i .walk) h cell;
+            small = omega (arith, i .small, runs-within-count, count-few maps n entries m j k (i .walk) h cell);
+            fit = rw (all .0) at fit-turn;
+            runs-few = rw (still, pairs few (leb r 65535) behind, all .1) (rw (every-turn maps n entries m j k (i .walk) h cell fewRuns) at (i .runs-few));
+            rest = omega arith;
+          }
 
   -- all are measured
-  pub measured-done : (len j k : ℕ) → Measured len j k → n ≤ k → (n ≡ 0 → ⊥) → Length.Bytes len ≡ cpiLengthOf (mapRows maps n) (entryRows entries m)
-  unfolding cpiLengthOf
-  measured-done len j k i h some =
-      let passes : everyMap fewRuns (mapRows maps n) (entryRows entries m) ≡ true = sym (i .fits) ∙ rw (left-done mapCells maps n k h) in
-      let rest = rw (left-done mapCells maps n k h) at (i .rest) in
-      let count = maps-count maps n entries m in
-      let size = cpi-size (mapRows maps n) (entryRows entries m) (omega arith) in
-      let long : len ≡ length (cpiBytesBy (mapRows maps n) (entryRows entries m)) = omega arith in
-      rw (passes, long)
+  module _ (len : ℕ) (few : Bool) (j k : ℕ) (i : Measured len few j k) (h : n ≤ k) where
+    -- every entry fits
+    all-fit : everyMap entriesFit (mapRows maps n) (entryRows entries m) ≡ true
+    all-fit = sym (i .fit) ∙ rw (left-done mapCells maps n k h)
+
+    -- whether a map has too many runs
+    few-is : few ≡ everyMap fewRuns (mapRows maps n) (entryRows entries m)
+    few-is = sym (before-true few) ∙ rw (left-done mapCells maps n k h) at (i .runs-few)
+
+    -- one has
+    pub measured-many : not few ≡ true → Tested.Fit Length.TooManyRuns ≡ testedOf (mapRows maps n) (entryRows entries m)
+    unfolding testedOf cpiLengthOf
+    measured-many y = rw (all-fit, ← few-is, not-true few y)
+
+    -- none has
+    pub measured-done : not few ≡ false → (n ≡ 0 → ⊥) → Tested.Fit (Length.Bytes len) ≡ testedOf (mapRows maps n) (entryRows entries m)
+    unfolding testedOf cpiLengthOf
+    measured-done y some =
+        let rest = rw (left-done mapCells maps n k h) at (i .rest) in
+        let count = maps-count maps n entries m in
+        let size = cpi-size (mapRows maps n) (entryRows entries m) (omega arith) in
+        let long : len ≡ length (cpiBytesBy (mapRows maps n) (entryRows entries m)) = omega arith in
+        rw (all-fit, ← few-is, not-false few y, long)
 
   -- without maps there are four bytes
-  pub measured-none : n ≡ 0 → Length.Bytes 4 ≡ cpiLengthOf (mapRows maps n) (entryRows entries m)
-  unfolding cpiLengthOf tableRows
+  pub measured-none : n ≡ 0 → Tested.Fit (Length.Bytes 4) ≡ testedOf (mapRows maps n) (entryRows entries m)
+  unfolding testedOf cpiLengthOf tableRows
   measured-none z = rw (z, bytes-length 4 0)

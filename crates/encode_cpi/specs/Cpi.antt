@@ -11,6 +11,7 @@ use Rattle.format.specs.Refusals.{mapFits, entryFits, everyMap}
 use Rattle.format.specs.Rewriting.{runs, bodies, cpiBytesBy}
 use Rattle.format.specs.Tables.{addUp, tableRows, rowRoom, mapCells, entryCells}
 use Rattle.encode_cpi.specs.declared.Length.{Length}
+use Rattle.encode_cpi.specs.declared.Tested.{Tested}
 
 -- the stated rows of both tables are there
 pub record BothThere (maps : List ℕ) (n : ℕ) (entries : List ℕ) (m : ℕ) : Type 0 where
@@ -47,6 +48,10 @@ entryRows entries m = tableRows entryCells entries m
 -- the section's length, or that a map has too many runs
 unfoldable pub cpiLengthOf : List Row → List Row → Length
 cpiLengthOf ms es = pick (everyMap fewRuns ms es) (Length.Bytes (length (cpiBytesBy ms es))) Length.TooManyRuns
+
+-- that where every entry fits, which is tested first
+unfoldable pub testedOf : List Row → List Row → Tested
+testedOf ms es = pick (everyMap entriesFit ms es) (Tested.Fit (cpiLengthOf ms es)) Tested.Unfit
 
 -- the tables are there and what they hold can be written; the length is the section's, and the output has room for it
 pub record CpiRoom (maps : List ℕ) (n : ℕ) (entries : List ℕ) (m len size at : ℕ) : Type 0 where

@@ -4,15 +4,17 @@ ghost use mathlib.Core.List.{[], _∷_, _++_};
 ghost use Prim.Native.Nat.{_+_, _*_, _≤_};
 ghost use lib.ListN.{length};
 ghost use lib.Seq.{sets};
-ghost use Rattle.format.specs.Bytes.{fieldBytes};
+ghost use lib.Dec.{leb};
+ghost use Rattle.format.specs.Bytes.{both, fieldBytes};
 ghost use Rattle.format.specs.Rewriting.{headers, bodies, cpiBytesBy};
-ghost use Rattle.encode_cpi.specs.Cpi.{BothThere, Counted, mapRows, entryRows, cpiLengthOf, MapsRoom, CpiRoom};
+ghost use Rattle.encode_cpi.specs.Cpi.{BothThere, Counted, mapRows, entryRows, testedOf, MapsRoom, CpiRoom};
 use cells::cell_at;
 use encode_map::put_map;
+use entry_runs::RunCount;
+use entry_runs::count_runs;
 use numbers::put_u8;
 use numbers::put_u16;
 use numbers::put_u32;
-use runs::count_runs;
 
 // The bytes of an entry in its table, and of a map in its table; a map's header has as many in the file.
 const ENTRY: usize = 20;
@@ -28,28 +30,49 @@ pub enum Length {
     TooManyRuns,
 }
 
-// The length of the section of n maps and m entries.
-pub fn cpi_length(maps: &[u8], n: u32, entries: &[u8], m: u32) -> Length
+// That where every entry fits, else that one does not.
+pub enum Tested {
+    Fit(Length),
+    Unfit,
+}
+
+// Whether no map has too many runs, where `few` says so of those before one with this many.
+fn still_few(few: bool, runs: usize) -> bool
+    ensures { λ r. ⌜ r ≡ both few (leb runs 65535) ⌝ }
+{
+    if !few {
+        return false;
+    }
+    runs <= MOST_RUNS
+}
+
+// The length of the section of n maps and m entries, in the walk that tests whether every entry fits. An entry that does not is told also behind a map with too many runs.
+pub fn cpi_length(maps: &[u8], n: u32, entries: &[u8], m: u32) -> Tested
     requires { ⌜ BothThere (now maps) n (now entries) m × Counted (mapRows (now maps) n) (entryRows (now entries) m) ⌝ }
-    ensures { λ r. ⌜ r ≡ cpiLengthOf (mapRows (now (maps .entry)) n) (entryRows (now (entries .entry)) m) ⌝ }
+    ensures { λ r. ⌜ r ≡ testedOf (mapRows (now (maps .entry)) n) (entryRows (now (entries .entry)) m) ⌝ }
 {
     if n == 0 {
-        return Length::Bytes(4);
+        return Tested::Fit(Length::Bytes(4));
     }
     let mut len = 8 + MAP * (n as usize);
+    let mut few = true;
     let mut row: usize = 0;
     let mut k: usize = 0;
     while k < (n as usize) {
+        let map_type = cell_at(maps, MAP * k + 4);
         let count = cell_at(maps, MAP * k + 8) as usize;
-        let runs = count_runs(entries, ENTRY * row, count);
-        if runs > MOST_RUNS {
-            return Length::TooManyRuns;
-        }
+        let RunCount::Runs(runs) = count_runs(entries, ENTRY * row, count, map_type) else {
+            return Tested::Unfit;
+        };
+        few = still_few(few, runs);
         len += 4 + 8 * runs + 4 * count;
         row += count;
         k += 1;
     }
-    Length::Bytes(len)
+    if !few {
+        return Tested::Fit(Length::TooManyRuns);
+    }
+    Tested::Fit(Length::Bytes(len))
 }
 
 // The headers of n maps, and behind them the bodies, in the section that starts at `at` and ends at `end`: the last map first, since a body's end is known before its start.

@@ -7,23 +7,24 @@ use native.Mathlib.Omega.{arith}
 use lib.ListN.{length}
 use lib.Dec.{leb}
 use borrow.Author.Tests.{not-true, not-false}
-use Rattle.format.specs.Bytes.{both, pick, unless, every, fits}
-use Rattle.format.specs.ClipRecord.{Clip, mapType, entryCount}
-use Rattle.format.specs.Tables.{ClipTables, clipIn, isStated, addUp, rowsOf, mapCells, stcCells, streamCells, entryCells}
+use Rattle.format.specs.Bytes.{both, pick, unless, every}
+use Rattle.format.specs.ClipRecord.{entryCount}
+use Rattle.format.specs.Tables.{ClipTables, clipIn, isStated, addUp, rowsOf, rowRoom, atcCells, stcCells, programCells, streamCells, mapCells, entryCells}
 use Rattle.format.specs.Rewriting.{sequencesBytes, programsBytes, cpiBytes, cpiBytesBy}
-use Rattle.format.specs.Refusals.{mapFits, entryFits, scalarsFit, cellsFit, runsFit, allStated, writeRefusal, everyMap}
-use Rattle.format.proofs.Tests.{both-true, split-both, true-both, passed, left-fails, right-fails}
+use Rattle.format.specs.Refusals.{mapFits, scalarsFit, cellsFit, runsFit, allStated, writeRefusal}
+use Rattle.format.proofs.Tests.{both-true, split-both, true-both, passed, picked, left-fails, right-fails}
 use Rattle.format.proofs.Maker.{good-made}
 use Rattle.queries.specs.Asked.{noScalars, tablesWith}
 use Rattle.table_rows.specs.OwnRows.{isCounted}
-use Rattle.row_limits.specs.declared.Kind.{Kind}
-use Rattle.limits.specs.Clips.{entriesFit, headsFit, groupsFit, mapsFit, tablesFit}
+use Rattle.limits.specs.Clips.{entriesFit, tablesFit}
 use Rattle.limits.proofs.Walks.{counts}
-use Rattle.limits.proofs.Clips.{scalars-and-tables}
+use Rattle.limits.proofs.Clips.{fields-and-entries, maps-fit}
 use Rattle.encode_sections.specs.declared.Section.{Section}
 use Rattle.encode_sections.specs.Sections as sections
 use Rattle.encode_sections.proofs.Sections.{sequences-are, programs-are}
+use Rattle.entry_runs.proofs.Choices.{other}
 use Rattle.encode_cpi.specs.declared.Length.{Length}
+use Rattle.encode_cpi.specs.declared.Tested.{Tested}
 use Rattle.encode_cpi.specs.Cpi as cpi
 use Rattle.encode_measure.specs.declared.Places.{Places}
 use Rattle.encode_measure.specs.Places.{refusalIn, pairsCounted, marksPlace, Ready}
@@ -66,25 +67,12 @@ ready-kept l same r = rw same r
 
 -- of two lengths, the one where there are too many runs is told where the test fails
 too-many : (b : Bool) (len : ℕ) → pick b (Length.Bytes len) Length.TooManyRuns ≡ Length.TooManyRuns → b ≡ false
-too-many false len is = refl
-too-many true len is = let z : _≡_ {A = ℕ} 0 1 = cc in absurd (omega arith)
+too-many b len is = other b (λ e. let z : _≡_ {A = ℕ} 0 1 = cc in omega arith) is
 
 few-told : (b : Bool) {m len : ℕ} → pick b (Length.Bytes m) Length.TooManyRuns ≡ Length.Bytes len → (b ≡ true) × (len ≡ m)
-few-told true is = (refl, cc)
-few-told false is = let z : _≡_ {A = ℕ} 0 1 = cc in absurd (omega arith)
-
--- the last tests of a record's cells: those of its maps
-maps-parts : (c : Clip) → cellsFit c ≡ true
-    → (leb (length (c .maps)) 255 ≡ true) × ((every mapFits (c .maps) ≡ true) × (everyMap (λ m es. every (entryFits (mapType m)) es) (c .maps) (c .entries) ≡ true))
-unfolding tablesFit
-maps-parts c fit =
-    let tables = both-true (scalarsFit (c .scalars)) (tablesFit c) (sym (scalars-and-tables c) ∙ fit) in
-    let programs = groupsFit Kind.Program Kind.Stream (c .programs) (c .streams) in
-    let behind = both-true (groupsFit Kind.Atc Kind.Stc (c .atcs) (c .stcs)) (both programs (mapsFit (c .maps) (c .entries))) (tables .1) in
-    let maps = both-true programs (mapsFit (c .maps) (c .entries)) (behind .1) in
-    let parts = both-true (headsFit Kind.Map (c .maps)) (entriesFit (c .maps) (c .entries)) (maps .1) in
-    let heads = both-true (leb (length (c .maps)) 255) (every mapFits (c .maps)) (parts .0) in
-    (heads .0, (heads .1, parts .1))
+few-told b is =
+    let p = picked b (λ e. let z : _≡_ {A = ℕ} 0 1 = cc in omega arith) is in
+    (p .0, cc (p .1))
 
 -- ---- six tables
 
@@ -111,28 +99,46 @@ module _ (l : ClipTables) where
   unfolding pairsCounted
   counted-by {r} is h = sym is ∙ not-false r h
 
-  -- scalars that do not fit
-  pub scalars-refused : {r : Bool} → pairsCounted l ≡ true → r ≡ scalarsFit (l .scalars) → not r ≡ true → refusalIn l ≡ 30
-  unfolding clipIn
-  scalars-refused {r} p is h =
-      let fails : cellsFit (clipIn l) ≡ false = scalars-and-tables (clipIn l) ∙ left-fails (tablesFit (clipIn l)) (sym is ∙ not-true r h) in
+  -- every cell but those of the entries fits
+  abbrev pub fieldsOf : Bool
+  fieldsOf = both (scalarsFit (l .scalars)) (tablesFit (l .atcs) (l .stcs) (l .programs) (l .streams) (l .maps))
+
+  -- those of the entries do
+  abbrev entriesOf : Bool
+  entriesOf = entriesFit (rowsOf mapCells (l .maps)) (rowsOf entryCells (l .entries))
+
+  -- cells before the entries that do not fit
+  pub fields-refused : {r : Bool} → pairsCounted l ≡ true → r ≡ fieldsOf → not r ≡ true → refusalIn l ≡ 30
+  fields-refused {r} p is h =
+      let fails : cellsFit (clipIn l) ≡ false = fields-and-entries l ∙ left-fails entriesOf (sym is ∙ not-true r h) in
       refusal-is l ∙ rw (p, fails)
 
-  -- tables that do not fit
-  pub tables-refused : {r : Bool} → pairsCounted l ≡ true → r ≡ tablesFit (clipIn bare) → not r ≡ true → refusalIn l ≡ 30
-  unfolding clipIn tablesFit
-  tables-refused {r} p is h =
-      let fails : cellsFit (clipIn l) ≡ false = scalars-and-tables (clipIn l) ∙ right-fails (scalarsFit (l .scalars)) (sym is ∙ not-true r h) in
-      refusal-is l ∙ rw (p, fails)
+  -- cells that do
+  pub fields-by : {r : Bool} → r ≡ fieldsOf → not r ≡ false → fieldsOf ≡ true
+  fields-by {r} is h = sym is ∙ not-false r h
 
-  -- scalars and tables that do
-  pub fit-by : {r q : Bool} → r ≡ scalarsFit (l .scalars) → not r ≡ false → q ≡ tablesFit (clipIn bare) → not q ≡ false → cellsFit (clipIn l) ≡ true
-  unfolding clipIn tablesFit
-  fit-by {r} {q} is h js g = scalars-and-tables (clipIn l) ∙ true-both (sym is ∙ not-false r h) (sym js ∙ not-false q g)
+  -- what is told of the maps and entries
+  abbrev testedIn : Tested
+  testedIn = cpi.testedOf (cpi.mapRows (l .maps .bytes) (l .maps .rows)) (cpi.entryRows (l .entries .bytes) (l .entries .rows))
+
+  -- an entry does not fit
+  pub entries-refused : pairsCounted l ≡ true → testedIn ≡ Tested.Unfit → refusalIn l ≡ 30
+  unfolding cpi.testedOf
+  entries-refused p is =
+      let unfit : entriesOf ≡ false = other entriesOf (λ e. let z : _≡_ {A = ℕ} 0 1 = cc in omega arith) is in
+      let fails : cellsFit (clipIn l) ≡ false = fields-and-entries l ∙ right-fails fieldsOf unfit in
+      refusal-is l ∙ rw (p, fails)
 
   -- what the maps and entries are, for the functions of the CPI
-  abbrev lengthIn : Length
+  abbrev pub lengthIn : Length
   lengthIn = cpi.cpiLengthOf (cpi.mapRows (l .maps .bytes) (l .maps .rows)) (cpi.entryRows (l .entries .bytes) (l .entries .rows))
+
+  -- every entry fits, and the length is told
+  pub entries-fit : {length : Length} → fieldsOf ≡ true → testedIn ≡ Tested.Fit length → (cellsFit (clipIn l) ≡ true) × (length ≡ lengthIn)
+  unfolding cpi.testedOf
+  entries-fit fields is =
+      let p = picked entriesOf (λ e. let z : _≡_ {A = ℕ} 0 1 = cc in omega arith) is in
+      (fields-and-entries l ∙ true-both fields (p .0), cc (p .1))
 
   -- a map has too many runs
   pub runs-refused : pairsCounted l ≡ true → cellsFit (clipIn l) ≡ true → lengthIn ≡ Length.TooManyRuns → refusalIn l ≡ 31
@@ -146,7 +152,18 @@ module _ (l : ClipTables) where
   unfolding clipIn runsFit cpi.cpiLengthOf cpiBytes
   runs-few is = few-told (runsFit (clipIn l)) is
 
-  -- ---- what the section's functions ask
+  -- ---- what the tests and the section's functions ask
+
+  -- the rows of every table but that of the entries are there
+  pub fields-there : pairsCounted l ≡ true
+      → ((l .atcs .rows ≤ rowRoom atcCells (l .atcs .bytes)) × (l .stcs .rows ≤ rowRoom stcCells (l .stcs .bytes)))
+      × (((l .programs .rows ≤ rowRoom programCells (l .programs .bytes)) × (l .streams .rows ≤ rowRoom streamCells (l .streams .bytes)))
+      × (l .maps .rows ≤ rowRoom mapCells (l .maps .bytes)))
+  fields-there h =
+      let first = counts 1 stcCells (l .atcs) (l .stcs) (pairs h .0) in
+      let second = counts 2 streamCells (l .programs) (l .streams) (pairs h .1 .0) in
+      let third = counts 2 entryCells (l .maps) (l .entries) (pairs h .1 .1) in
+      ((first .heads-there, first .rows-there), ((second .heads-there, second .rows-there), third .heads-there))
 
   pub sequences-counted : pairsCounted l ≡ true → sections.Counted Section.Sequences (l .atcs .bytes) (l .atcs .rows) (l .stcs .bytes) (l .stcs .rows)
   sequences-counted h =
@@ -173,20 +190,20 @@ module _ (l : ClipTables) where
       let is = counts 2 entryCells (l .maps) (l .entries) (pairs h .1 .1) in
       record { maps-there = is .heads-there; entries-there = is .rows-there }
 
-  pub cpi-counted : pairsCounted l ≡ true → cellsFit (clipIn l) ≡ true
-      → cpi.Counted (cpi.mapRows (l .maps .bytes) (l .maps .rows)) (cpi.entryRows (l .entries .bytes) (l .entries .rows))
-  unfolding clipIn isCounted
-  cpi-counted h fit =
-      let fits = maps-parts (clipIn l) fit in
+  pub cpi-counted : pairsCounted l ≡ true → fieldsOf ≡ true → cpi.Counted (cpi.mapRows (l .maps .bytes) (l .maps .rows)) (cpi.entryRows (l .entries .bytes) (l .entries .rows))
+  unfolding isCounted
+  cpi-counted h fields =
+      let tables = both-true (scalarsFit (l .scalars)) (tablesFit (l .atcs) (l .stcs) (l .programs) (l .streams) (l .maps)) fields .1 in
+      let maps = both-true (leb (length (rowsOf mapCells (l .maps))) 255) (every mapFits (rowsOf mapCells (l .maps))) (maps-fit l tables) in
       let stated = both (isStated mapCells (l .maps)) (both (isStated entryCells (l .entries)) true) in
       let counted = both-true stated (addUp entryCount (rowsOf mapCells (l .maps)) (rowsOf entryCells (l .entries))) (pairs h .1 .1) in
-      record { add = counted .1; few = fits .0; fit = fits .1 .0 }
+      record { add = counted .1; few = maps .0; fit = maps .1 }
 
   pub cpi-writable : Passed l → cpi.Writable (cpi.mapRows (l .maps .bytes) (l .maps .rows)) (cpi.entryRows (l .entries .bytes) (l .entries .rows))
   unfolding clipIn runsFit
   cpi-writable p =
-      let fits = maps-parts (clipIn l) (p .fit) in
-      record { counted = cpi-counted (p .counted) (p .fit); entries-fit = fits .1 .1; runs-few = p .runs-fit }
+      let parts = both-true fieldsOf entriesOf (sym (fields-and-entries l) ∙ p .fit) in
+      record { counted = cpi-counted (p .counted) (parts .0); entries-fit = parts .1; runs-few = p .runs-fit }
 
   -- ---- what storing each section asks, in an output of so many bytes
 

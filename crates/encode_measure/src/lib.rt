@@ -1,12 +1,17 @@
 // What writing tests before it stores a byte: the refusal, or where the sections of the new file stand.
 ghost use mathlib.Core.Path.{_≡_};
+ghost use Prim.Native.Nat.{_≤_};
+ghost use Rattle.format.specs.Bytes.{both};
 ghost use Rattle.format.specs.Refusals.{scalarsFit};
+ghost use Rattle.format.specs.Tables.{rowRoom, atcCells, stcCells, programCells, streamCells, mapCells};
 ghost use Rattle.clip_information.specs.Read.{scalarsBy};
-ghost use Rattle.queries.specs.Asked.{noScalars};
+ghost use Rattle.queries.specs.Asked.{stated, noScalars};
+ghost use Rattle.limits.specs.Clips.{tablesFit};
 ghost use Rattle.limits.specs.Stated.{statedTables};
 ghost use Rattle.encode_measure.specs.Places.{pairsCounted, measuredIn};
 use clip_sections::info::ClipInfo;
 use encode_cpi::Length;
+use encode_cpi::Tested;
 use encode_cpi::cpi_length;
 use encode_sections::Section;
 use encode_sections::section_length;
@@ -61,6 +66,27 @@ fn scalars_fit(info: ClipInfo) -> bool
     info.validity_flags < 256
 }
 
+// Whether the scalars fit, and the rows of every table but that of the entries, else 30.
+fn fields_fit(
+    info: ClipInfo,
+    rows: StatedRows,
+    atcs: &[u8],
+    stcs: &[u8],
+    programs: &[u8],
+    streams: &[u8],
+    maps: &[u8],
+) -> bool
+    requires sequences { ⌜ (rows .atcs ≤ rowRoom atcCells (now atcs)) × (rows .stcs ≤ rowRoom stcCells (now stcs)) ⌝ }
+    requires programs { ⌜ (rows .programs ≤ rowRoom programCells (now programs)) × (rows .streams ≤ rowRoom streamCells (now streams)) ⌝ }
+    requires maps { ⌜ rows .maps ≤ rowRoom mapCells (now maps) ⌝ }
+    ensures { λ r. ⌜ r ≡ both (scalarsFit (scalarsBy info)) (tablesFit (stated (now (atcs .entry)) (rows .atcs)) (stated (now (stcs .entry)) (rows .stcs)) (stated (now (programs .entry)) (rows .programs)) (stated (now (streams .entry)) (rows .streams)) (stated (now (maps .entry)) (rows .maps))) ⌝ }
+{
+    if !scalars_fit(info) {
+        return false;
+    }
+    cells_fit(rows, atcs, stcs, programs, streams, maps)
+}
+
 // The refusal of a record that is handed over, or the places of its sections.
 pub fn measure(
     info: ClipInfo,
@@ -77,13 +103,13 @@ pub fn measure(
     if !counts_add(rows, atcs, stcs, programs, streams, maps, entries) {
         return Measured::Refused(22);
     }
-    if !scalars_fit(info) {
+    if !fields_fit(info, rows, atcs, stcs, programs, streams, maps) {
         return Measured::Refused(30);
     }
-    if !cells_fit(rows, atcs, stcs, programs, streams, maps, entries) {
+    let Tested::Fit(length) = cpi_length(maps, rows.maps, entries, rows.entries) else {
         return Measured::Refused(30);
-    }
-    let Length::Bytes(len) = cpi_length(maps, rows.maps, entries, rows.entries) else {
+    };
+    let Length::Bytes(len) = length else {
         return Measured::Refused(31);
     };
     let programs_at = 220 + section_length(Section::Sequences, atcs, rows.atcs, stcs, rows.stcs);

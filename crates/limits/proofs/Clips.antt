@@ -1,23 +1,23 @@
--- The tables of a record, one test behind the other, and `cellsFit` as the scalars' part and the tables'.
-use Prim.Native.Nat.{ℕ, _+_, _*_, _^_, _<_, _≤_}
-use mathlib.Core.Path.{_≡_, refl, sym, ap, _∙_}
+-- The tables of a record, one test behind the other, and `cellsFit` by its parts.
+use Prim.Native.Nat.{ℕ, _+_, _*_, _<_, _≤_}
+use mathlib.Core.Path.{_≡_, refl, ap, _∙_}
 use mathlib.Core.List.{List}
 use mathlib.Core.Bool.{Bool, true, false, not}
 use native.Mathlib.Nat.{le-div-iff-mul-le}
 use native.Mathlib.Omega.{arith}
 use lib.ListN.{length}
 use lib.Dec.{leb}
-use borrow.Author.Tests.{lt-ltb, le-leb, lt-leb, not-true, not-false}
+use borrow.Author.Tests.{le-leb, lt-leb, not-true, not-false}
 use Rattle.format.specs.Bytes.{both, every}
-use Rattle.format.specs.ClipRecord.{Scalars, Clip, atcStcCount, streamCount, entryCount}
+use Rattle.format.specs.ClipRecord.{atcStcCount, streamCount, entryCount}
 use Rattle.format.specs.Refusals.{scalarsFit, atcFits, stcFits, programFits, streamFits, mapFits, cellsFit, allStated, countsAdd}
-use Rattle.format.specs.Tables.{Table, ClipTables, isStated, addUp, rowsOf, clipIn, tableRows, rowRoom, atcCells, stcCells, programCells, streamCells, mapCells, entryCells}
-use Rattle.queries.specs.Asked.{stated, noScalars, tablesWith}
+use Rattle.format.specs.Tables.{ClipTables, isStated, addUp, rowsOf, clipIn, tableRows, rowRoom, atcCells, stcCells, programCells, streamCells, mapCells, entryCells}
 use Rattle.table_rows.specs.OwnRows.{isCounted}
 use Rattle.row_limits.specs.Kinds.{cellsOf, fitsBy}
 use Rattle.row_limits.specs.declared.Kind.{Kind}
-use Rattle.limits.specs.Clips.{entriesFit, headsFit, groupsFit, mapsFit, tablesFit}
+use Rattle.limits.specs.Clips.{entriesFit, headsFit, groupsFit, tablesFit}
 use Rattle.format.proofs.Tables.{rows-stated}
+use Rattle.format.proofs.Tests.{both-true}
 
 -- ---- two tests
 
@@ -60,10 +60,13 @@ pairs : (a b c : Bool) → both a (both b c) ≡ both (both a b) c
 pairs true b c = refl
 pairs false b c = refl
 
--- each cell of a record fits where the scalars do and the tables do
-pub scalars-and-tables : (c : Clip) → cellsFit c ≡ both (scalarsFit (c .scalars)) (tablesFit c)
-unfolding cellsFit tablesFit
-scalars-and-tables c =
+-- each cell of a record fits where the scalars do and the tables but that of the entries do, and the entries do
+pub fields-and-entries : (l : ClipTables)
+    → cellsFit (clipIn l)
+    ≡ both (both (scalarsFit (l .scalars)) (tablesFit (l .atcs) (l .stcs) (l .programs) (l .streams) (l .maps))) (entriesFit (rowsOf mapCells (l .maps)) (rowsOf entryCells (l .entries)))
+unfolding cellsFit tablesFit clipIn
+fields-and-entries l =
+    let c = clipIn l in
     let few-atcs = leb (length (c .atcs)) 255 in
     let atcs = every atcFits (c .atcs) in
     let stcs = every stcFits (c .stcs) in
@@ -73,36 +76,27 @@ scalars-and-tables c =
     let few-maps = leb (length (c .maps)) 255 in
     let maps = every mapFits (c .maps) in
     let entries = entriesFit (c .maps) (c .entries) in
+    let sequences-section = both (both few-atcs atcs) stcs in
+    let programs-section = both (both few-programs programs) streams in
     let third = pairs few-maps maps entries in
     let second =
     ap (λ (x : Bool). both few-programs (both programs (both streams x))) third
-    ∙ pairs few-programs programs (both streams (mapsFit (c .maps) (c .entries)))
-    ∙ pairs (both few-programs programs) streams (mapsFit (c .maps) (c .entries)) in
-    let rest = both (groupsFit Kind.Program Kind.Stream (c .programs) (c .streams)) (mapsFit (c .maps) (c .entries)) in
+    ∙ pairs few-programs programs (both streams (both (both few-maps maps) entries))
+    ∙ pairs (both few-programs programs) streams (both (both few-maps maps) entries)
+    ∙ pairs programs-section (both few-maps maps) entries in
+    let tables = both sequences-section (both programs-section (both few-maps maps)) in
+    let rest = both (both programs-section (both few-maps maps)) entries in
     ap (λ (x : Bool). both (scalarsFit (c .scalars)) x)
     (ap (λ (x : Bool). both few-atcs (both atcs (both stcs x))) second
     ∙ pairs few-atcs atcs (both stcs rest)
-    ∙ pairs (both few-atcs atcs) stcs rest)
-
--- scalars in the types of their fields fit
-pub scalars-narrow : (s : Scalars) → s .version < 2 ^ 32 → s .streamType < 2 ^ 8 → s .applicationType < 2 ^ 8 → s .rate < 2 ^ 32 → s .packets < 2 ^ 32 → s .validityFlags < 2 ^ 8 → s .formatId < 2 ^ 32
-    → scalarsFit s ≡ true
-scalars-narrow s a b c d e f g =
-    rw (lt-ltb _ _ a, lt-ltb _ _ b, lt-ltb _ _ c, lt-ltb _ _ d, lt-ltb _ _ e, lt-ltb _ _ f, lt-ltb _ _ g)
-
--- where they do, the tables decide
-pub tables-decide : (s : Scalars) (atcs stcs programs streams maps entries : Table) {b : Bool} → scalarsFit s ≡ true
-    → b ≡ tablesFit (clipIn (tablesWith noScalars atcs stcs programs streams maps entries))
-    → b ≡ cellsFit (clipIn (tablesWith s atcs stcs programs streams maps entries))
-unfolding clipIn tablesFit
-tables-decide s atcs stcs programs streams maps entries narrow is =
-    let c = clipIn (tablesWith s atcs stcs programs streams maps entries) in
-    is ∙ sym (scalars-and-tables c ∙ ap (λ (x : Bool). both x (tablesFit c)) narrow)
+    ∙ pairs (both few-atcs atcs) stcs rest
+    ∙ pairs sequences-section (both programs-section (both few-maps maps)) entries)
+    ∙ pairs (scalarsFit (c .scalars)) tables entries
 
 -- ---- the tables, section by section
 
 module _ (l : ClipTables) where
-  -- the sequences, the programs and the maps
+  -- the sequences, the programs, the maps, and all of them
   abbrev pub sequencesOf : Bool
   sequencesOf = groupsFit Kind.Atc Kind.Stc (rowsOf atcCells (l .atcs)) (rowsOf stcCells (l .stcs))
 
@@ -110,23 +104,31 @@ module _ (l : ClipTables) where
   programsOf = groupsFit Kind.Program Kind.Stream (rowsOf programCells (l .programs)) (rowsOf streamCells (l .streams))
 
   abbrev pub mapsOf : Bool
-  mapsOf = mapsFit (rowsOf mapCells (l .maps)) (rowsOf entryCells (l .entries))
+  mapsOf = headsFit Kind.Map (rowsOf mapCells (l .maps))
+
+  abbrev pub allOf : Bool
+  allOf = tablesFit (l .atcs) (l .stcs) (l .programs) (l .streams) (l .maps)
+
+  -- where all fit, the maps do
+  pub maps-fit : allOf ≡ true → mapsOf ≡ true
+  unfolding tablesFit
+  maps-fit h = both-true programsOf mapsOf (both-true sequencesOf (both programsOf mapsOf) h .1) .1
 
   -- the sequences fail
-  pub sequences-fail : {a : Bool} → a ≡ sequencesOf → not a ≡ true → false ≡ tablesFit (clipIn l)
-  unfolding tablesFit clipIn
+  pub sequences-fail : {a : Bool} → a ≡ sequencesOf → not a ≡ true → false ≡ allOf
+  unfolding tablesFit
   sequences-fail is h = first-fails sequencesOf (both programsOf mapsOf) is h
 
   -- they pass
   module _ {a : Bool} (is : a ≡ sequencesOf) (h : not a ≡ false) where
     -- the programs fail
-    pub programs-fail : {b : Bool} → b ≡ programsOf → not b ≡ true → false ≡ tablesFit (clipIn l)
-    unfolding tablesFit clipIn
+    pub programs-fail : {b : Bool} → b ≡ programsOf → not b ≡ true → false ≡ allOf
+    unfolding tablesFit
     programs-fail is₂ h₂ = then-second sequencesOf (both programsOf mapsOf) is h (first-fails programsOf mapsOf is₂ h₂)
 
     -- they pass, and the maps decide
-    pub maps-decide : {b c : Bool} → b ≡ programsOf → not b ≡ false → c ≡ mapsOf → c ≡ tablesFit (clipIn l)
-    unfolding tablesFit clipIn
+    pub maps-decide : {b c : Bool} → b ≡ programsOf → not b ≡ false → c ≡ mapsOf → c ≡ allOf
+    unfolding tablesFit
     maps-decide is₂ h₂ is₃ = then-second sequencesOf (both programsOf mapsOf) is h (then-second programsOf mapsOf is₂ h₂ is₃)
 
 -- ---- what is tested before

@@ -1,15 +1,11 @@
-// Whether the tables of a record fit: at most 255 ATCs, programs and maps, and every row.
+// Whether the tables of a record but that of the entries fit: at most 255 ATCs, programs and maps, and every row.
 ghost use mathlib.Core.Path.{_≡_};
-ghost use mathlib.Core.Bool.{true};
 ghost use Prim.Native.Nat.{_≤_};
 ghost use Rattle.format.specs.Bytes.{every};
-ghost use Rattle.format.specs.Tables.{tableRows, rowRoom, clipIn, stcCells, streamCells, mapCells, entryCells};
-ghost use Rattle.queries.specs.Asked.{stated, noScalars};
-ghost use Rattle.table_rows.specs.OwnRows.{isCounted};
+ghost use Rattle.format.specs.Tables.{tableRows, rowRoom, atcCells, stcCells, programCells, streamCells, mapCells};
+ghost use Rattle.queries.specs.Asked.{stated};
 ghost use Rattle.row_limits.specs.Kinds.{cellsOf, fitsBy};
-ghost use Rattle.limits.specs.Clips.{headsFit, groupsFit, mapsFit, tablesFit};
-ghost use Rattle.limits.specs.Stated.{statedTables};
-use crate::rows::entries_fit;
+ghost use Rattle.limits.specs.Clips.{headsFit, groupsFit, tablesFit};
 use crate::rows::rows_fit;
 use row_limits::Kind;
 
@@ -63,18 +59,7 @@ fn groups_fit(
     table_fits(rows, row_rows, row)
 }
 
-// Whether maps fit, and the entries of each.
-fn maps_fit(maps: &[u8], map_rows: u32, entries: &[u8], entry_rows: u32) -> bool
-    requires { ⌜ isCounted 2 entryCells (stated (now maps) «map_rows») (stated (now entries) «entry_rows») ≡ true ⌝ }
-    ensures { λ r. ⌜ r ≡ mapsFit (tableRows mapCells (now (maps .entry)) «map_rows») (tableRows entryCells (now (entries .entry)) «entry_rows») ⌝ }
-{
-    if !heads_fit(maps, map_rows, Kind::Map) {
-        return false;
-    }
-    entries_fit(maps, map_rows, entries, entry_rows)
-}
-
-// Whether all six tables fit, else 30. That the rows are there and the counts add up is tested before.
+// Whether every table but that of the entries fits, else 30. That the rows are there is tested before; the entries are tested in the walk that counts their runs.
 pub fn cells_fit(
     rows: StatedRows,
     atcs: &[u8],
@@ -82,12 +67,11 @@ pub fn cells_fit(
     programs: &[u8],
     streams: &[u8],
     maps: &[u8],
-    entries: &[u8],
 ) -> bool
-    requires sequences { ⌜ isCounted 1 stcCells (stated (now atcs) (rows .atcs)) (stated (now stcs) (rows .stcs)) ≡ true ⌝ }
-    requires programs { ⌜ isCounted 2 streamCells (stated (now programs) (rows .programs)) (stated (now streams) (rows .streams)) ≡ true ⌝ }
-    requires maps { ⌜ isCounted 2 entryCells (stated (now maps) (rows .maps)) (stated (now entries) (rows .entries)) ≡ true ⌝ }
-    ensures { λ r. ⌜ r ≡ tablesFit (clipIn (statedTables noScalars rows (now (atcs .entry)) (now (stcs .entry)) (now (programs .entry)) (now (streams .entry)) (now (maps .entry)) (now (entries .entry)))) ⌝ }
+    requires sequences { ⌜ (rows .atcs ≤ rowRoom atcCells (now atcs)) × (rows .stcs ≤ rowRoom stcCells (now stcs)) ⌝ }
+    requires programs { ⌜ (rows .programs ≤ rowRoom programCells (now programs)) × (rows .streams ≤ rowRoom streamCells (now streams)) ⌝ }
+    requires maps { ⌜ rows .maps ≤ rowRoom mapCells (now maps) ⌝ }
+    ensures { λ r. ⌜ r ≡ tablesFit (stated (now (atcs .entry)) (rows .atcs)) (stated (now (stcs .entry)) (rows .stcs)) (stated (now (programs .entry)) (rows .programs)) (stated (now (streams .entry)) (rows .streams)) (stated (now (maps .entry)) (rows .maps)) ⌝ }
 {
     if !groups_fit(atcs, rows.atcs, Kind::Atc, stcs, rows.stcs, Kind::Stc) {
         return false;
@@ -102,5 +86,5 @@ pub fn cells_fit(
     ) {
         return false;
     }
-    maps_fit(maps, rows.maps, entries, rows.entries)
+    heads_fit(maps, rows.maps, Kind::Map)
 }

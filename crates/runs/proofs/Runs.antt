@@ -1,11 +1,11 @@
--- Runs of entries: one run and those behind it, and the loops that walk over them.
+-- Runs of entries: their keys, one run and those behind it, and entries in a table.
 use Prim.Native.Nat.{ℕ, zero, suc, _+_, _*_, _-_, _/_, _%_, _^_, _<_, _≤_}
 use mathlib.Core.Path.{_≡_, refl, sym, ap, _∙_}
 use mathlib.Core.List.{List, [], _∷_}
-use mathlib.Core.Bool.{Bool, true, false, not}
+use mathlib.Core.Bool.{Bool, true, false}
 use native.Mathlib.Numerals.{add-one}
 use native.Mathlib.Omega.{arith}
-use borrow.Author.Tests.{eqb-true, eqb-false, eq-eqb, ne-eqb, not-true, not-false}
+use borrow.Author.Tests.{eqb-true, eqb-false, eq-eqb, ne-eqb}
 use lib.ListN.{length, getD, drop}
 use lib.Bits.{bitAnd}
 use lib.Dec.{eqb}
@@ -16,10 +16,9 @@ use Rattle.format.specs.Tables.{cellAt, cellsAt}
 use Rattle.format.proofs.Cell.{item-at}
 use Rattle.format.proofs.Fields.{words-masked}
 use Rattle.format.proofs.Loops.{one-left, none-left}
-use Rattle.format.proofs.Rows.{rows-length, drop-rows}
 use Rattle.format.proofs.Tests.{both-true}
 use Rattle.cells.specs.Reads.{CellIs}
-use Rattle.runs.specs.Runs.{entriesAt, entriesFrom, keyed, runKey, runEnd, endFrom, coarseFrom, begun}
+use Rattle.runs.specs.Runs.{entriesAt, entriesFrom, keyed, runKey, runEnd, coarseFrom, begun}
 
 -- ---- keys
 
@@ -125,99 +124,6 @@ module _ (t : List ℕ) (p n : ℕ) where
   -- at the end none
   pub left-done : (k : ℕ) → n ≤ k → entriesFrom t p n k ≡ []
   left-done k h = rw (none-left n k h)
-
-  -- those behind some of them
-  pub left-drop : (k r : ℕ) → k ≤ r → r ≤ n → drop (r - k) (entriesFrom t p n k) ≡ entriesFrom t p n r
-  left-drop k r h g =
-      let e : p + 20 * k + (r - k) * 20 ≡ p + 20 * r = omega arith in
-      let m : n - k - (r - k) ≡ n - r = omega arith in
-      rw (← e, ← m) (drop-rows (cellsAt t 5) 20 (p + 20 * k) (n - k) (r - k) (omega arith))
-
-  -- ---- the search for the end of the run that begins at row `from`
-
-  module _ (from : ℕ) where
-    -- up to row k the run goes on
-    pub record Along (k : ℕ) : Type 0 where
-      pub past : from < k
-      pub within : k ≤ n
-      pub rest : runEnd (cellsAt t 5 (p + 20 * from)) k (entriesFrom t p n k) ≡ endFrom from (entriesFrom t p n from)
-
-    -- behind its first entry the run may go on
-    pub along-first : from < n → Along (from + 1)
-    along-first h = record { past = omega arith; within = omega arith; rest = rw (left-turn from h, add-one) }
-
-    module _ (k : ℕ) (i : Along k) (h : k < n) where
-      -- row k is compared with the run's first
-      same-as : {a b c d : ℕ} {s : Bool} → CellIs t (p + 20 * from + 8) a → CellIs t (p + 20 * from + 12) b → CellIs t (p + 20 * k + 8) c → CellIs t (p + 20 * k + 12) d
-          → s ≡ sameRun (keyed a b) (keyed c d) → s ≡ sameRun (cellsAt t 5 (p + 20 * from)) (cellsAt t 5 (p + 20 * k))
-      same-as a b c d e =
-          e ∙ rw (entry-cell t (p + 20 * from) 2 (omega arith) a, entry-cell t (p + 20 * from) 3 (omega arith) b, entry-cell t (p + 20 * k) 2 (omega arith) c, entry-cell t (p + 20 * k) 3 (omega arith) d)
-
-      -- it is in the run
-      pub along-turn : {a b c d : ℕ} {s : Bool} → CellIs t (p + 20 * from + 8) a → CellIs t (p + 20 * from + 12) b → CellIs t (p + 20 * k + 8) c → CellIs t (p + 20 * k + 12) d
-          → s ≡ sameRun (keyed a b) (keyed c d) → not s ≡ false → Along (k + 1)
-      unfolding runEnd
-      along-turn {s = s} a b c d e y =
-          let same : sameRun (cellsAt t 5 (p + 20 * from)) (cellsAt t 5 (p + 20 * k)) ≡ true = sym (same-as a b c d e) ∙ not-false s y in
-          record { past = omega (arith, i .past); within = omega arith; rest = rw add-one (rw (left-turn k h, same, add-one) at (i .rest)) }
-
-      -- it is the first behind the run
-      pub along-stop : {a b c d : ℕ} {s : Bool} → CellIs t (p + 20 * from + 8) a → CellIs t (p + 20 * from + 12) b → CellIs t (p + 20 * k + 8) c → CellIs t (p + 20 * k + 12) d
-          → s ≡ sameRun (keyed a b) (keyed c d) → not s ≡ true → k ≡ endFrom from (entriesFrom t p n from)
-      unfolding runEnd
-      along-stop {s = s} a b c d e y =
-          let other : sameRun (cellsAt t 5 (p + 20 * from)) (cellsAt t 5 (p + 20 * k)) ≡ false = sym (same-as a b c d e) ∙ not-true s y in
-          rw (left-turn k h, other) at (i .rest)
-
-    -- the run ends with the entries
-    pub along-done : (k : ℕ) → Along k → n ≤ k → k ≡ endFrom from (entriesFrom t p n from)
-    unfolding runEnd
-    along-done k i h = rw (left-done k h) at (i .rest)
-
-  -- ---- from run to run
-
-  -- row r, where the run ends that begins at row k: the coarse rows from row k on are its own and those from row r on
-  pub record NextRun (k r : ℕ) : Type 0 where
-    pub past : k < r
-    pub within : r ≤ n
-    pub rows : coarseFrom k (entriesFrom t p n k) ≡ coarseRow k (cellsAt t 5 (p + 20 * k)) ∷ coarseFrom r (entriesFrom t p n r)
-
-  -- one run, and those behind it
-  pub next-run : (k r : ℕ) → k < n → r ≡ endFrom k (entriesFrom t p n k) → NextRun k r
-  next-run k r h e =
-      let x = cellsAt t 5 (p + 20 * k) in
-      let xs = entriesFrom t p n (k + 1) in
-      let is : r ≡ runEnd x (suc k) xs = rw (left-turn k h) at e in
-      let ends = run-ends x (suc k) xs in
-      let size : length xs ≡ n - (k + 1) = rows-length (cellsAt t 5) (λ q. q + 20) (p + 20 * (k + 1)) (n - (k + 1)) in
-      let past : k < r = omega (arith, is, ends .past) in
-      let within : r ≤ n = omega (arith, is, ends .within, size) in
-      let left : r - suc k ≡ r - (k + 1) = omega arith in
-      let behind : coarseAfter x (suc k) xs ≡ coarseFrom r (entriesFrom t p n r) =
-      after-run x (suc k) xs ∙ rw (← is, left, left-drop (k + 1) r (omega arith) within) in
-      record { past = past; within = within; rows = rw (left-turn k h) (ap (λ (l : List Row). coarseRow k x ∷ l) behind) }
-
-  -- the runs that were counted up to row k, and those from there on
-  pub record Counted (count k : ℕ) : Type 0 where
-    pub within : k ≤ n
-    pub small : count ≤ k
-    pub rest : count + length (coarseFrom k (entriesFrom t p n k)) ≡ runs (entriesAt t p n)
-
-  -- before the first run none is counted
-  pub counted-first : Counted 0 0
-  unfolding runs
-  counted-first = record { within = omega arith; small = omega arith; rest = rw (left-all, coarse-all (entriesAt t p n)) (omega arith) }
-
-  -- one more is counted
-  pub counted-turn : (count k r : ℕ) → Counted count k → k < n → r ≡ endFrom k (entriesFrom t p n k) → Counted (count + 1) r
-  counted-turn count k r i h e =
-      let next = next-run k r h e in
-      let rest = rw (next .rows) at (i .rest) in
-      record { within = next .within; small = omega (arith, next .past, i .small); rest = omega arith }
-
-  -- all are counted
-  pub counted-done : (count k : ℕ) → Counted count k → n ≤ k → count ≡ runs (entriesAt t p n)
-  counted-done count k i h = let rest = rw (left-done k h) at (i .rest) in omega arith
 
   -- ---- from row to row: the runs that begin there or later
 

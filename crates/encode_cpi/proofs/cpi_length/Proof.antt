@@ -1,19 +1,19 @@
--- Each turn measures one map, or refuses it.
+-- Each turn measures one map whose entries fit.
 use Prim.Native.Nat.{_+_, _*_, _-_, _≤_}
 use native.Mathlib.Omega.{arith}
 use denote.Ref.{now}
 use lib.ListN.{length}
 use Rattle.encode_cpi.proofs.Maps.{maps-few, map-room, entries-room, count-few, own-within}
-use Rattle.encode_cpi.proofs.Lengths.{Measured, measured-first, measured-turn, measured-refused, measured-done, measured-none}
+use Rattle.encode_cpi.proofs.Lengths.{Measured, measured-first, measured-unfit, runs-within-count, measured-turn, measured-many, measured-done, measured-none}
 use borrow.Author.Needs.{needs}
 use Rattle.encode_cpi.proofs.cpi_length.Statement.{statement}
 use Rattle.encode_cpi.proofs.cpi_length.Tie as tie
 
 abbrev Inv-loop : tie.InvT-loop
-Inv-loop maps n entries m len₀ row₀ k₀ len row k = Measured maps n entries m len row k
+Inv-loop maps n entries m len₀ few₀ row₀ k₀ len few row k = Measured maps n entries m len few row k
 
 abbrev μ-loop : tie.MeasureT-loop
-μ-loop maps n entries m len₀ row₀ k₀ len row k = n - k
+μ-loop maps n entries m len₀ few₀ row₀ k₀ len few row k = n - k
 
 returns : tie.Need-returns Inv-loop μ-loop
 returns c = let a = c .before .before .before .args in measured-none (now (a .maps)) (a .n) (now (a .entries)) (a .m) (c .if1 .taken)
@@ -27,9 +27,13 @@ add-len c = search needs
 loop-holds : tie.Need-loop-holds Inv-loop μ-loop
 loop-holds c = let s = c .before .before .before in measured-first (now (s .args .maps)) (s .args .n) (now (s .args .entries)) (s .args .m) (s .pre .1)
 
--- within the loop the map's row lies inside its table
-row-there : (c : tie.In-loop Inv-loop μ-loop) → 12 * c .before .loop .k + 12 ≤ length (now (c .before .before .before .before .before .args .maps))
-row-there c = let s = c .before .before .before .before .before in map-room (now (s .args .maps)) (s .args .n) (now (s .args .entries)) (s .args .m) (s .pre .0) (c .before .loop .k) (c .loop-test .taken)
+-- the call's start, from within the loop
+abbrev start : tie.In-loop Inv-loop μ-loop → tie.Start Inv-loop μ-loop
+start c = c .before .before .before .before .before
+
+-- the map's row lies inside its table
+row-there : (c : tie.In-loop Inv-loop μ-loop) → 12 * c .before .loop .k + 12 ≤ length (now (start c .args .maps))
+row-there c = let s = start c in map-room (now (s .args .maps)) (s .args .n) (now (s .args .entries)) (s .args .m) (s .pre .0) (c .before .loop .k) (c .loop-test .taken)
 
 mul-cell-at : tie.Need-mul-cell-at Inv-loop μ-loop
 mul-cell-at c = omega (arith, row-there c)
@@ -40,26 +44,36 @@ add-cell-at c = omega (arith, row-there c)
 cell-at-requires : tie.Need-cell-at-requires Inv-loop μ-loop
 cell-at-requires c κs = omega (arith, row-there c)
 
+mul-cell-at-2 : tie.Need-mul-cell-at-2 Inv-loop μ-loop
+mul-cell-at-2 c = omega (arith, row-there (c .before))
+
+add-cell-at-2 : tie.Need-add-cell-at-2 Inv-loop μ-loop
+add-cell-at-2 c = omega (arith, row-there (c .before))
+
+cell-at-requires-2 : tie.Need-cell-at-requires-2 Inv-loop μ-loop
+cell-at-requires-2 c κs = omega (arith, row-there (c .before))
+
 cast-count : tie.Need-cast-count Inv-loop μ-loop
 cast-count c = search needs
 
--- its entries lie inside theirs
-entries-there : (c : tie.After-cell-at Inv-loop μ-loop) → 20 * c .before .before .loop .row + 20 * c .cell-at .result ≤ length (now (c .before .before .before .before .before .before .args .entries))
-entries-there c =
-    let s = c .before .before .before .before .before .before in
-    let a = s .args in
-    let l = c .before .before .loop in
-    omega (arith, entries-room (now (a .maps)) (a .n) (now (a .entries)) (a .m) (s .pre .0), own-within (now (a .maps)) (a .n) (now (a .entries)) (a .m) (l .row) (l .k) (l .inv .walk) (c .before .loop-test .taken) (c .cell-at .ensures))
+module _ (c : tie.After-cell-at2 Inv-loop μ-loop) where
+  -- the map's entries lie inside their table
+  entries-there : 20 * c .before .before .before .loop .row + 20 * c .cell-at2 .result ≤ length (now (start (c .before .before) .args .entries))
+  entries-there =
+      let s = start (c .before .before) in
+      let a = s .args in
+      let l = c .before .before .before .loop in
+      omega (arith, entries-room (now (a .maps)) (a .n) (now (a .entries)) (a .m) (s .pre .0), own-within (now (a .maps)) (a .n) (now (a .entries)) (a .m) (l .row) (l .k) (l .inv .walk) (c .before .before .loop-test .taken) (c .cell-at2 .ensures))
 
--- there are few of them, and few maps
-few : (c : tie.After-cell-at Inv-loop μ-loop) → c .cell-at .result ≤ 262143
-few c =
-    let a = c .before .before .before .before .before .before .args in
-    let l = c .before .before .loop in
-    count-few (now (a .maps)) (a .n) (now (a .entries)) (a .m) (l .row) (l .k) (l .inv .walk) (c .before .loop-test .taken) (c .cell-at .ensures)
+  -- there are few of them, and few maps
+  few : c .cell-at2 .result ≤ 262143
+  few =
+      let a = start (c .before .before) .args in
+      let l = c .before .before .before .loop in
+      count-few (now (a .maps)) (a .n) (now (a .entries)) (a .m) (l .row) (l .k) (l .inv .walk) (c .before .before .loop-test .taken) (c .cell-at2 .ensures)
 
-few-maps : (c : tie.After-cell-at Inv-loop μ-loop) → c .before .before .before .before .before .before .args .n ≤ 255
-few-maps c = let s = c .before .before .before .before .before .before in maps-few (now (s .args .maps)) (s .args .n) (now (s .args .entries)) (s .args .m) (s .pre .1)
+  few-maps : start (c .before .before) .args .n ≤ 255
+  few-maps = let s = start (c .before .before) in maps-few (now (s .args .maps)) (s .args .n) (now (s .args .entries)) (s .args .m) (s .pre .1)
 
 mul-count-runs : tie.Need-mul-count-runs Inv-loop μ-loop
 mul-count-runs c = omega (arith, entries-there c)
@@ -67,29 +81,60 @@ mul-count-runs c = omega (arith, entries-there c)
 count-runs-requires : tie.Need-count-runs-requires Inv-loop μ-loop
 count-runs-requires c κs = entries-there c
 
+enum-known-runs : tie.Need-enum-known-runs Inv-loop μ-loop
+enum-known-runs c = search needs
+
+enum-told : tie.Need-enum-told Inv-loop μ-loop
+enum-told c = search needs
+
 returns-2 : tie.Need-returns-2 Inv-loop μ-loop
 returns-2 c =
-    let a = c .before .before .before .before .before .before .before .before .args in
-    let l = c .before .before .before .before .loop in
-    measured-refused (now (a .maps)) (a .n) (now (a .entries)) (a .m) (l .len) (l .row) (l .k) (l .inv) (c .before .before .before .loop-test .taken) (c .before .before .cell-at .ensures) (c .before .count-runs .ensures) (c .if2 .taken)
+    let r = c .before .before in
+    let d = r .before in
+    let a = start (d .before .before) .args in
+    let l = d .before .before .before .loop in
+    measured-unfit (now (a .maps)) (a .n) (now (a .entries)) (a .m) (l .len) (l .few) (l .row) (l .k) (l .inv) (d .before .before .loop-test .taken) (d .before .cell-at .ensures) (d .cell-at2 .ensures) (r .count-runs .ensures) (c .enum-told .given .1)
+
+still-few-requires : tie.Need-still-few-requires Inv-loop μ-loop
+still-few-requires c κs = search needs
+
+-- where its runs are counted, they are not more than its entries
+module _ (c : tie.After-runs Inv-loop μ-loop) where
+  within : c .runs .given .0 .0 ≤ c .before .before .before .cell-at2 .result
+  within =
+      let r = c .before .before in
+      let d = r .before in
+      let a = start (d .before .before) .args in
+      let l = d .before .before .before .loop in
+      runs-within-count (now (a .maps)) (a .n) (now (a .entries)) (a .m) (l .len) (l .few) (l .row) (l .k) (l .inv) (d .before .before .loop-test .taken) (d .before .cell-at .ensures) (d .cell-at2 .ensures) (r .count-runs .ensures) (c .runs .given .1)
+
+-- where its runs are counted, and where its entries are
+abbrev met : tie.After-still-few Inv-loop μ-loop → tie.After-runs Inv-loop μ-loop
+met c = c .before .before
+
+abbrev counted : tie.After-runs Inv-loop μ-loop → tie.After-cell-at2 Inv-loop μ-loop
+counted c = c .before .before .before
 
 mul-len-2 : tie.Need-mul-len-2 Inv-loop μ-loop
-mul-len-2 c = omega (arith, c .if2 .left)
+mul-len-2 c = omega (arith, within (met c), few (counted (met c)))
 
 add-len-2 : tie.Need-add-len-2 Inv-loop μ-loop
-add-len-2 c = omega (arith, c .if2 .left)
+add-len-2 c = omega (arith, within (met c), few (counted (met c)))
 
 mul-len-3 : tie.Need-mul-len-3 Inv-loop μ-loop
-mul-len-3 c = omega (arith, few (c .before .before))
+mul-len-3 c = omega (arith, few (counted (met c)))
 
 add-len-3 : tie.Need-add-len-3 Inv-loop μ-loop
-add-len-3 c = omega (arith, c .if2 .left, few (c .before .before))
+add-len-3 c = omega (arith, within (met c), few (counted (met c)))
 
 add-len-4 : tie.Need-add-len-4 Inv-loop μ-loop
-add-len-4 c = omega (arith, c .if2 .left, few (c .before .before), few-maps (c .before .before), c .before .before .before .before .loop .inv .small, c .before .before .before .loop-test .taken)
+add-len-4 c =
+    let d = counted (met c) in
+    let i = d .before .before in
+    omega (arith, within (met c), few d, few-maps d, i .before .loop .inv .small, i .loop-test .taken)
 
 add-row : tie.Need-add-row Inv-loop μ-loop
-add-row c = omega (arith, entries-there (c .before .before))
+add-row c = omega (arith, entries-there (counted (met c)))
 
 add-k : tie.Need-add-k Inv-loop μ-loop
 add-k c = search needs
@@ -99,15 +144,23 @@ loop-less c = search needs
 
 loop-again : tie.Need-loop-again Inv-loop μ-loop
 loop-again c =
-    let a = c .before .before .before .before .before .before .before .before .args in
-    let l = c .before .before .before .before .loop in
-    measured-turn (now (a .maps)) (a .n) (now (a .entries)) (a .m) (l .len) (l .row) (l .k) (l .inv) (c .before .before .before .loop-test .taken) (c .before .before .cell-at .ensures) (c .before .count-runs .ensures) (c .if2 .left)
+    let t = met c in
+    let d = counted t in
+    let a = start (d .before .before) .args in
+    let l = d .before .before .before .loop in
+    measured-turn (now (a .maps)) (a .n) (now (a .entries)) (a .m) (l .len) (l .few) (l .row) (l .k) (l .inv) (d .before .before .loop-test .taken) (d .before .cell-at .ensures) (d .cell-at2 .ensures) (t .before .before .count-runs .ensures) (t .runs .given .1) (c .still-few .ensures)
 
 returns-3 : tie.Need-returns-3 Inv-loop μ-loop
 returns-3 c =
-    let a = c .before .before .before .before .before .args in
-    let l = c .before .loop in
-    measured-done (now (a .maps)) (a .n) (now (a .entries)) (a .m) (l .len) (l .row) (l .k) (l .inv) (c .loop-test .left) (c .before .before .if1 .left)
+    let l = c .before .before in
+    let a = l .before .before .before .before .args in
+    measured-many (now (a .maps)) (a .n) (now (a .entries)) (a .m) (l .loop .len) (l .loop .few) (l .loop .row) (l .loop .k) (l .loop .inv) (c .before .loop-test .left) (c .if2 .taken)
+
+returns-4 : tie.Need-returns-4 Inv-loop μ-loop
+returns-4 c =
+    let l = c .before .before in
+    let a = l .before .before .before .before .args in
+    measured-done (now (a .maps)) (a .n) (now (a .entries)) (a .m) (l .loop .len) (l .loop .few) (l .loop .row) (l .loop .k) (l .loop .inv) (c .before .loop-test .left) (c .if2 .left) (l .before .if1 .left)
 
 pub cpi-length-spec : {M : Type 1} → statement M
 cpi-length-spec =
@@ -122,10 +175,16 @@ cpi-length-spec =
     mul-cell-at
     add-cell-at
     cell-at-requires
+    mul-cell-at-2
+    add-cell-at-2
+    cell-at-requires-2
     cast-count
     mul-count-runs
     count-runs-requires
+    enum-known-runs
+    enum-told
     returns-2
+    still-few-requires
     mul-len-2
     add-len-2
     mul-len-3
@@ -135,4 +194,5 @@ cpi-length-spec =
     add-k
     loop-less
     loop-again
-    returns-3)
+    returns-3
+    returns-4)

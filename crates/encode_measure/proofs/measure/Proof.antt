@@ -12,117 +12,132 @@ use Rattle.limits.specs.Stated.{statedTables}
 use Rattle.encode_measure.specs.Places.{refusalIn, pairsCounted}
 use Rattle.encode_measure.proofs.Tests.{refused-by, places-by}
 use Rattle.encode_measure.proofs.Parts.{place-programs, place-cpi, place-marks}
-use Rattle.encode_measure.proofs.Tables.{pairs, refused-22, counted-by, scalars-refused, tables-refused, fit-by, runs-refused, runs-few, sequences-counted, programs-counted, sequences-long, programs-long, cpi-there, cpi-counted, none-refused, marks-bound}
+use Rattle.encode_measure.proofs.Tables.{refused-22, counted-by, fieldsOf, fields-refused, fields-by, fields-there, lengthIn, entries-refused, entries-fit, runs-refused, runs-few, sequences-counted, programs-counted, sequences-long, programs-long, cpi-there, cpi-counted, none-refused, marks-bound}
 use borrow.Author.Needs.{needs}
 use Rattle.encode_measure.proofs.measure.Statement.{statement}
 use Rattle.encode_measure.proofs.measure.Tie as tie
 
--- the tables that are handed over
-abbrev tables : tie.Start → ClipTables
-tables s =
-    let a = s .args in
+-- the tables that are handed over, from the first test on
+abbrev tables : tie.After-counts-add → ClipTables
+tables c =
+    let a = c .before .before .before .before .before .before .before .args in
     statedTables (scalarsBy (a .info)) (a .rows) (now (a .atcs)) (now (a .stcs)) (now (a .programs)) (now (a .streams)) (now (a .maps)) (now (a .entries))
 
--- the call's start, where the counts add up
-abbrev start : tie.Else1 → tie.Start
-start c = c .before .before .before .before .before .before .before .before
+-- the counts add up
+counted : (c : tie.Else1) → pairsCounted (tables (c .before)) ≡ true
+counted c = counted-by (tables (c .before)) (c .before .counts-add .ensures) (c .if1 .left)
 
-counted : (c : tie.Else1) → pairsCounted (tables (start c)) ≡ true
-counted c = counted-by (tables (start c)) (c .before .counts-add .ensures) (c .if1 .left)
+-- every cell but those of the entries fits
+fields : (c : tie.Else2) → fieldsOf (tables (c .before .before .before)) ≡ true
+fields c = fields-by (tables (c .before .before .before)) (c .before .fields-fit .ensures) (c .if2 .left)
 
--- and where every cell fits
-abbrev first : tie.Else3 → tie.Else1
-first c = c .before .before .before .before
+module _ (c : tie.After-length) where
+  -- the test of the other cells, from where the entries fit
+  abbrev earlier : tie.Else2
+  earlier = c .before .before .before
 
-fit : (c : tie.Else3) → cellsFit (clipIn (tables (start (first c)))) ≡ true
-fit c =
-    fit-by (tables (start (first c))) (c .before .before .before .scalars-fit .ensures) (c .before .before .if2 .left) (c .before .cells-fit .ensures) (c .if3 .left)
+  abbrev handed : ClipTables
+  handed = tables (earlier .before .before .before)
 
--- and where no map has too many runs
-abbrev handed : tie.After-len → ClipTables
-handed c = tables (start (first (c .before .before .before)))
+  -- all fit, and the length is told
+  fit : (cellsFit (clipIn handed) ≡ true) × (c .length .given .0 .0 ≡ lengthIn handed)
+  fit = entries-fit handed (fields earlier) (sym (c .before .before .cpi-length .ensures) ∙ c .length .given .1)
 
-few : (c : tie.After-len) → (runsFit (clipIn (handed c)) ≡ true) × (c .len .given .0 .0 ≡ length (cpiBytes (clipIn (handed c))))
-few c = runs-few (handed c) (sym (c .before .before .cpi-length .ensures) ∙ c .len .given .1)
+module _ (c : tie.After-length2) where
+  -- the tables, from where no map has too many runs
+  abbrev told : tie.After-length
+  told = c .before .before .before
 
-none : (c : tie.After-len) → refusalIn (handed c) ≡ 0
-none c =
-    let fits = c .before .before .before in
-    none-refused (handed c) (record { counted = counted (first fits); fit = fit fits; runs-fit = few c .0 })
+  abbrev writable : ClipTables
+  writable = handed told
+
+  few : (runsFit (clipIn writable) ≡ true) × (c .length2 .given .0 .0 ≡ length (cpiBytes (clipIn writable)))
+  few = runs-few writable (sym (fit told .1) ∙ c .length2 .given .1)
+
+  none : refusalIn writable ≡ 0
+  none = none-refused writable (record { counted = counted (earlier told .before .before); fit = fit told .0; runs-fit = few .0 })
 
 counts-add-requires : tie.Need-counts-add-requires
 counts-add-requires c κs = search needs
 
 returns : tie.Need-returns
 returns c =
-    let l = tables (c .before .before .before .before .before .before .before .before) in
+    let l = tables (c .before) in
     refused-by (refusalIn l) (clipIn l) 22 refl (refused-22 l (c .before .counts-add .ensures) (c .if1 .taken))
 
-scalars-fit-requires : tie.Need-scalars-fit-requires
-scalars-fit-requires c κs = search needs
+fields-fit-requires : tie.Need-fields-fit-requires
+fields-fit-requires c κs = fields-there (tables (c .before)) (counted c)
 
 returns-2 : tie.Need-returns-2
 returns-2 c =
-    let l = tables (start (c .before .before)) in
-    refused-by (refusalIn l) (clipIn l) 30 refl (scalars-refused l (counted (c .before .before)) (c .before .scalars-fit .ensures) (c .if2 .taken))
-
-cells-fit-requires : tie.Need-cells-fit-requires
-cells-fit-requires c κs = pairs (tables (start (c .before .before))) (counted (c .before .before))
-
-returns-3 : tie.Need-returns-3
-returns-3 c =
-    let l = tables (start (c .before .before .before .before)) in
-    refused-by (refusalIn l) (clipIn l) 30 refl (tables-refused l (counted (c .before .before .before .before)) (c .before .cells-fit .ensures) (c .if3 .taken))
+    let l = tables (c .before .before .before) in
+    refused-by (refusalIn l) (clipIn l) 30 refl (fields-refused l (counted (c .before .before)) (c .before .fields-fit .ensures) (c .if2 .taken))
 
 cpi-length-requires : tie.Need-cpi-length-requires
 cpi-length-requires c κs =
-    let l = tables (start (first c)) in
-    (cpi-there l (counted (first c)), cpi-counted l (counted (first c)) (fit c))
+    let l = tables (c .before .before .before) in
+    (cpi-there l (counted (c .before .before)), cpi-counted l (counted (c .before .before)) (fields c))
 
-enum-known-len : tie.Need-enum-known-len
-enum-known-len c = search needs
+enum-known-length : tie.Need-enum-known-length
+enum-known-length c = search needs
 
 enum-told : tie.Need-enum-told
 enum-told c = search needs
 
+returns-3 : tie.Need-returns-3
+returns-3 c =
+    let e = c .before .before .before in
+    let l = tables (e .before .before .before) in
+    refused-by (refusalIn l) (clipIn l) 30 refl (entries-refused l (counted (e .before .before)) (sym (c .before .before .cpi-length .ensures) ∙ c .enum-told .given .1))
+
+enum-known-length-2 : tie.Need-enum-known-length-2
+enum-known-length-2 c = search needs
+
+enum-told-2 : tie.Need-enum-told-2
+enum-told-2 c = search needs
+
 returns-4 : tie.Need-returns-4
 returns-4 c =
-    let fits = c .before .before .before in
-    let l = tables (start (first fits)) in
-    refused-by (refusalIn l) (clipIn l) 31 refl (runs-refused l (counted (first fits)) (fit fits) (sym (c .before .before .cpi-length .ensures) ∙ c .enum-told .given .1))
+    let t = c .before .before .before in
+    let l = handed t in
+    refused-by (refusalIn l) (clipIn l) 31 refl (runs-refused l (counted (earlier t .before .before)) (fit t .0) (sym (fit t .1) ∙ c .enum-told2 .given .1))
 
 section-length-requires : tie.Need-section-length-requires
-section-length-requires c κs = sequences-counted (handed (c .before)) (counted (first (c .before .before .before .before)))
+section-length-requires c κs = sequences-counted (writable (c .before)) (counted (earlier (told (c .before)) .before .before))
 
 add-programs-at : tie.Need-add-programs-at
 add-programs-at c =
-    let l = handed (c .before .before) in
+    let t = c .before .before in
+    let l = writable t in
     let c₀ = clipIn l in
-    record { fits = omega (arith, marks-bound l (none (c .before .before)), sequences-long l (c .section-length .ensures), place-programs c₀, place-cpi c₀, place-marks c₀) }
+    record { fits = omega (arith, marks-bound l (none t), sequences-long l (c .section-length .ensures), place-programs c₀, place-cpi c₀, place-marks c₀) }
 
 section-length-requires-2 : tie.Need-section-length-requires-2
-section-length-requires-2 c κs = programs-counted (handed (c .before .before)) (counted (first (c .before .before .before .before .before)))
+section-length-requires-2 c κs = let t = c .before .before in programs-counted (writable t) (counted (earlier (told t) .before .before))
 
 add-cpi-at : tie.Need-add-cpi-at
 add-cpi-at c =
-    let l = handed (c .before .before .before) in
+    let t = c .before .before .before in
+    let l = writable t in
     let c₀ = clipIn l in
-    record { fits = omega (arith, marks-bound l (none (c .before .before .before)), sequences-long l (c .before .section-length .ensures), programs-long l (c .section-length2 .ensures), place-programs c₀, place-cpi c₀, place-marks c₀) }
+    record { fits = omega (arith, marks-bound l (none t), sequences-long l (c .before .section-length .ensures), programs-long l (c .section-length2 .ensures), place-programs c₀, place-cpi c₀, place-marks c₀) }
 
 add-marks-at : tie.Need-add-marks-at
 add-marks-at c =
-    let l = handed (c .before .before .before) in
+    let t = c .before .before .before in
+    let l = writable t in
     let c₀ = clipIn l in
-    record { fits = omega (arith, marks-bound l (none (c .before .before .before)), few (c .before .before .before) .1, sequences-long l (c .before .section-length .ensures), programs-long l (c .section-length2 .ensures), place-programs c₀, place-cpi c₀, place-marks c₀) }
+    record { fits = omega (arith, marks-bound l (none t), few t .1, sequences-long l (c .before .section-length .ensures), programs-long l (c .section-length2 .ensures), place-programs c₀, place-cpi c₀, place-marks c₀) }
 
 returns-5 : tie.Need-returns-5
 returns-5 c =
-    let l = handed (c .before .before .before) in
+    let t = c .before .before .before in
+    let l = writable t in
     let c₀ = clipIn l in
     let first = sequences-long l (c .before .section-length .ensures) in
     let second = programs-long l (c .section-length2 .ensures) in
-    let third = few (c .before .before .before) .1 in
-    places-by (refusalIn l) c₀ (none (c .before .before .before)) (omega (arith, first, place-programs c₀)) (omega (arith, first, second, place-programs c₀, place-cpi c₀)) (omega (arith, first, second, third, place-programs c₀, place-cpi c₀, place-marks c₀))
+    let third = few t .1 in
+    places-by (refusalIn l) c₀ (none t) (omega (arith, first, place-programs c₀)) (omega (arith, first, second, place-programs c₀, place-cpi c₀)) (omega (arith, first, second, third, place-programs c₀, place-cpi c₀, place-marks c₀))
 
 pub measure-spec : {M : Type 1} → statement M
 measure-spec =
@@ -130,13 +145,14 @@ measure-spec =
     (tie.spec
     counts-add-requires
     returns
-    scalars-fit-requires
+    fields-fit-requires
     returns-2
-    cells-fit-requires
-    returns-3
     cpi-length-requires
-    enum-known-len
+    enum-known-length
     enum-told
+    returns-3
+    enum-known-length-2
+    enum-told-2
     returns-4
     section-length-requires
     add-programs-at

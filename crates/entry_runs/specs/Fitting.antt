@@ -1,0 +1,23 @@
+-- Runs of entries that are tested to fit: where one ends, and how many there are.
+use Prim.Native.Nat.{ℕ, _-_}
+use mathlib.Core.List.{List}
+use lib.ListN.{take}
+use Rattle.format.specs.Bytes.{pick, every}
+use Rattle.format.specs.ClipRecord.{Row}
+use Rattle.format.specs.Refusals.{entryFits}
+use Rattle.format.specs.Rewriting.{runs}
+use Rattle.runs.specs.Runs.{endFrom}
+use Rattle.entry_runs.specs.declared.RunEnd.{RunEnd}
+use Rattle.entry_runs.specs.declared.RunCount.{RunCount}
+
+-- the end of a run whose entries are the first of these, the first of them number k, where each of them fits a map of this type
+abbrev pub fitUntil : ℕ → ℕ → ℕ → List Row → RunEnd
+fitUntil type end k es = pick (every (entryFits type) (take (end - k) es)) (RunEnd.At end) RunEnd.Unfit
+
+-- that of the run that begins with the first of these entries, which is number k
+unfoldable pub endFit : ℕ → ℕ → List Row → RunEnd
+endFit type k es = fitUntil type (endFrom k es) k es
+
+-- how many runs these entries have, where each of them fits a map of this type
+unfoldable pub runsFit : ℕ → List Row → RunCount
+runsFit type es = pick (every (entryFits type) es) (RunCount.Runs (runs es)) RunCount.Unfit
