@@ -15,6 +15,7 @@ use Rattle.format.specs.Rewriting.{runs, bodyBytes, bodies, headerBytes, header
 use Rattle.format.specs.Tables.{cellsAt, tableRows, mapCells, entryCells}
 use Rattle.format.proofs.Cpi.{body-length}
 use Rattle.format.proofs.Fields.{Fit, one, fits-fit}
+use Rattle.format.proofs.Lists.{All, more, every-all, all-map}
 use Rattle.format.proofs.Rows.{rows-length, take-rows, drop-rows}
 use Rattle.format.proofs.Tests.{both-true}
 use Rattle.cells.specs.Reads.{CellIs}
@@ -40,18 +41,24 @@ map-fits m h = map-fits-by m (fits-fit (16 ∷ 4 ∷ 18 ∷ []) m h)
 
 -- ---- all maps are not longer than their counts can tell
 
+-- a map's count fits its field
+abbrev pub FewEntries : Row → Type 0
+FewEntries m = entryCount m < 2 ^ 18
+
+-- where the maps fit, their counts do
+pub counts-few : (ms : List Row) → every mapFits ms ≡ true → All FewEntries ms
+counts-few ms f = all-map (λ m h. map-fits m h .count-fits) (every-all mapFits ms f)
+
 -- a body has at most 65,535 coarse rows and 262,143 fine rows
-pub bodies-most : (ms es : List Row) → every mapFits ms ≡ true → everyMap fewRuns ms es ≡ true → length (bodies ms es) ≤ 1572856 * length ms
-bodies-most [] es f r = omega arith
-bodies-most (m ∷ ms) es f r =
+pub bodies-most : (ms es : List Row) → All FewEntries ms → everyMap fewRuns ms es ≡ true → length (bodies ms es) ≤ 1572856 * length ms
+bodies-most [] es counts r = omega arith
+bodies-most (m ∷ ms) es (more c later) r =
     let own = take (entryCount m) es in
-    let fits = both-true (mapFits m) (every mapFits ms) f in
     let few = both-true (fewRuns m own) (everyMap fewRuns ms (drop (entryCount m) es)) r in
-    let later = bodies-most ms (drop (entryCount m) es) (fits .1) (few .1) in
+    let rest = bodies-most ms (drop (entryCount m) es) later (few .1) in
     let most = leb-true (runs own) 65535 (few .0) in
     let size = body-length own in
     let count = length-take (entryCount m) es in
-    let c = map-fits m (fits .0) .count-fits in
     rw (length-append (bodyBytes own) (bodies ms (drop (entryCount m) es))) (omega arith)
 
 -- ---- two tables

@@ -25,7 +25,7 @@ use Rattle.map_rows.proofs.Puts.{sets-before, put-below}
 use Rattle.encode_map.specs.Bodies.{MapRoom}
 use Rattle.encode_cpi.specs.Cpi.{Writable, MapsRoom, CpiRoom, fewRuns, entriesFit, mapRows, entryRows}
 use Rattle.encode_cpi.proofs.Lengths.{topBytes, top-length, cpi-parts, cpi-size}
-use Rattle.encode_cpi.proofs.Maps.{bodies-most, mapsLeft, entriesLeft, mapRow, maps-count, maps-few, map-room, entries-room, row-fits, count-few, Walk, walk-first, walk-turn, every-turn, bodies-turn, headers-turn}
+use Rattle.encode_cpi.proofs.Maps.{counts-few, bodies-most, mapsLeft, entriesLeft, mapRow, maps-count, maps-few, map-room, entries-room, row-fits, count-few, Walk, walk-first, walk-turn, every-turn, bodies-turn, headers-turn}
 
 -- ---- one turn
 
@@ -155,7 +155,7 @@ module _ (maps : List ℕ) (n : ℕ) (entries : List ℕ) (m : ℕ) (o₀ : List
   -- the section is short enough for its addresses
   pub bodies-small : Writable (mapRows maps n) (entryRows entries m) → 8 + 12 * n + length (bodies (mapRows maps n) (entryRows entries m)) < 2 ^ 32
   bodies-small w =
-      let most = bodies-most (mapRows maps n) (entryRows entries m) (w .counted .fit) (w .runs-few) in
+      let most = bodies-most (mapRows maps n) (entryRows entries m) (counts-few (mapRows maps n) (w .counted .fit)) (w .runs-few) in
       omega (arith, most, maps-count maps n entries m, maps-few maps n entries m (w .counted))
 
   module _ (end : ℕ) (room : MapsRoom maps n entries m (length o₀) at end) (o : List ℕ) (body j k : ℕ) (i : Putting end o body j (k + 1)) (h : k < n) {c : ℕ} (cell : CellIs maps (12 * k + 8) c) where

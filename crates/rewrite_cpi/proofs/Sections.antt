@@ -9,16 +9,19 @@ use lib.ListN.{length, length-append}
 use lib.Seq.{sets, length-sets}
 use Rattle.format.specs.Bytes.{pick, beAt, bytesOf, fieldBytes, packed}
 use Rattle.format.specs.ClipRecord.{Row}
-use Rattle.format.specs.EntryPoints.{headerWidths, mapTypeAt, mapAt, entriesOf, hasMaps, mapCount, mapsFrom, entriesFrom}
+use Rattle.format.specs.EntryPoints.{headerWidths, mapTypeAt, mapAt, nextMap, entriesOf, hasMaps, mapCount, mapsFrom, entriesFrom}
 use Rattle.format.specs.Refusals.{everyMap}
 use Rattle.format.specs.Rewriting.{runs, bodyBytes, bodies, headerBytes, headers, cpiBytesBy}
 use Rattle.format.proofs.Cpi.{header-length, headers-length}
+use Rattle.format.proofs.Lists.{All}
 use Rattle.format.proofs.Read.{own-length}
+use Rattle.format.proofs.Rows.{rows-all}
 use Rattle.format.proofs.Tests.{both-true}
 use Rattle.cpi_fill.proofs.Filling.{there}
 use Rattle.cpi.proofs.Sections.{counts-small}
 use Rattle.format.proofs.Stores.{part-then}
 use Rattle.encode_cpi.specs.Cpi.{fewRuns}
+use Rattle.encode_cpi.proofs.Maps.{FewEntries, bodies-most}
 use Rattle.encode_cpi.proofs.Lengths.{topBytes, top-length, cpi-parts, cpi-size}
 use Rattle.encode_cpi.proofs.Section.{pair-more}
 use Rattle.map_runs.specs.Entries.{entriesIn, BodyRoom}
@@ -63,17 +66,10 @@ module _ (f : List ℕ) (c p : ℕ) {r : ℕ} (m : MapBody) (e : m ≡ bodyOf f 
 
 -- ---- the pass
 
--- the bodies are not longer than their counts can tell
-bodies-most : (f : List ℕ) (c count d k : ℕ) → k + d ≡ count → everyMap fewRuns (mapsLeft f c count k) (entriesLeft f c count k) ≡ true
-    → length (bodies (mapsLeft f c count k) (entriesLeft f c count k)) ≤ 1572856 * d
-bodies-most f c count zero k e t = rw (maps-done f c count k (omega arith)) (omega arith)
-bodies-most f c count (suc d) k e t =
-    let h : k < count = omega arith in
-    let own = entriesOf f c (headAt f c count k) in
-    let later = bodies (mapsLeft f c count (k + 1)) (entriesLeft f c count (k + 1)) in
-    let few = both-true (fewRuns (mapAt f (headAt f c count k)) own) (everyMap fewRuns (mapsLeft f c count (k + 1)) (entriesLeft f c count (k + 1))) (rw (every-turn f c count k h fewRuns) at t) in
-    let sizes = ap length (bodies-turn f c count k h) ∙ length-append (bodyBytes own) later in
-    omega (arith, bodies-most f c count d (k + 1) (omega arith) (few .1), sizes, own-size f c (headAt f c count k) (bodyOf f c (headAt f c count k)) refl refl, leb-true (runs own) 65535 (few .0), counts-small f (headAt f c count k) .1)
+-- the counts of a file's maps fit their fields
+counts-few : (f : List ℕ) (c : ℕ) → All FewEntries (mapsFrom f c)
+unfolding mapsFrom
+counts-few f c = rows-all (mapAt f) nextMap (λ p. omega (arith, counts-small f p .1)) (c + 8) (mapCount f c)
 
 module _ (f : List ℕ) (c count : ℕ) (o₀ : List ℕ) (at : ℕ) where
   -- before map k, of which the body goes to `body`
@@ -107,7 +103,7 @@ module _ (f : List ℕ) (c count : ℕ) (o₀ : List ℕ) (at : ℕ) where
 
     -- the section is short enough for its addresses
     bodies-small : 8 + 12 * count + length (bodies (mapsFrom f c) (entriesFrom f c)) < 2 ^ 32
-    bodies-small = omega (arith, room .few, rw (maps-all f c count counted, entries-all f c count counted) at (bodies-most f c count count 0 (omega arith) (putting-first .runs-few)))
+    bodies-small = omega (arith, room .few, counted, maps-count f c count counted, bodies-most (mapsFrom f c) (entriesFrom f c) (counts-few f c) (room .runs-few))
 
     module _ (o : List ℕ) (body k : ℕ) (i : Putting o body k) (h : k < count) where
       -- this map's entries
