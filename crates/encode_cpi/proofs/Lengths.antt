@@ -14,6 +14,7 @@ use Rattle.format.specs.Rewriting.{runs, bodyBytes, bodies, headers, cpiBytesBy
 use Rattle.format.specs.Tables.{tableRows, mapCells, entryCells}
 use Rattle.format.proofs.Cpi.{headers-length}
 use Rattle.format.proofs.Numbers.{bytes-length}
+use Rattle.format.proofs.Tests.{picked, not-picked}
 use Rattle.cells.specs.Reads.{CellIs}
 use Rattle.table_rows.proofs.Scans.{left-all, left-done}
 use Rattle.runs.specs.Runs.{entriesAt}
@@ -154,3 +155,17 @@ module _ (maps : List ℕ) (n : ℕ) (entries : List ℕ) (m : ℕ) where
   pub measured-none : n ≡ 0 → Tested.Fit (Length.Bytes 4) ≡ testedOf (mapRows maps n) (entryRows entries m)
   unfolding testedOf cpiLengthOf tableRows
   measured-none z = rw (z, bytes-length 4 0)
+
+-- ---- what an answer says
+
+-- a length: no map has too many runs, and the section is so long
+pub length-said : (ms es : List Row) {n : ℕ} → cpiLengthOf ms es ≡ Length.Bytes n → (everyMap fewRuns ms es ≡ true) × (n ≡ length (cpiBytesBy ms es))
+unfolding cpiLengthOf
+length-said ms es is =
+    let p = picked (everyMap fewRuns ms es) (λ e. let z : _≡_ {A = ℕ} 0 1 = cc in omega arith) is in
+    (p .0, cc (p .1))
+
+-- none: a map has too many
+pub length-refused : (ms es : List Row) → cpiLengthOf ms es ≡ Length.TooManyRuns → everyMap fewRuns ms es ≡ false
+unfolding cpiLengthOf
+length-refused ms es is = not-picked (everyMap fewRuns ms es) (λ e. let z : _≡_ {A = ℕ} 0 1 = cc in omega arith) is .0

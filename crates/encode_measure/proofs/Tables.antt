@@ -12,7 +12,7 @@ use Rattle.format.specs.ClipRecord.{entryCount}
 use Rattle.format.specs.Tables.{ClipTables, clipIn, isStated, addUp, rowsOf, rowRoom, atcCells, stcCells, programCells, streamCells, mapCells, entryCells}
 use Rattle.format.specs.Rewriting.{sequencesBytes, programsBytes, cpiBytes, cpiBytesBy}
 use Rattle.format.specs.Refusals.{mapFits, scalarsFit, cellsFit, runsFit, allStated, writeRefusal}
-use Rattle.format.proofs.Tests.{both-true, split-both, true-both, passed, picked, left-fails, right-fails}
+use Rattle.format.proofs.Tests.{both-true, split-both, true-both, passed, picked, not-picked, left-fails, right-fails}
 use Rattle.format.proofs.Maker.{good-made}
 use Rattle.queries.specs.Asked.{noScalars, tablesWith}
 use Rattle.table_rows.specs.OwnRows.{isCounted}
@@ -22,10 +22,10 @@ use Rattle.limits.proofs.Clips.{fields-and-entries, maps-fit}
 use Rattle.encode_sections.specs.declared.Section.{Section}
 use Rattle.encode_sections.specs.Sections as sections
 use Rattle.encode_sections.proofs.Sections.{sequences-are, programs-are}
-use Rattle.entry_runs.proofs.Choices.{other}
 use Rattle.encode_cpi.specs.declared.Length.{Length}
 use Rattle.encode_cpi.specs.declared.Tested.{Tested}
 use Rattle.encode_cpi.specs.Cpi as cpi
+use Rattle.encode_cpi.proofs.Lengths.{length-said, length-refused}
 use Rattle.encode_measure.specs.declared.Places.{Places}
 use Rattle.encode_measure.specs.Places.{refusalIn, pairsCounted, marksPlace, Ready}
 use Rattle.encode_measure.proofs.Tests.{refusal-is}
@@ -62,17 +62,6 @@ in-order l r = placed-order (clipIn l) (marks-bound l (r .writable)) (r .placed)
 -- stores keep the output's length, and so what is ready
 pub ready-kept : (l : ClipTables) {at : Places} {bytes bytes′ : ℕ} → bytes′ ≡ bytes → Ready l at bytes → Ready l at bytes′
 ready-kept l same r = rw same r
-
--- ---- choices by a test
-
--- of two lengths, the one where there are too many runs is told where the test fails
-too-many : (b : Bool) (len : ℕ) → pick b (Length.Bytes len) Length.TooManyRuns ≡ Length.TooManyRuns → b ≡ false
-too-many b len is = other b (λ e. let z : _≡_ {A = ℕ} 0 1 = cc in omega arith) is
-
-few-told : (b : Bool) {m len : ℕ} → pick b (Length.Bytes m) Length.TooManyRuns ≡ Length.Bytes len → (b ≡ true) × (len ≡ m)
-few-told b is =
-    let p = picked b (λ e. let z : _≡_ {A = ℕ} 0 1 = cc in omega arith) is in
-    (p .0, cc (p .1))
 
 -- ---- six tables
 
@@ -125,7 +114,7 @@ module _ (l : ClipTables) where
   pub entries-refused : pairsCounted l ≡ true → testedIn ≡ Tested.Unfit → refusalIn l ≡ 30
   unfolding cpi.testedOf
   entries-refused p is =
-      let unfit : entriesOf ≡ false = other entriesOf (λ e. let z : _≡_ {A = ℕ} 0 1 = cc in omega arith) is in
+      let unfit : entriesOf ≡ false = not-picked entriesOf (λ e. let z : _≡_ {A = ℕ} 0 1 = cc in omega arith) is .0 in
       let fails : cellsFit (clipIn l) ≡ false = fields-and-entries l ∙ right-fails fieldsOf unfit in
       refusal-is l ∙ rw (p, fails)
 
@@ -142,15 +131,15 @@ module _ (l : ClipTables) where
 
   -- a map has too many runs
   pub runs-refused : pairsCounted l ≡ true → cellsFit (clipIn l) ≡ true → lengthIn ≡ Length.TooManyRuns → refusalIn l ≡ 31
-  unfolding clipIn runsFit cpi.cpiLengthOf
+  unfolding clipIn runsFit
   runs-refused p fit is =
-      let fails : runsFit (clipIn l) ≡ false = too-many (runsFit (clipIn l)) (length (cpiBytesBy (cpi.mapRows (l .maps .bytes) (l .maps .rows)) (cpi.entryRows (l .entries .bytes) (l .entries .rows)))) is in
+      let fails : runsFit (clipIn l) ≡ false = length-refused (cpi.mapRows (l .maps .bytes) (l .maps .rows)) (cpi.entryRows (l .entries .bytes) (l .entries .rows)) is in
       refusal-is l ∙ rw (p, fit, fails)
 
   -- none has, and the section's length is told
   pub runs-few : {len : ℕ} → lengthIn ≡ Length.Bytes len → (runsFit (clipIn l) ≡ true) × (len ≡ length (cpiBytes (clipIn l)))
-  unfolding clipIn runsFit cpi.cpiLengthOf cpiBytes
-  runs-few is = few-told (runsFit (clipIn l)) is
+  unfolding clipIn runsFit cpiBytes
+  runs-few is = length-said (cpi.mapRows (l .maps .bytes) (l .maps .rows)) (cpi.entryRows (l .entries .bytes) (l .entries .rows)) is
 
   -- ---- what the tests and the section's functions ask
 

@@ -9,6 +9,7 @@ use Rattle.format.specs.Bytes.{both, pick, unless}
 use Rattle.format.specs.ClipRecord.{Clip}
 use Rattle.format.specs.Tables.{ClipTables, clipIn}
 use Rattle.format.specs.Refusals.{allStated, countsAdd, cellsFit, runsFit, writeRefusal}
+use Rattle.format.proofs.Tests.{picked, not-picked}
 use Rattle.limits.proofs.Clips.{all-counted}
 use Rattle.encode_measure.specs.declared.Measured.{Measured}
 use Rattle.encode_measure.specs.declared.Places.{Places}
@@ -41,12 +42,10 @@ places-by refusal c e p q m = rw (e, p, q, m)
 
 -- of places and a refusal, chosen by a test: the refusal is told where the test fails, the places where it passes
 told-refused : (b : Bool) (at : Places) (r : ℕ) {n : ℕ} → pick b (Measured.Places at) (Measured.Refused r) ≡ Measured.Refused n → (b ≡ false) × (r ≡ n)
-told-refused false at r e = (refl, cc)
-told-refused true at r e = let z : _≡_ {A = ℕ} 0 1 = cc in absurd (omega arith)
+told-refused b at r h = let p = not-picked b (λ e. let z : _≡_ {A = ℕ} 0 1 = cc in omega arith) h in (p .0, cc (p .1))
 
 told-placed : (b : Bool) (at : Places) (r : ℕ) {at′ : Places} → pick b (Measured.Places at) (Measured.Refused r) ≡ Measured.Places at′ → (b ≡ true) × (at′ ≡ at)
-told-placed true at r e = (refl, cc)
-told-placed false at r e = let z : _≡_ {A = ℕ} 0 1 = cc in absurd (omega arith)
+told-placed b at r h = let p = picked b (λ e. let z : _≡_ {A = ℕ} 0 1 = cc in omega arith) h in (p .0, cc (p .1))
 
 module _ (refusal : ℕ) (c : Clip) {m : Measured} (is : m ≡ measuredBy refusal c) where
   pub refused-told : {n : ℕ} → m ≡ Measured.Refused n → (eqb refusal 0 ≡ false) × (refusal ≡ n)

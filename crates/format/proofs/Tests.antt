@@ -23,6 +23,11 @@ pub picked : {A : Type 0} {x y z : A} (b : Bool) → (y ≡ z → ⊥) → pick 
 picked true other h = (refl, h)
 picked false other h = absurd (other h)
 
+-- one that is not its first value failed it
+pub not-picked : {A : Type 0} {x y z : A} (b : Bool) → (x ≡ z → ⊥) → pick b x y ≡ z → (b ≡ false) × (y ≡ z)
+not-picked true other h = absurd (other h)
+not-picked false other h = (refl, h)
+
 -- a refusal that is not given was tested, and so were the later ones
 pub passed : (b : Bool) (k later : ℕ) → unless b (suc k) later ≡ 0 → (b ≡ true) × (later ≡ 0)
 passed true k later h = (refl, h)

@@ -14,11 +14,12 @@ use Rattle.format.specs.Reading.{clipOf}
 use Rattle.format.specs.Rewriting.{cpiBytes, encode}
 use Rattle.format.specs.Refusals.{refusalOf, runsFit, WriteAnswer}
 use Rattle.format.proofs.Read.{narrow, good-clip}
+use Rattle.format.proofs.Tests.{picked, not-picked}
 use Rattle.clip_sections.specs.Clips.{sectionsOf}
 use Rattle.clip_sections.specs.declared.sections.Sections.{Sections}
 use Rattle.encode_cpi.specs.declared.Length.{Length}
 use Rattle.encode_cpi.specs.Cpi.{cpiLengthOf}
-use Rattle.rewrite_cpi.proofs.Lengths.{length-said, length-refused}
+use Rattle.encode_cpi.proofs.Lengths.{length-said, length-refused}
 use Rattle.encode_measure.specs.Places.{programsPlace, cpiPlace, marksPlace, Placed}
 use Rattle.encode.specs.Writing.{bytesIn}
 use Rattle.encode_measure.proofs.Parts.{good-short, encode-length}
@@ -30,18 +31,18 @@ use Rattle.rewrite.specs.Rewrite.{rewriteRefusal, plannedOf, Ready, Leng
 
 -- of counts and a refusal, the refusal is told where the test fails
 told-refused : (b : Bool) (a s p t m e r : ℕ) {n : ℕ} → pick b (Sections.Counts a s p t m e) (Sections.Refused r) ≡ Sections.Refused n → (b ≡ false) × (r ≡ n)
-told-refused false a s p t m e r h = (refl, cc)
-told-refused true a s p t m e r h = let z : _≡_ {A = ℕ} 0 1 = cc in absurd (omega arith)
+told-refused b a s p t m e r h = let q = not-picked b (λ e. let z : _≡_ {A = ℕ} 0 1 = cc in omega arith) h in (q .0, cc (q .1))
 
 -- of a plan and a refusal likewise, and the plan where it passes
 plan-refused : (b : Bool) (a s m p q k r : ℕ) {n : ℕ} → pick b (Planned.Places a s m p q k) (Planned.Refused r) ≡ Planned.Refused n → (b ≡ false) × (r ≡ n)
-plan-refused false a s m p q k r h = (refl, cc)
-plan-refused true a s m p q k r h = let z : _≡_ {A = ℕ} 0 1 = cc in absurd (omega arith)
+plan-refused b a s m p q k r h = let t = not-picked b (λ e. let z : _≡_ {A = ℕ} 0 1 = cc in omega arith) h in (t .0, cc (t .1))
 
 plan-told : (b : Bool) (a s m p q k r : ℕ) {a′ s′ m′ p′ q′ k′ : ℕ} → pick b (Planned.Places a s m p q k) (Planned.Refused r) ≡ Planned.Places a′ s′ m′ p′ q′ k′
     → (b ≡ true) × ((a′ ≡ a) × ((s′ ≡ s) × ((m′ ≡ m) × ((p′ ≡ p) × ((q′ ≡ q) × (k′ ≡ k))))))
-plan-told true a s m p q k r h = (refl, (cc, (cc, (cc, (cc, (cc, cc))))))
-plan-told false a s m p q k r h = let z : _≡_ {A = ℕ} 0 1 = cc in absurd (omega arith)
+plan-told b a s m p q k r h =
+    let t = picked b (λ e. let z : _≡_ {A = ℕ} 0 1 = cc in omega arith) h in
+    let u = t .1 in
+    (t .0, (cc u, (cc u, (cc u, (cc u, (cc u, cc u))))))
 
 -- no refusal of either kind
 neither : (c : Bool) (r : ℕ) → eqb r 0 ≡ c → (b : Bool) → pick c (unless b 31 0) r ≡ 0 → (r ≡ 0) × (b ≡ true)
@@ -81,7 +82,7 @@ module _ (f : List ℕ) where
   pub runs-pass : {start n : ℕ} {r : Length} → start ≡ cpiStart f → r ≡ cpiLengthOf (mapsFrom f start) (entriesFrom f start) → r ≡ Length.Bytes n
       → (runsFit (clipOf f) ≡ true) × (n ≡ length (cpiBytes (clipOf f)))
   unfolding clipOf runsFit cpiBytes
-  runs-pass {start} {n} here is told = length-said (mapsFrom f (cpiStart f)) (entriesFrom f (cpiStart f)) n (sym (rw here at is) ∙ told)
+  runs-pass {start} {n} here is told = length-said (mapsFrom f (cpiStart f)) (entriesFrom f (cpiStart f)) (sym (rw here at is) ∙ told)
 
   pub none : refusalOf f ≡ 0 → runsFit (clipOf f) ≡ true → rewriteRefusal f ≡ 0
   none e h = rw (e, h)

@@ -6,7 +6,6 @@ use mathlib.Core.Bool.{Bool, true, false}
 use native.Mathlib.Omega.{arith}
 use borrow.Author.Tests.{le-leb, lt-leb}
 use lib.ListN.{length, length-append}
-use Rattle.format.specs.Bytes.{pick}
 use Rattle.format.specs.ClipRecord.{Row}
 use Rattle.format.specs.EntryPoints.{fineCountAt, entriesOf, mapsFrom, entriesFrom}
 use Rattle.format.specs.Refusals.{everyMap}
@@ -108,23 +107,3 @@ module _ (f : List ℕ) (c count : ℕ) where
       let n = maps-count f c count (s .counted) in
       let long = none-size (mapsFrom f c) (entriesFrom f c) (omega arith) in
       rw (passes, long)
-
--- ---- what the measure's answer says
-
--- a length: no map has too many runs, and the section is so long
-pub length-said : (ms es : List Row) (n : ℕ) → cpiLengthOf ms es ≡ Length.Bytes n → (everyMap fewRuns ms es ≡ true) × (n ≡ length (cpiBytesBy ms es))
-unfolding cpiLengthOf
-length-said ms es n e = go (everyMap fewRuns ms es) e
-  where
-    go : (b : Bool) → pick b (Length.Bytes (length (cpiBytesBy ms es))) Length.TooManyRuns ≡ Length.Bytes n → (b ≡ true) × (n ≡ length (cpiBytesBy ms es))
-    go true e = (refl, cc)
-    go false e = let z : _≡_ {A = ℕ} 0 1 = cc in absurd (omega arith)
-
--- none: a map has too many
-pub length-refused : (ms es : List Row) → cpiLengthOf ms es ≡ Length.TooManyRuns → everyMap fewRuns ms es ≡ false
-unfolding cpiLengthOf
-length-refused ms es e = go (everyMap fewRuns ms es) e
-  where
-    go : (b : Bool) → pick b (Length.Bytes (length (cpiBytesBy ms es))) Length.TooManyRuns ≡ Length.TooManyRuns → b ≡ false
-    go true e = let z : _≡_ {A = ℕ} 0 1 = cc in absurd (omega arith)
-    go false e = refl
