@@ -49,7 +49,7 @@ entryRows entries m = tableRows entryCells entries m
 unfoldable pub cpiLengthOf : List Row → List Row → Length
 cpiLengthOf ms es = pick (everyMap fewRuns ms es) (Length.Bytes (length (cpiBytesBy ms es))) Length.TooManyRuns
 
--- that where every entry fits, which is tested first
+-- the length where every entry fits, which is tested first; else that one does not
 unfoldable pub testedOf : List Row → List Row → Tested
 testedOf ms es = pick (everyMap entriesFit ms es) (Tested.Fit (cpiLengthOf ms es)) Tested.Unfit
 

@@ -30,7 +30,7 @@ pub enum Length {
     TooManyRuns,
 }
 
-// That where every entry fits, else that one does not.
+// The length where every entry fits, else that one does not.
 pub enum Tested {
     Fit(Length),
     Unfit,

@@ -12,7 +12,7 @@ use Rattle.format.specs.ClipRecord.{entryCount}
 use Rattle.format.specs.Tables.{ClipTables, clipIn, isStated, addUp, rowsOf, rowRoom, atcCells, stcCells, programCells, streamCells, mapCells, entryCells}
 use Rattle.format.specs.Rewriting.{sequencesBytes, programsBytes, cpiBytes, cpiBytesBy}
 use Rattle.format.specs.Refusals.{mapFits, scalarsFit, cellsFit, runsFit, allStated, writeRefusal}
-use Rattle.format.proofs.Tests.{both-true, split-both, true-both, passed, picked, left-fails, right-fails}
+use Rattle.format.proofs.Tests.{both-true, split-both, true-both, passed, picked, not-picked, left-fails, right-fails}
 use Rattle.format.proofs.Maker.{good-made}
 use Rattle.queries.specs.Asked.{noScalars, tablesWith}
 use Rattle.table_rows.specs.OwnRows.{isCounted}
@@ -22,7 +22,6 @@ use Rattle.limits.proofs.Clips.{fields-and-entries, maps-fit}
 use Rattle.encode_sections.specs.declared.Section.{Section}
 use Rattle.encode_sections.specs.Sections as sections
 use Rattle.encode_sections.proofs.Sections.{sequences-are, programs-are}
-use Rattle.entry_runs.proofs.Choices.{other}
 use Rattle.encode_cpi.specs.declared.Length.{Length}
 use Rattle.encode_cpi.specs.declared.Tested.{Tested}
 use Rattle.encode_cpi.specs.Cpi as cpi
@@ -67,7 +66,7 @@ ready-kept l same r = rw same r
 
 -- of two lengths, the one where there are too many runs is told where the test fails
 too-many : (b : Bool) (len : ℕ) → pick b (Length.Bytes len) Length.TooManyRuns ≡ Length.TooManyRuns → b ≡ false
-too-many b len is = other b (λ e. let z : _≡_ {A = ℕ} 0 1 = cc in omega arith) is
+too-many b len is = not-picked b (λ e. let z : _≡_ {A = ℕ} 0 1 = cc in omega arith) is
 
 few-told : (b : Bool) {m len : ℕ} → pick b (Length.Bytes m) Length.TooManyRuns ≡ Length.Bytes len → (b ≡ true) × (len ≡ m)
 few-told b is =
@@ -125,7 +124,7 @@ module _ (l : ClipTables) where
   pub entries-refused : pairsCounted l ≡ true → testedIn ≡ Tested.Unfit → refusalIn l ≡ 30
   unfolding cpi.testedOf
   entries-refused p is =
-      let unfit : entriesOf ≡ false = other entriesOf (λ e. let z : _≡_ {A = ℕ} 0 1 = cc in omega arith) is in
+      let unfit : entriesOf ≡ false = not-picked entriesOf (λ e. let z : _≡_ {A = ℕ} 0 1 = cc in omega arith) is in
       let fails : cellsFit (clipIn l) ≡ false = fields-and-entries l ∙ right-fails fieldsOf unfit in
       refusal-is l ∙ rw (p, fails)
 

@@ -9,7 +9,7 @@ use Rattle.format.specs.Bytes.{both, pick, every}
 use Rattle.format.specs.ClipRecord.{Row}
 use Rattle.format.specs.Refusals.{entryFits}
 use Rattle.format.specs.Rewriting.{runs}
-use Rattle.format.proofs.Tests.{picked}
+use Rattle.format.proofs.Tests.{picked, not-picked}
 use Rattle.entry_runs.specs.Fitting.{runsFit}
 use Rattle.entry_runs.specs.declared.RunCount.{RunCount}
 
@@ -24,11 +24,6 @@ every-parts test (suc m) (x ∷ xs) = go (test x) (every-parts test m xs)
     go true i = i
     go false i = refl
 
--- a choice that is its second value, and not its first, failed its test
-pub other : {A : Type 0} {x y : A} (b : Bool) → (x ≡ y → ⊥) → pick b x y ≡ y → b ≡ false
-other true differ h = absurd (differ h)
-other false differ h = refl
-
 module _ (type : ℕ) (es : List Row) {c : RunCount} (is : c ≡ runsFit type es) where
   -- a number is that of the runs, and each entry fits
   pub runs-told : {r : ℕ} → c ≡ RunCount.Runs r → (every (entryFits type) es ≡ true) × (r ≡ runs es)
@@ -40,4 +35,4 @@ module _ (type : ℕ) (es : List Row) {c : RunCount} (is : c ≡ runsFit type es
   -- else one does not
   pub unfit-told : c ≡ RunCount.Unfit → every (entryFits type) es ≡ false
   unfolding runsFit
-  unfit-told told = other (every (entryFits type) es) (λ e. let z : _≡_ {A = ℕ} 0 1 = cc in omega arith) (sym is ∙ told)
+  unfit-told told = not-picked (every (entryFits type) es) (λ e. let z : _≡_ {A = ℕ} 0 1 = cc in omega arith) (sym is ∙ told)

@@ -13,13 +13,13 @@ use Rattle.format.specs.Refusals.{entryFits}
 use Rattle.format.specs.Rewriting.{timeKey, packetKey, sameRun, coarseRow, coarseAfter, runs}
 use Rattle.format.specs.Tables.{cellsAt}
 use Rattle.format.proofs.Rows.{rows-length, drop-rows}
-use Rattle.format.proofs.Tests.{true-both, left-fails, picked}
+use Rattle.format.proofs.Tests.{true-both, left-fails, picked, not-picked}
 use Rattle.runs.specs.Runs.{entriesAt, entriesFrom, pairRow, PairIs, runEnd, endFrom, coarseFrom}
 use Rattle.runs.proofs.Runs.{run-ends, after-run, coarse-all, entry-cell, left-all, left-turn, left-done}
 use Rattle.entry_runs.specs.Fitting.{fitUntil, endFit, runsFit}
 use Rattle.entry_runs.specs.declared.RunEnd.{RunEnd}
 use Rattle.entry_runs.specs.declared.RunCount.{RunCount}
-use Rattle.entry_runs.proofs.Choices.{every-parts, other}
+use Rattle.entry_runs.proofs.Choices.{every-parts}
 
 -- an entry is in its own run
 same-self : (e : Row) → sameRun e e ≡ true
@@ -147,7 +147,7 @@ module _ (t : List ℕ) (p n type : ℕ) where
     run-unfit told =
         let es = entriesFrom t p n k in
         let m = endFrom k es - k in
-        let fails = other (every (entryFits type) (take m es)) (λ e. let z : _≡_ {A = ℕ} 0 1 = cc in omega arith) (sym is ∙ told) in
+        let fails = not-picked (every (entryFits type) (take m es)) (λ e. let z : _≡_ {A = ℕ} 0 1 = cc in omega arith) (sym is ∙ told) in
         sym (every-parts (entryFits type) m es) ∙ left-fails (every (entryFits type) (drop m es)) fails
 
   -- the runs that were counted up to row k, where every entry fits, and those from there on

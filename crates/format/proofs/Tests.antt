@@ -23,6 +23,11 @@ pub picked : {A : Type 0} {x y z : A} (b : Bool) → (y ≡ z → ⊥) → pick 
 picked true other h = (refl, h)
 picked false other h = absurd (other h)
 
+-- one that is its second value, and not its first, failed it
+pub not-picked : {A : Type 0} {x y : A} (b : Bool) → (x ≡ y → ⊥) → pick b x y ≡ y → b ≡ false
+not-picked true differ h = absurd (differ h)
+not-picked false differ h = refl
+
 -- a refusal that is not given was tested, and so were the later ones
 pub passed : (b : Bool) (k later : ℕ) → unless b (suc k) later ≡ 0 → (b ≡ true) × (later ≡ 0)
 passed true k later h = (refl, h)

@@ -36,6 +36,7 @@ module _ (c : tie.After-length) where
   abbrev earlier : tie.Else2
   earlier = c .before .before .before
 
+  -- the tables
   abbrev handed : ClipTables
   handed = tables (earlier .before .before .before)
 
@@ -44,16 +45,19 @@ module _ (c : tie.After-length) where
   fit = entries-fit handed (fields earlier) (sym (c .before .before .cpi-length .ensures) ∙ c .length .given .1)
 
 module _ (c : tie.After-length2) where
-  -- the tables, from where no map has too many runs
+  -- the length as it is told, from where no map has too many runs
   abbrev told : tie.After-length
   told = c .before .before .before
 
+  -- the tables, which can be written
   abbrev writable : ClipTables
   writable = handed told
 
+  -- no map has too many runs, and the section's bytes are told
   few : (runsFit (clipIn writable) ≡ true) × (c .length2 .given .0 .0 ≡ length (cpiBytes (clipIn writable)))
   few = runs-few writable (sym (fit told .1) ∙ c .length2 .given .1)
 
+  -- nothing is refused
   none : refusalIn writable ≡ 0
   none = none-refused writable (record { counted = counted (earlier told .before .before); fit = fit told .0; runs-fit = few .0 })
 
