@@ -254,6 +254,8 @@ fn order(cases: &mut Cases) {
     });
     cases.add("22 before 31", 22, move |made| [runs, rows].iter().for_each(|change| change(made)));
     cases.add("30 before 31", 30, move |made| [runs, cells].iter().for_each(|change| change(made)));
+    cases.add("30 of the last map before 31 of the first", 30, |made| made.entries(&[by_time(65_536), vec![(513, 7)]]));
+    cases.add("30 of the last entry of a run", 30, |made| made.entries(&[vec![(512, 7), (1_024, 7), (1_025, 7)]]));
     cases.add("22 before 30 and 31", 22, move |made| [runs, rows, cells].iter().for_each(|change| change(made)));
     cases.add_without_output("22 before 23", 22, rows);
     cases.add_without_output("30 before 23", 30, cells);
