@@ -2,9 +2,9 @@
 use Prim.Native.Nat.{ℕ, _+_, _<_, _^_}
 use mathlib.Core.Path.{_≡_}
 use mathlib.Core.List.{List, []}
-use lib.ListN.{length, take, drop}
+use lib.ListN.{length}
 use lib.Dec.{leb}
-use Rattle.format.specs.Bytes.{beAt, pick}
+use Rattle.format.specs.Bytes.{part, beAt, pick}
 use Rattle.common.specs.declared.reader.Reader.{Reader}
 use Rattle.common.specs.declared.reader.Moved.{Moved}
 use Rattle.common.specs.declared.reader.Number.{Number}
@@ -19,7 +19,7 @@ movedTo f p = pick (leb p (length f)) (Moved.At (record { pos = p })) Moved.Past
 
 -- n bytes from p, none where they pass the end
 abbrev pub partAt : List ℕ → ℕ → ℕ → List ℕ
-partAt f p n = pick (leb (p + n) (length f)) (take n (drop p f)) []
+partAt f p n = pick (leb (p + n) (length f)) (part f p n) []
 
 -- the number of n bytes at p and the reader behind it, where the bytes do not pass the end
 abbrev pub numberAt : List ℕ → ℕ → ℕ → Number

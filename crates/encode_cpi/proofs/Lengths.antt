@@ -14,7 +14,7 @@ use Rattle.format.specs.Rewriting.{runs, bodyBytes, bodies, headers, cpiBytesBy
 use Rattle.format.specs.Tables.{tableRows, mapCells, entryCells}
 use Rattle.format.proofs.Cpi.{headers-length}
 use Rattle.format.proofs.Numbers.{bytes-length}
-use Rattle.format.proofs.Tests.{picked, not-picked}
+use Rattle.format.proofs.Tests.{both-assoc, picked, not-picked}
 use Rattle.cells.specs.Reads.{CellIs}
 use Rattle.table_rows.proofs.Scans.{left-all, left-done}
 use Rattle.runs.specs.Runs.{entriesAt}
@@ -53,11 +53,6 @@ cpi-size ms es h =
     ∙ rw (length-append (topBytes n (length rows)) (heads ++ rows), top-length n (length rows), length-append heads rows, headers-length ms es (2 + 12 * n)) (omega arith)
 
 -- ---- the pass
-
--- tests in a row, and in pairs
-pairs : (a b c : Bool) → both (both a b) c ≡ both a (both b c)
-pairs true b c = refl
-pairs false b c = refl
 
 -- a test before one that passes
 before-true : (a : Bool) → both a true ≡ a
@@ -122,7 +117,7 @@ module _ (maps : List ℕ) (n : ℕ) (entries : List ℕ) (m : ℕ) where
             walk = walk-turn maps n entries m j k (i .walk) h cell;
             small = omega (arith, i .small, runs-within-count, count-few maps n entries m j k (i .walk) h cell);
             fit = rw (all .0) at fit-turn;
-            runs-few = rw (still, pairs few (leb r 65535) behind, all .1) (rw (every-turn maps n entries m j k (i .walk) h cell fewRuns) at (i .runs-few));
+            runs-few = rw (still, both-assoc few (leb r 65535) behind, all .1) (rw (every-turn maps n entries m j k (i .walk) h cell fewRuns) at (i .runs-few));
             rest = omega arith;
           }
 

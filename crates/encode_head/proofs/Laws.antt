@@ -9,7 +9,7 @@ use lib.Seq.{sets}
 use Rattle.format.specs.Bytes.{bytesOf, widthOf, fieldBytes}
 use Rattle.format.specs.ClipRecord.{Scalars}
 use Rattle.format.specs.Rewriting.{headBytes, marksBytes}
-use Rattle.format.proofs.Numbers.{bytes-length}
+use Rattle.format.proofs.Numbers.{bytes-length, widths-length}
 use Rattle.format.proofs.Loops.{put-more}
 use Rattle.format.proofs.Stores.{sets-append, bytes-parts}
 use Rattle.encode_head.specs.Heads.{headerWidths, headerNumbers, infoWidths, infoNumbers}
@@ -50,13 +50,6 @@ fields-append (w ∷ ws) [] more values e = absurd (omega (arith, e))
 fields-append (w ∷ ws) (v ∷ vs) more values e =
     rw (fields-append ws vs more values (omega (arith, e)), append-assoc (bytesOf w v) (fieldBytes ws vs) (fieldBytes more values))
 
--- the length of fields is that of their widths
-fields-length : (ws vs : List ℕ) → length ws ≡ length vs → length (fieldBytes ws vs) ≡ widthOf ws
-fields-length [] [] e = refl
-fields-length [] (v ∷ vs) e = absurd (omega (arith, e))
-fields-length (w ∷ ws) [] e = absurd (omega (arith, e))
-fields-length (w ∷ ws) (v ∷ vs) e = rw (length-append (bytesOf w v) (fieldBytes ws vs), bytes-length w v, fields-length ws vs (omega (arith, e)))
-
 -- the header, and ClipInfo behind it
 pub head-parts : (s : Scalars) (programs cpi marks : ℕ)
     → headBytes s programs cpi marks ≡ fieldBytes headerWidths (headerNumbers (s .version) programs cpi marks) ++ fieldBytes infoWidths (infoNumbers s)
@@ -68,8 +61,8 @@ pub head-length : (s : Scalars) (programs cpi marks : ℕ) → length (headBytes
 head-length s programs cpi marks =
     let front = fieldBytes headerWidths (headerNumbers (s .version) programs cpi marks) in
     let info = fieldBytes infoWidths (infoNumbers s) in
-    let forty : length front ≡ 40 = fields-length headerWidths (headerNumbers (s .version) programs cpi marks) refl in
-    let rest : length info ≡ 180 = fields-length infoWidths (infoNumbers s) refl in
+    let forty : length front ≡ 40 = widths-length headerWidths (headerNumbers (s .version) programs cpi marks) refl in
+    let rest : length info ≡ 180 = widths-length infoWidths (infoNumbers s) refl in
     rw (head-parts s programs cpi marks, length-append front info, forty, rest)
 
 -- the header stored, and ClipInfo behind it
@@ -78,10 +71,10 @@ pub head-stored : (s : Scalars) (programs cpi marks : ℕ) (l : List ℕ) {l′ 
     → l″ ≡ sets l 0 (headBytes s programs cpi marks)
 head-stored s programs cpi marks l e f =
     let front = fieldBytes headerWidths (headerNumbers (s .version) programs cpi marks) in
-    let forty : length front ≡ 40 = fields-length headerWidths (headerNumbers (s .version) programs cpi marks) refl in
+    let forty : length front ≡ 40 = widths-length headerWidths (headerNumbers (s .version) programs cpi marks) refl in
     let long : 0 + length front ≡ 40 = omega (arith, forty) in
     f ∙ rw (e, head-parts s programs cpi marks, sets-append l 0 front (fieldBytes infoWidths (infoNumbers s)), long)
 
 -- empty marks have 6 bytes
 pub marks-length : length marksBytes ≡ 6
-marks-length = fields-length (4 ∷ 2 ∷ []) (2 ∷ 0 ∷ []) refl
+marks-length = widths-length (4 ∷ 2 ∷ []) (2 ∷ 0 ∷ []) refl

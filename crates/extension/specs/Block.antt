@@ -2,10 +2,10 @@
 use Prim.Native.Nat.{ℕ, _+_, _*_, _≤_, min}
 use mathlib.Core.Path.{_≡_}
 use mathlib.Core.List.{List, [], _∷_, map}
-use lib.ListN.{length, take, drop}
+use lib.ListN.{length}
 use lib.Seq.{sets}
 use lib.Dec.{eqb}
-use Rattle.format.specs.Bytes.{both, pick, gather}
+use Rattle.format.specs.Bytes.{part, both, pick, gather}
 use Rattle.format.specs.ClipRecord.{Row, Extension}
 use Rattle.format.specs.Extensions.{blockEnd, extensionCount, nextExtension, keptAt, hasExtensions, extensionOf, Found, nothing, found, listData}
 use Rattle.format.specs.Tables.{tableBytes}
@@ -75,7 +75,7 @@ orList Absent later = later
 
 -- the bytes that stand there
 abbrev pub foundIn : List ℕ → ListData → Found
-foundIn f (At start len) = found (take len (drop start f))
+foundIn f (At start len) = found (part f start len)
 foundIn f Absent = nothing
 
 -- where they end

@@ -60,7 +60,7 @@ bytes-take (suc n) (x ∷ xs) h (suc i) = bytes-take n xs (λ j. h (suc j)) i
 -- ---- rows and groups of rows
 
 -- n items with at most k rows each
-gather-few : {A : Type 0} (rows : ℕ → List A) (next : ℕ → ℕ) (k : ℕ) → ((p : ℕ) → length (rows p) ≤ k) → (p n : ℕ) → length (gather rows next p n) ≤ n * k
+pub gather-few : {A : Type 0} (rows : ℕ → List A) (next : ℕ → ℕ) (k : ℕ) → ((p : ℕ) → length (rows p) ≤ k) → (p n : ℕ) → length (gather rows next p n) ≤ n * k
 gather-few rows next k h p zero = omega arith
 gather-few rows next k h p (suc n) =
     let g = gather-few rows next k h (next p) n in
@@ -78,7 +78,7 @@ groups-few rows next k h p n m few room =
 
 module _ (f : List ℕ) (bytes : IsBytes f) where
   -- a byte counts to 255
-  byte-few : (p : ℕ) → beAt f p 1 ≤ 255
+  pub byte-few : (p : ℕ) → beAt f p 1 ≤ 255
   byte-few p = let h = be-below f bytes p 1 in omega arith
 
   atcs-few : (start : ℕ) → length (atcsFrom f start) ≤ 255

@@ -1,10 +1,12 @@
--- Lists all of whose elements have a property.
-use Prim.Native.Nat.{ℕ, zero, suc}
-use mathlib.Core.Path.{_≡_, refl}
+-- Lists all of whose elements have a property, and parts of a list.
+use Prim.Native.Nat.{ℕ, zero, suc, _+_, _≤_}
+use mathlib.Core.Path.{_≡_, refl, _∙_}
 use mathlib.Core.List.{List, [], _∷_, _++_}
 use mathlib.Core.Bool.{Bool, true}
-use lib.ListN.{take, drop}
-use Rattle.format.specs.Bytes.{every}
+use native.Mathlib.Omega.{arith}
+use lib.ListN.{length, getD, take, drop, length-drop}
+use lib.Seq.{take-add, drop-cons, drop-drop, length-take-le}
+use Rattle.format.specs.Bytes.{part, every}
 use Rattle.format.proofs.Tests.{both-true, true-both}
 
 pub data All {A : Type 0} (P : A → Type 0) : List A → Type 0 where
@@ -37,3 +39,19 @@ all-append (more h hs) k = more h (all-append hs k)
 pub all-map : {A : Type 0} {P Q : A → Type 0} → ((x : A) → P x → Q x) → {xs : List A} → All P xs → All Q xs
 all-map g none = none
 all-map g (more {x = x} h hs) = more (g x h) (all-map g hs)
+
+-- ---- parts
+
+-- a part is as long as it says, where it ends within the list
+pub part-length : (f : List ℕ) (p n : ℕ) → p + n ≤ length f → length (part f p n) ≡ n
+part-length f p n h = length-take-le n (drop p f) (omega (arith, length-drop p f))
+
+-- two parts one behind the other are one
+pub part-two : (f : List ℕ) (p m n : ℕ) → part f p (m + n) ≡ part f p m ++ part f (p + m) n
+part-two f p m n = take-add m n (drop p f) ∙ rw (drop-drop m p f)
+
+-- a part that ends within the list is its first byte and the rest
+pub part-first : (f : List ℕ) (p n : ℕ) → p + suc n ≤ length f → part f p (suc n) ≡ getD f p 0 ∷ part f (p + 1) n
+part-first f p n h =
+    let next : suc p ≡ p + 1 = omega arith in
+    rw (drop-cons f p 0 (omega arith), next)

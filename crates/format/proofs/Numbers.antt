@@ -93,8 +93,17 @@ fields-back {s} p (one {w = w} {v = v} {ws = ws} {vs = vs} h f) t =
     let rest = right (bytesOf w v) (fieldBytes ws vs) (p + w) (rw size) t in
     ap₂ (λ (x : ℕ) (xs : List ℕ). x ∷ xs) (number-back w v (left (bytesOf w v) (fieldBytes ws vs) t) h) (fields-back (p + w) f rest)
 
--- its bytes are as many as its widths say
+-- as many fields as values: their bytes are as many as the widths say
+pub widths-length : (ws vs : List ℕ) → length ws ≡ length vs → length (fieldBytes ws vs) ≡ widthOf ws
+widths-length [] [] e = refl
+widths-length [] (v ∷ vs) e = absurd (omega (arith, e))
+widths-length (w ∷ ws) [] e = absurd (omega (arith, e))
+widths-length (w ∷ ws) (v ∷ vs) e = rw (length-append (bytesOf w v) (fieldBytes ws vs), bytes-length w v, widths-length ws vs (omega (arith, e)))
+
+-- so with values that fit their fields
+fill-alike : {ws vs : List ℕ} → Fill ws vs → length ws ≡ length vs
+fill-alike none = refl
+fill-alike (one h f) = omega (arith, fill-alike f)
+
 pub fields-length : {ws vs : List ℕ} → Fill ws vs → length (fieldBytes ws vs) ≡ widthOf ws
-fields-length none = refl
-fields-length (one {w = w} {v = v} {ws = ws} {vs = vs} h f) =
-    length-append (bytesOf w v) (fieldBytes ws vs) ∙ omega (arith, bytes-length w v, fields-length f)
+fields-length {ws} {vs} f = widths-length ws vs (fill-alike f)

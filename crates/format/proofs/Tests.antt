@@ -18,6 +18,11 @@ split-both {a} {b} h = both-true a b h
 pub true-both : {a b : Bool} → a ≡ true → b ≡ true → both a b ≡ true
 true-both h g = rw h g
 
+-- three tests, grouped either way
+pub both-assoc : (a b c : Bool) → both (both a b) c ≡ both a (both b c)
+both-assoc true b c = refl
+both-assoc false b c = refl
+
 -- a choice that is not its second value passed its test
 pub picked : {A : Type 0} {x y z : A} (b : Bool) → (y ≡ z → ⊥) → pick b x y ≡ z → (b ≡ true) × (x ≡ z)
 picked true other h = (refl, h)

@@ -2,12 +2,16 @@
 use Prim.Native.Nat.{ℕ, zero, suc, _+_, _*_, _/_, _%_, _^_, _<_}
 use mathlib.Core.List.{List, [], _∷_, _++_}
 use mathlib.Core.Bool.{Bool, true, false}
-use lib.ListN.{getD}
+use lib.ListN.{getD, take, drop}
 use lib.Dec.{ltb}
 
 -- a file, a table and an output are lists of bytes
 abbrev pub IsBytes : List ℕ → Type 0
 IsBytes f = (i : ℕ) → getD f i 0 < 256
+
+-- the n bytes of f from place p, or as many as there are
+abbrev pub part : List ℕ → ℕ → ℕ → List ℕ
+part f p n = take n (drop p f)
 
 -- ---- tests
 

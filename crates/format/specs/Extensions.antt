@@ -2,9 +2,9 @@
 use Prim.Native.Nat.{ℕ, _+_, _*_, min}
 use mathlib.Core.List.{List, [], _∷_, map}
 use mathlib.Core.Bool.{Bool, true, false, not}
-use lib.ListN.{length, getD, take, drop}
+use lib.ListN.{length, getD}
 use lib.Dec.{leb, eqb}
-use Rattle.format.specs.Bytes.{both, pick, beAt, gather}
+use Rattle.format.specs.Bytes.{part, both, pick, beAt, gather}
 use Rattle.format.specs.ClipRecord.{Row, Extension, present}
 use Rattle.format.specs.Programs.{programsFrom, streamsFrom, programsEnd}
 
@@ -71,7 +71,7 @@ dataLength row = getD row 3 0
 
 -- the data of a row is a part of the file
 abbrev pub dataOf : List ℕ → Row → List ℕ
-dataOf f row = take (dataLength row) (drop (dataStart row) f)
+dataOf f row = part f (dataStart row) (dataLength row)
 
 abbrev pub extensionOf : List ℕ → Row → Extension
 extensionOf f row = record { id1 = firstId row; id2 = secondId row; bytes = dataOf f row }

@@ -17,7 +17,7 @@ use Rattle.row_limits.specs.Kinds.{cellsOf, fitsBy}
 use Rattle.row_limits.specs.declared.Kind.{Kind}
 use Rattle.limits.specs.Clips.{entriesFit, headsFit, groupsFit, tablesFit}
 use Rattle.format.proofs.Tables.{rows-stated}
-use Rattle.format.proofs.Tests.{both-true}
+use Rattle.format.proofs.Tests.{both-true, both-assoc}
 
 -- ---- two tests
 
@@ -55,43 +55,12 @@ module _ (kind : Kind) (t : List ℕ) (n : ℕ) where
 
 -- ---- the record
 
--- tests in a row, and in pairs
-pairs : (a b c : Bool) → both a (both b c) ≡ both (both a b) c
-pairs true b c = refl
-pairs false b c = refl
-
 -- each cell of a record fits where the scalars do and the tables but that of the entries do, and the entries do
 pub fields-and-entries : (l : ClipTables)
     → cellsFit (clipIn l)
     ≡ both (both (scalarsFit (l .scalars)) (tablesFit (l .atcs) (l .stcs) (l .programs) (l .streams) (l .maps))) (entriesFit (rowsOf mapCells (l .maps)) (rowsOf entryCells (l .entries)))
 unfolding cellsFit tablesFit clipIn
-fields-and-entries l =
-    let c = clipIn l in
-    let few-atcs = leb (length (c .atcs)) 255 in
-    let atcs = every atcFits (c .atcs) in
-    let stcs = every stcFits (c .stcs) in
-    let few-programs = leb (length (c .programs)) 255 in
-    let programs = every programFits (c .programs) in
-    let streams = every streamFits (c .streams) in
-    let few-maps = leb (length (c .maps)) 255 in
-    let maps = every mapFits (c .maps) in
-    let entries = entriesFit (c .maps) (c .entries) in
-    let sequences-section = both (both few-atcs atcs) stcs in
-    let programs-section = both (both few-programs programs) streams in
-    let third = pairs few-maps maps entries in
-    let second =
-    ap (λ (x : Bool). both few-programs (both programs (both streams x))) third
-    ∙ pairs few-programs programs (both streams (both (both few-maps maps) entries))
-    ∙ pairs (both few-programs programs) streams (both (both few-maps maps) entries)
-    ∙ pairs programs-section (both few-maps maps) entries in
-    let tables = both sequences-section (both programs-section (both few-maps maps)) in
-    let rest = both (both programs-section (both few-maps maps)) entries in
-    ap (λ (x : Bool). both (scalarsFit (c .scalars)) x)
-    (ap (λ (x : Bool). both few-atcs (both atcs (both stcs x))) second
-    ∙ pairs few-atcs atcs (both stcs rest)
-    ∙ pairs (both few-atcs atcs) stcs rest
-    ∙ pairs sequences-section (both programs-section (both few-maps maps)) entries)
-    ∙ pairs (scalarsFit (c .scalars)) tables entries
+fields-and-entries l = simp both-assoc
 
 -- ---- the tables, section by section
 

@@ -1,31 +1,15 @@
--- Parts of some bytes, and a part copied byte by byte.
+-- A part of some bytes copied byte by byte.
 use Prim.Native.Nat.{ℕ, suc, _+_, _-_, _<_, _≤_}
 use mathlib.Core.Path.{_≡_, refl, _∙_}
-use mathlib.Core.List.{List, _∷_, _++_}
+use mathlib.Core.List.{List}
 use native.Mathlib.Omega.{arith}
-use lib.ListN.{length, getD, drop, set, length-drop, length-set}
-use lib.Seq.{sets, take-add, drop-cons, drop-drop, length-take-le}
+use lib.ListN.{length, getD, set, length-set}
+use lib.Seq.{sets}
+use Rattle.format.specs.Bytes.{part}
+use Rattle.format.proofs.Lists.{part-first}
 use Rattle.format.proofs.Loops.{one-left, none-left}
-use Rattle.numbers.specs.Reads.{part}
 
--- ---- parts
-
--- a part is as long as it says, where it ends within the file
-pub part-length : (f : List ℕ) (p n : ℕ) → p + n ≤ length f → length (part f p n) ≡ n
-part-length f p n h = length-take-le n (drop p f) (omega (arith, length-drop p f))
-
--- two parts one behind the other are one
-pub part-two : (f : List ℕ) (p m n : ℕ) → part f p (m + n) ≡ part f p m ++ part f (p + m) n
-part-two f p m n = take-add m n (drop p f) ∙ rw (drop-drop m p f)
-
--- a part that ends within the file is its first byte and the rest
-part-first : (f : List ℕ) (p n : ℕ) → p + suc n ≤ length f → part f p (suc n) ≡ getD f p 0 ∷ part f (p + 1) n
-part-first f p n h =
-    let next : suc p ≡ p + 1 = omega arith in
-    rw (drop-cons f p 0 (omega arith), next)
-
--- ---- copies: what is left of a part, put from here, gives the whole
-
+-- what is left of the part, put from here, gives the whole
 pub record Copying (f : List ℕ) (from n : ℕ) (o₀ : List ℕ) (at : ℕ) (o : List ℕ) (k : ℕ) : Type 0 where
   pub turns : k ≤ n
   pub long : length o ≡ length o₀

@@ -4,9 +4,9 @@ ghost use mathlib.Core.Path.{_≡_};
 ghost use Prim.Native.Nat.{_+_, _≤_};
 ghost use lib.ListN.{length};
 ghost use lib.Seq.{sets};
-ghost use Rattle.format.specs.Bytes.{bytesOf};
+ghost use Rattle.format.specs.Bytes.{bytesOf, part};
 ghost use Rattle.cells.specs.Reads.{Wide};
-ghost use Rattle.numbers.specs.Reads.{ReadIs, swapped, part};
+ghost use Rattle.numbers.specs.Reads.{ReadIs, swapped};
 use cells::cell_at;
 use cells::put_cell;
 

@@ -10,21 +10,17 @@ use lib.ListN.{length, getD, take, drop, length-append, length-drop, take-append
 use lib.Seq.{drop-cons, drop-drop, getD-take, getD-drop, ext-getD, length-take-le}
 use lib.Dec.{leb, eqb}
 use borrow.Author.Tests.{le-leb, lt-leb, eq-eqb, ne-eqb, eqb-true, eqb-false, leb-true, leb-false}
-use Rattle.format.specs.Bytes.{IsBytes, both, pick}
+use Rattle.format.specs.Bytes.{IsBytes, both, pick, part}
 use Rattle.format.specs.Tables.{cellAt, cellBytes, rowBytes}
-use Rattle.format.proofs.Tests.{both-true, true-both, left-fails, right-fails}
+use Rattle.format.proofs.Tests.{both-true, true-both, both-assoc, left-fails, right-fails}
+use Rattle.format.proofs.Lists.{part-length}
 use Rattle.format.proofs.Loops.{one-left, none-left}
 use Rattle.format.proofs.Numbers.{Stands}
 use Rattle.format.proofs.Cells.{low-length, low-digits, low-back}
 use Rattle.format.proofs.Sweep.{row-bytes}
-use Rattle.replay_bytes.specs.Parts.{startsWith, sameBytes, noPlace, behind, part, behindPart}
+use Rattle.replay_bytes.specs.Parts.{startsWith, sameBytes, noPlace, behind, behindPart}
 
 -- ---- tests
-
--- three tests, grouped either way
-both-assoc : (a b c : Bool) → both (both a b) c ≡ both a (both b c)
-both-assoc true b c = refl
-both-assoc false b c = refl
 
 -- two parts stand at the front where the first does, and behind it the second
 pub starts-append : (xs ys zs : List ℕ) → startsWith (xs ++ ys) zs ≡ both (startsWith xs zs) (startsWith ys (drop (length xs) zs))
@@ -138,10 +134,6 @@ module _ (a : List ℕ) (at : ℕ) (o : List ℕ) (from n : ℕ) where
       either-way true = refl
       either-way false = refl
 
-  -- a part has its length
-  pub part-length : from + n ≤ length o → length (part o from n) ≡ n
-  part-length h = length-take-le n (drop from o) (omega (arith, length-drop from o))
-
   -- a part that passes the answer's end
   pub part-too-long : at ≤ length a → length a < at + n → noPlace ≡ behindPart a at o from n
   unfolding behindPart
@@ -149,7 +141,7 @@ module _ (a : List ℕ) (at : ℕ) (o : List ℕ) (from n : ℕ) where
     where
       by-test : (b : Bool) → leb (from + n) (length o) ≡ b → noPlace ≡ pick b (behind a at (part o from n)) noPlace
       by-test true e =
-          let size = part-length (leb-true (from + n) (length o) e) in
+          let size = part-length o from n (leb-true (from + n) (length o) e) in
           sym (differs a at (part o from n) (starts-short (part o from n) (drop at a) (omega (arith, length-drop at a))))
       by-test false e = refl
 
@@ -184,7 +176,7 @@ module _ (a : List ℕ) (at : ℕ) (o : List ℕ) (from n : ℕ) where
   pub all-same : at + n ≤ length a → from + n ≤ length o → {i : ℕ} → n ≤ i → Same i → at + n ≡ behindPart a at o from n
   all-same inside in-other {i} h s =
       let e : startsWith (part o from n) (drop at a) ≡ true = sym (s .rest) ∙ rw (none-left n i h) in
-      sym (part-inside in-other ∙ stands a at (part o from n) (omega arith) e ∙ ap (λ (m : ℕ). at + m) (part-length in-other))
+      sym (part-inside in-other ∙ stands a at (part o from n) (omega arith) e ∙ ap (λ (m : ℕ). at + m) (part-length o from n in-other))
 
 -- ---- cells
 
@@ -206,7 +198,7 @@ module _ (a : List ℕ) (bytes : IsBytes a) (p : ℕ) (room : p + 4 ≤ length a
   -- the four bytes of a cell are those of the number that is read there
   pub cell-part : part a p 4 ≡ cellBytes (cellAt a p)
   cell-part =
-      let size : length (part a p 4) ≡ 4 = part-length [] 0 a p 4 room in
+      let size : length (part a p 4) ≡ 4 = part-length a p 4 room in
       ext-getD 0 (part a p 4) (cellBytes (cellAt a p)) (size ∙ sym (low-length 4 (cellAt a p)))
       (λ i h. getD-take 4 (drop p a) i 0 (omega arith) ∙ getD-drop p a i 0 ∙ sym (low-digits a bytes p 4 i (omega arith)))
 

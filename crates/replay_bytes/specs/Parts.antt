@@ -2,9 +2,9 @@
 use Prim.Native.Nat.{ℕ, _+_}
 use mathlib.Core.List.{List, [], _∷_}
 use mathlib.Core.Bool.{Bool, true, false}
-use lib.ListN.{length, take, drop}
+use lib.ListN.{length, drop}
 use lib.Dec.{leb, eqb}
-use Rattle.format.specs.Bytes.{both, pick}
+use Rattle.format.specs.Bytes.{part, both, pick}
 
 -- ---- tests of lists
 
@@ -34,10 +34,6 @@ standsAt answer at bytes = both (leb at (length answer)) (startsWith bytes (drop
 -- the place behind these bytes, where they stand in the answer from `at`
 unfoldable pub behind : List ℕ → ℕ → List ℕ → ℕ
 behind answer at bytes = pick (standsAt answer at bytes) (at + length bytes) noPlace
-
--- the n bytes of a list from place `from`
-abbrev pub part : List ℕ → ℕ → ℕ → List ℕ
-part other from n = take n (drop from other)
 
 -- the place behind the n bytes of the other list from `from`, where it has so many and they stand in the answer from `at`
 unfoldable pub behindPart : List ℕ → ℕ → List ℕ → ℕ → ℕ → ℕ

@@ -9,7 +9,7 @@ use lib.ListN.{length, getD, take, drop, length-drop}
 use lib.Seq.{take-add, take-suc, take-length, take-all, drop-drop, length-take-le}
 use lib.Dec.{lit<}
 use borrow.Author.Tests.{le-leb, lt-ltb, leb-true}
-use Rattle.format.specs.Bytes.{IsBytes, both}
+use Rattle.format.specs.Bytes.{IsBytes, both, part}
 use Rattle.format.specs.ClipRecord.{Row}
 use Rattle.format.specs.Tables.{cellBytes, rowRoom, rowsOf, tableRows, extensionCells}
 use Rattle.format.specs.Extensions.{firstId, secondId, dataStart, dataLength, dataOf, extensionOf}
@@ -18,7 +18,7 @@ use Rattle.format.proofs.Cell.{cell-of, cell-room}
 use Rattle.format.proofs.Loops.{flat-append}
 use Rattle.format.proofs.Rows.{rows-length}
 use Rattle.extension_entry.specs.Part.{tableOf}
-use Rattle.replay_bytes.specs.Parts.{noPlace, behind, part, behindPart}
+use Rattle.replay_bytes.specs.Parts.{noPlace, behind, behindPart}
 use Rattle.replay_case.specs.Expected.{extensionBytes}
 use Rattle.replay_case.specs.Places.{extensionsBytes, DataInside}
 use Rattle.replay_bytes.proofs.PartLaws.{behind-append, stands, part-inside, cell-part}

@@ -4,11 +4,11 @@ use mathlib.Core.List.{List, [], _∷_}
 use mathlib.Core.Bool.{Bool}
 use lib.ListN.{length, drop}
 use lib.Dec.{leb}
-use Rattle.format.specs.Bytes.{pick, total}
+use Rattle.format.specs.Bytes.{pick, total, part}
 use Rattle.format.specs.Tables.{cellAt}
 use Rattle.format.specs.Refusals.{flag}
 use Rattle.replay_cases.specs.declared.Tally.{Tally}
-use Rattle.replay_bytes.specs.Parts.{sameBytes, part}
+use Rattle.replay_bytes.specs.Parts.{sameBytes}
 use Rattle.replay_case.specs.Expected.{expected}
 
 -- ---- the case at the front

@@ -6,7 +6,7 @@ use native.Mathlib.Nat.{le-trans}
 use native.Mathlib.Omega.{arith}
 use lib.ListN.{length, length-append}
 use lib.Seq.{sets, length-sets, take-at, drop-at}
-use Rattle.format.specs.Bytes.{IsBytes, beAt, rowsAt, gather, endOf, flat}
+use Rattle.format.specs.Bytes.{IsBytes, beAt, rowsAt, gather, endOf, flat, part}
 use Rattle.format.specs.ClipRecord.{Row, atcStcCount, streamCount, sequencesStart, programsStart, atcAt, stcAt, nextStc, stcsOf, nextAtc, atcsFrom, stcsFrom, sequencesEnd}
 use Rattle.format.specs.Programs.{programAt, streamAt, nextStream, streamsOf, nextProgram, programsFrom, streamsFrom, programsEnd}
 use Rattle.format.specs.Reading.{clipOf}
@@ -18,8 +18,7 @@ use Rattle.format.proofs.Sweep.{end-steps}
 use Rattle.format.proofs.Stores.{part-then}
 use Rattle.section_heads.proofs.Stored.{sectionHead, section-head}
 use Rattle.rewrite_sections.specs.Sections.{newSequences, newItems, newPrograms}
-use Rattle.numbers.specs.Reads.{part}
-use Rattle.numbers.proofs.Parts.{part-length, part-two}
+use Rattle.format.proofs.Lists.{part-length, part-two}
 use Rattle.rewrite_sections.proofs.Parts.{fields-part, items-part}
 
 -- ---- any kind of items

@@ -1,46 +1,33 @@
 -- How long the new sections are: counts are bytes, so that each length fits its four.
-use Prim.Native.Nat.{ℕ, zero, suc, _+_, _*_, _^_, _<_, _≤_}
+use Prim.Native.Nat.{ℕ, _+_, _*_, _^_, _<_, _≤_}
 use mathlib.Core.Path.{_≡_, refl, ap, _∙_}
 use mathlib.Core.List.{List}
-use native.Mathlib.Nat.{mul-suc}
 use native.Mathlib.Omega.{arith}
 use lib.ListN.{length, length-append}
-use Rattle.format.specs.Bytes.{IsBytes, beAt, gather}
+use Rattle.format.specs.Bytes.{IsBytes, beAt, gather, part}
 use Rattle.format.specs.ClipRecord.{atcAt, stcAt, nextStc, stcsOf, nextAtc, atcsFrom, stcsFrom, sequencesEnd}
 use Rattle.format.specs.Programs.{isVideo, codingAt, formatAt, aspectAt, languageAt, programAt, streamAt, nextStream, nextProgram}
 use Rattle.format.specs.Rewriting.{programBytes, streamBytes}
+use Rattle.format.proofs.Counts.{gather-few, byte-few}
 use Rattle.format.proofs.Rows.{rows-length}
-use Rattle.format.proofs.Stores.{be-below}
 use Rattle.row_values.specs.declared.Kind.{Kind}
 use Rattle.row_values.specs.declared.Row as value
 use Rattle.row_values.proofs.Lengths.{program-length, row-short}
 use Rattle.section_heads.proofs.Stored.{sectionHead, section-head}
 use Rattle.rewrite_program.specs.Programs.{newStreams, newProgram}
 use Rattle.rewrite_sections.specs.Sections.{newSequences, newPrograms}
-use Rattle.numbers.specs.Reads.{part}
-use Rattle.numbers.proofs.Parts.{part-length}
+use Rattle.format.proofs.Lists.{part-length}
 use Rattle.rewrite_sections.proofs.Groups.{flat-gather, sequences-end, sequences-are, programs-long}
 
--- n items of at most w each
-gather-few : {A : Type 0} (w : ℕ) (rows : ℕ → List A) (next : ℕ → ℕ) → ((q : ℕ) → length (rows q) ≤ w) → (p n : ℕ) → length (gather rows next p n) ≤ w * n
-gather-few w rows next h p zero = omega arith
-gather-few w rows next h p (suc n) =
-    let later = gather rows next (next p) n in
-    rw mul-suc (omega (arith, length-append (rows p) later, h p, gather-few w rows next h (next p) n))
-
 module _ (f : List ℕ) (bytes : IsBytes f) where
-  -- a byte counts to 255
-  byte-few : (p : ℕ) → beAt f p 1 ≤ 255
-  byte-few p = let h = be-below f bytes p 1 in omega arith
-
   module _ (start : ℕ) where
     -- a byte of ATCs, and behind each a byte of STCs
     pub sequences-short : 6 + 6 * length (atcsFrom f start) + 14 * length (stcsFrom f start) < 2 ^ 32
     unfolding atcsFrom stcsFrom
     sequences-short =
         let n = beAt f (start + 5) 1 in
-        let stcs = gather-few 255 (stcsOf f) (nextAtc f) (λ q. rw (rows-length (stcAt f) nextStc (q + 6) (beAt f (q + 4) 1)) (byte-few (q + 4))) (start + 6) n in
-        omega (arith, stcs, rows-length (atcAt f) (nextAtc f) (start + 6) n, byte-few (start + 5))
+        let stcs = gather-few (stcsOf f) (nextAtc f) 255 (λ q. rw (rows-length (stcAt f) nextStc (q + 6) (beAt f (q + 4) 1)) (byte-few f bytes (q + 4))) (start + 6) n in
+        omega (arith, stcs, rows-length (atcAt f) (nextAtc f) (start + 6) n, byte-few f bytes (start + 5))
 
     -- the length of the new sequences
     pub sequences-long : sequencesEnd f start ≤ length f → length (newSequences f start) ≡ 6 + 6 * length (atcsFrom f start) + 14 * length (stcsFrom f start)
@@ -65,11 +52,11 @@ module _ (f : List ℕ) (bytes : IsBytes f) where
   program-few q =
       let n = beAt f (q + 6) 1 in
       let own = newStreams f (q + 8) n in
-      let few = gather-few 14 (λ p. streamBytes (streamAt f p)) (nextStream f) stream-few (q + 8) n in
-      omega (arith, few, ap length (flat-gather streamBytes (streamAt f) (nextStream f) (q + 8) n), length-append (programBytes (programAt f q)) own, program-length (beAt f q 4) (beAt f (q + 4) 2) n, byte-few (q + 6))
+      let few = gather-few (λ p. streamBytes (streamAt f p)) (nextStream f) 14 stream-few (q + 8) n in
+      omega (arith, few, ap length (flat-gather streamBytes (streamAt f) (nextStream f) (q + 8) n), length-append (programBytes (programAt f q)) own, program-length (beAt f q 4) (beAt f (q + 4) 2) n, byte-few f bytes (q + 6))
 
   -- the new programs
   pub programs-short : (start : ℕ) → length (newPrograms f start) < 2 ^ 32
   programs-short start =
       let n = beAt f (start + 5) 1 in
-      omega (arith, programs-long f start refl, gather-few 3578 (newProgram f) (nextProgram f) program-few (start + 6) n, byte-few (start + 5))
+      omega (arith, programs-long f start refl, gather-few (newProgram f) (nextProgram f) 3578 program-few (start + 6) n, byte-few f bytes (start + 5))

@@ -6,10 +6,9 @@ use native.Mathlib.Nat.{le-trans}
 use native.Mathlib.Omega.{arith}
 use lib.ListN.{length, getD, drop, length-drop}
 use lib.Seq.{take-suc, getD-drop}
-use Rattle.format.specs.Bytes.{IsBytes, beAt, bytesOf, fieldBytes, fieldsAt, widthOf, gather, endOf}
+use Rattle.format.specs.Bytes.{IsBytes, beAt, bytesOf, fieldBytes, fieldsAt, widthOf, gather, endOf, part}
 use Rattle.format.proofs.Loops.{end-ge}
-use Rattle.numbers.specs.Reads.{part}
-use Rattle.numbers.proofs.Parts.{part-two}
+use Rattle.format.proofs.Lists.{part-two}
 
 -- the parts from p to q and from q to e are the one from p to e
 part-upto : (f : List ℕ) {p q e : ℕ} → p ≤ q → q ≤ e → part f p (q - p) ++ part f q (e - q) ≡ part f p (e - p)

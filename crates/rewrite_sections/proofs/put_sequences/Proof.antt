@@ -5,9 +5,9 @@ use native.Mathlib.Omega.{arith}
 use denote.Ref.{now}
 use lib.ListN.{length}
 use lib.Seq.{sets}
+use Rattle.format.specs.Bytes.{part}
 use Rattle.format.proofs.Stores.{part-then}
 use Rattle.section_heads.proofs.Stored.{sectionHead, section-head}
-use Rattle.numbers.specs.Reads.{part}
 use Rattle.rewrite_sections.proofs.Groups.{sequences-end, sequences-are}
 use Rattle.rewrite_sections.proofs.Lengths.{sequences-short}
 use borrow.Author.Needs.{needs}
