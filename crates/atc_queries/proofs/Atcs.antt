@@ -1,15 +1,14 @@
 -- STCs through their ATCs: by id while a loop goes over the ATCs, by packet while one goes over the STCs of an ATC, and the tests in front.
 use Prim.Native.Nat.{ℕ, suc, _+_, _*_, _-_, _<_, _≤_}
 use mathlib.Core.Path.{_≡_, refl, sym, ap, _∙_}
-use mathlib.Core.List.{List, [], _∷_, map}
+use mathlib.Core.List.{List, map}
 use mathlib.Core.Bool.{Bool, true, false}
-use native.Mathlib.Numerals.{add-one}
 use native.Mathlib.Omega.{arith}
 use lib.Dec.{leb, ltb, lit<}
 use lib.ListN.{length}
 use borrow.Author.Tests.{leb-true, le-leb, lt-leb}
-use Rattle.format.specs.Bytes.{both, pick, rowsAt}
-use Rattle.format.specs.ClipRecord.{Row, atcStcCount, offsetId, stcPacket}
+use Rattle.format.specs.Bytes.{both, pick}
+use Rattle.format.specs.ClipRecord.{atcStcCount, offsetId, stcPacket}
 use Rattle.format.specs.Questions.{stcSequenceById, stcSequenceForSpn, Answer, refused, none, number, lastWhere, stcById, stcBySpn, firstRow, ownRows, ofAtcs, ofAtc, answer, ask}
 use Rattle.format.specs.Tables.{Table, rowsOf, cellAt, cellsAt, tableRows, clipIn, atcCells, stcCells}
 use Rattle.format.proofs.Cell.{item-at}

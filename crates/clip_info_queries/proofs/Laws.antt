@@ -1,6 +1,6 @@
 -- Packets, bytes and seconds: what each test answers.
 use Prim.Native.Nat.{ℕ, _*_, _/_, _^_, _<_, _≤_}
-use mathlib.Core.Path.{_≡_, refl, sym, subst}
+use mathlib.Core.Path.{_≡_, refl}
 use lib.IntN.{pos}
 use lib.Ieee.{binary64, ofInt, div}
 use borrow.Author.Tests.{eq-eqb, ne-eqb, le-leb, lt-leb, lt-ltb, le-ltb}

@@ -1,6 +1,6 @@
 -- What reading answered, told as text, is the listing.
 use Prim.Native.Nat.{ℕ, _≤_}
-use mathlib.Core.Path.{_≡_, refl, sym, ap, _∙_}
+use mathlib.Core.Path.{_≡_, sym, ap, _∙_}
 use mathlib.Core.List.{List, [], _∷_}
 use mathlib.Core.Bool.{Bool}
 use native.Mathlib.Omega.{arith}
@@ -9,17 +9,16 @@ use lib.Dec.{lit≤}
 use borrow.Author.Tests.{le-leb, lt-leb}
 use Rattle.format.specs.Bytes.{IsBytes}
 use Rattle.format.specs.Reading.{clipOf, recordOf}
-use Rattle.format.specs.Refusals.{refused, tooShort, accepted, tablesOf, statedOf, readAnswer, tableBy}
-use Rattle.format.specs.Tables.{Nine}
+use Rattle.format.specs.Refusals.{tablesOf, statedOf, readAnswer, tableBy}
 use Rattle.format.specs.Listing.{line, refusedWord, linesBy, listing, listingTables}
 use Rattle.format.proofs.Listing.{accepted-is, maps-back, entries-back, entries-add, maps-room, entries-room, few}
-use Rattle.clip_information.specs.Read.{answerOf, nineTables}
+use Rattle.clip_information.specs.Read.{answerOf}
 use Rattle.clip_sections.specs.declared.info.ClipInfo.{ClipInfo}
 use Rattle.nine_tables.specs.declared.Rows.{Rows}
 use Rattle.clip_information.specs.declared.read.Answer.{Answer}
-use Rattle.listing.specs.Text.{Listable, numbers, numbersOf}
+use Rattle.listing.specs.Text.{numbers, numbersOf}
 use Rattle.listing.proofs.Laws.{record-text, room-4096}
-use Rattle.clip_listing.specs.Told.{answerText, listingRoom, numbersBy, Shown, Lists, Tellable}
+use Rattle.clip_listing.specs.Told.{answerText, listingRoom, numbersBy, Shown, Tellable}
 
 -- the text of an answer is that of the case it is
 pub text-of : (maps entries : List ℕ) {a b : Answer} → a ≡ b → answerText b maps entries ≡ answerText a maps entries

@@ -1,6 +1,6 @@
 -- The numbers of the place that an extension's data has are the definition's.
 use Prim.Native.Nat.{ℕ}
-use mathlib.Core.Path.{_≡_, refl, sym, ap, _∙_}
+use mathlib.Core.Path.{_≡_, sym}
 use mathlib.Core.List.{List, [], _∷_}
 use Rattle.format.specs.Refusals.{dataNumbers}
 use Rattle.format.specs.Tables.{Table}

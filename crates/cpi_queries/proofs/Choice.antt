@@ -1,16 +1,16 @@
 -- The choice of the primary map: the first of a type, the least PID, and the packets that are sought in it.
-use Prim.Native.Nat.{ℕ, zero, suc, _+_, _*_, _-_, _%_, _<_, _≤_}
+use Prim.Native.Nat.{ℕ, _+_, _*_, _-_, _%_, _<_, _≤_}
 use mathlib.Core.Path.{_≡_, refl, sym, ap, _∙_}
-use mathlib.Core.List.{List, [], _∷_, map}
+use mathlib.Core.List.{List, [], map}
 use mathlib.Core.Bool.{Bool, true, false}
 use native.Mathlib.Numerals.{add-one}
 use native.Mathlib.Omega.{arith}
-use lib.Dec.{eqb, ltb, leb, lit<}
+use lib.Dec.{eqb, ltb, lit<}
 use lib.ListN.{length}
 use borrow.Author.Tests.{ne-eqb, lt-ltb, le-ltb, ltb-true, ltb-false, leb-true, le-leb}
-use Rattle.format.specs.Bytes.{both, pick, every}
+use Rattle.format.specs.Bytes.{both, pick}
 use Rattle.format.specs.ClipRecord.{Row, mapPid, mapType, entryCount}
-use Rattle.format.specs.Questions.{epMapByKind, nextVideoEpMap, primaryVideoEpMap, Answer, refused, none, number, Best, nothing, best, better, bestOf, firstWhere, rowOr, orElse, isVideoMap, kinds, primaryMap, inMap, ofMap, ofPrimaryMap, ownRows, unless22, partsOf, partStated, answer, ask}
+use Rattle.format.specs.Questions.{epMapByKind, nextVideoEpMap, primaryVideoEpMap, Answer, refused, none, number, Best, nothing, best, better, bestOf, firstWhere, rowOr, orElse, isVideoMap, kinds, primaryMap, ofMap, ofPrimaryMap, unless22, answer, ask}
 use Rattle.format.specs.Questions as of
 use Rattle.format.specs.Tables.{Table, isStated, addUp, isRow, rowsOf, rowRoom, cellsAt, tableRows, clipIn, mapCells, entryCells}
 use Rattle.format.proofs.Lookups.{NoneOrRow, primary-row, primary-none, primary-empty, primary-rows}

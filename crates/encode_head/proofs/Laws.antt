@@ -1,12 +1,12 @@
 -- Zeros, and the head in its two parts.
-use Prim.Native.Nat.{ℕ, zero, suc, _+_, _-_, _*_, _/_, _%_, _^_, _<_, _≤_}
-use mathlib.Core.Path.{_≡_, refl, sym, ap, _∙_}
-use mathlib.Core.List.{List, [], _∷_, _++_, append-nil, append-assoc}
+use Prim.Native.Nat.{ℕ, _+_, _-_, _^_, _<_, _≤_}
+use mathlib.Core.Path.{_≡_, refl, ap, _∙_}
+use mathlib.Core.List.{List, [], _∷_, _++_, append-assoc}
 use native.Mathlib.Nat.{add-assoc, zero-div}
 use native.Mathlib.Omega.{arith}
 use lib.ListN.{length, length-append}
 use lib.Seq.{sets}
-use Rattle.format.specs.Bytes.{bytesOf, widthOf, fieldBytes}
+use Rattle.format.specs.Bytes.{bytesOf, fieldBytes}
 use Rattle.format.specs.ClipRecord.{Scalars}
 use Rattle.format.specs.Rewriting.{headBytes, marksBytes}
 use Rattle.format.proofs.Numbers.{bytes-length, widths-length}

@@ -7,7 +7,7 @@ use native.Mathlib.Omega.{arith}
 use lib.ListN.{length}
 use lib.Dec.{leb}
 use borrow.Author.Tests.{not-true, not-false}
-use Rattle.format.specs.Bytes.{both, pick, unless, every}
+use Rattle.format.specs.Bytes.{both, unless, every}
 use Rattle.format.specs.ClipRecord.{entryCount}
 use Rattle.format.specs.Tables.{ClipTables, clipIn, isStated, addUp, rowsOf, rowRoom, atcCells, stcCells, programCells, streamCells, mapCells, entryCells}
 use Rattle.format.specs.Rewriting.{sequencesBytes, programsBytes, cpiBytes, cpiBytesBy}
@@ -250,7 +250,3 @@ module _ (l : ClipTables) where
   pub cpi-in : cpiBytesBy (cpi.mapRows (l .maps .bytes) (l .maps .rows)) (cpi.entryRows (l .entries .bytes) (l .entries .rows)) ≡ cpiBytes (clipIn l)
   unfolding clipIn cpiBytes
   cpi-in = refl
-
-  pub scalars-in : clipIn l .scalars ≡ l .scalars
-  unfolding clipIn
-  scalars-in = refl

@@ -1,5 +1,5 @@
 -- Whole sections: those of a record, how long they are, and the two parts that are stored.
-use Prim.Native.Nat.{ℕ, _+_, _*_, _-_, _≤_}
+use Prim.Native.Nat.{ℕ, _+_, _-_, _≤_}
 use mathlib.Core.Path.{_≡_, refl, sym, ap, _∙_}
 use mathlib.Core.List.{List, _++_}
 use mathlib.Core.Bool.{true}
@@ -9,7 +9,7 @@ use borrow.Author.Tests.{leb-true, eqb-true}
 use Rattle.format.specs.Bytes.{both, flat, total}
 use Rattle.format.specs.ClipRecord.{Clip}
 use Rattle.format.specs.Rewriting.{sequencesBytes, programsBytes}
-use Rattle.format.specs.Tables.{cellsAt, tableRows, rowRoom, stcCells, streamCells, isStated, addUp}
+use Rattle.format.specs.Tables.{tableRows, rowRoom, stcCells, streamCells, isStated, addUp}
 use Rattle.format.proofs.Tables.{rows-stated}
 use Rattle.format.proofs.Sections.{section-length}
 use Rattle.format.proofs.Tests.{both-true}

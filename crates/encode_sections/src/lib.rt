@@ -1,6 +1,6 @@
 // The sequences and the programs section, written from their tables: how long each is, and its bytes.
 ghost use mathlib.Core.Path.{_≡_};
-ghost use Prim.Native.Nat.{_+_, _*_, _≤_};
+ghost use Prim.Native.Nat.{_+_, _*_};
 ghost use lib.ListN.{length};
 ghost use lib.Seq.{sets};
 ghost use Rattle.row_values.specs.Kinds.{rowOf};

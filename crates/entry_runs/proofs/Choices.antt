@@ -5,7 +5,7 @@ use mathlib.Core.List.{List, [], _∷_}
 use mathlib.Core.Bool.{Bool, true, false}
 use native.Mathlib.Omega.{arith}
 use lib.ListN.{take, drop}
-use Rattle.format.specs.Bytes.{both, pick, every}
+use Rattle.format.specs.Bytes.{both, every}
 use Rattle.format.specs.ClipRecord.{Row}
 use Rattle.format.specs.Refusals.{entryFits}
 use Rattle.format.specs.Rewriting.{runs}

@@ -1,13 +1,11 @@
 -- The walk over coarse rows: where it starts, its step, and where it stops.
-use Prim.Native.Nat.{ℕ, zero, suc, _+_, _*_, _-_, _/_, _%_, _^_, _<_, _≤_}
+use Prim.Native.Nat.{ℕ, zero, suc, _+_, _*_, _-_, _<_, _≤_}
 use mathlib.Core.Path.{_≡_, refl, sym, ap, _∙_}
 use mathlib.Core.List.{List, [], _∷_}
-use mathlib.Core.Bool.{Bool, true, false}
 use native.Mathlib.Omega.{arith}
 use lib.ListN.{length}
-use lib.Dec.{eqb, leb}
 use borrow.Author.Tests.{eq-eqb, ne-eqb, le-leb, lt-leb}
-use Rattle.format.specs.Bytes.{pick, beAt, unpacked, rowsAt}
+use Rattle.format.specs.Bytes.{beAt, unpacked, rowsAt}
 use Rattle.format.specs.ClipRecord.{Row}
 use Rattle.format.specs.EntryPoints.{coarseWidths, coarseAt, nextCoarse, firstFine, coarseTime, coarsePacket, stepOn, coarseFor}
 use Rattle.ep_rows.specs.Rows.{coarseOf}

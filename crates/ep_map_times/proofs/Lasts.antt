@@ -1,12 +1,12 @@
 -- The last time of some entries less the first, one end alone, and the questions that ask for them.
 use Prim.Native.Nat.{ℕ, zero, suc, _+_, _*_, _-_, _<_}
 use mathlib.Core.Path.{_≡_, refl, sym, ap, _∙_}
-use mathlib.Core.List.{List, [], _∷_}
+use mathlib.Core.List.{List}
 use mathlib.Core.Bool.{Bool, true, false}
 use native.Mathlib.Omega.{arith}
 use lib.Dec.{lit<}
 use Rattle.format.specs.Bytes.{rowsAt}
-use Rattle.format.specs.ClipRecord.{Row, time, entryTime}
+use Rattle.format.specs.ClipRecord.{time, entryTime}
 use Rattle.format.specs.Ticks.{Ticks90, less90}
 use Rattle.format.specs.Questions.{none, ticks90, lastOf, spanOf, indexedSpan90k, answer}
 use Rattle.format.specs.Tables.{Table, cellAt, cellsAt, clipIn, entryCells}

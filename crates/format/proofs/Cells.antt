@@ -1,17 +1,17 @@
 -- Numbers stored lowest byte first, as the cells of a table: their bytes, that they read back, and that no other cell changes.
-use Prim.Native.Nat.{ℕ, zero, suc, _+_, _*_, _/_, _%_, _^_, _<_, _≤_}
+use Prim.Native.Nat.{ℕ, zero, suc, _+_, _*_, _/_, _%_, _^_, _<_}
 use mathlib.Core.Path.{_≡_, refl, sym, ap, ap₂, _∙_}
 use mathlib.Core.List.{List, [], _∷_, _++_}
 use native.Mathlib.Nat.{add-zero, zero-add, pow-suc, div-one, div-lt-iff-lt-mul}
 use native.Mathlib.Numerals.{one-add}
 use native.Mathlib.Omega.{arith}
 use lib.ListN.{length, getD}
-use lib.Seq.{sets, getD-at}
+use lib.Seq.{getD-at}
 use lib.Dec.{lit<}
 use Rattle.format.specs.Bytes.{beAt, bytesOf}
 use Rattle.format.specs.Tables.{lowAt, lowBytes}
 use Rattle.format.proofs.Numbers.{Stands, right}
-use Rattle.format.proofs.Stores.{Apart, part-kept, stored, same-read, be-same, mul-bytes, div-bytes, bytes-parts}
+use Rattle.format.proofs.Stores.{same-read, be-same, mul-bytes, div-bytes, bytes-parts}
 
 -- the n bytes are n
 pub low-length : (n v : ℕ) → length (lowBytes n v) ≡ n
@@ -23,10 +23,6 @@ low-length (suc n) v = ap suc (low-length n (v / 256))
 pub low-same : (s t : List ℕ) (p q n : ℕ) → ((k : ℕ) → k < n → getD s (p + k) 0 ≡ getD t (q + k) 0) → lowAt s p n ≡ lowAt t q n
 unfolding lowAt
 low-same s t p q n h = same-read lowAt (λ n below byte. below + byte * 256 ^ n) (λ s p. refl) (λ s p n. refl) s t p q n h
-
--- a cell that no store meets is what it was
-pub low-kept : (l : List ℕ) (i : ℕ) (vs : List ℕ) (p n : ℕ) → Apart p n i (length vs) → lowAt (sets l i vs) p n ≡ lowAt l p n
-low-kept l i vs p n h = low-same (sets l i vs) l p p n (part-kept l i vs p n h)
 
 -- the first byte is the lowest
 pub low-first : (s : List ℕ) (p n : ℕ) → lowAt s p (suc n) ≡ lowAt s (p + 1) n * 256 + getD s p 0
@@ -47,10 +43,6 @@ low-back {s} {p} (suc n) v t h =
     let byte : getD s p 0 ≡ v % 256 =
     rw (t .whole) (getD-at (t .before) (v % 256) (lowBytes n (v / 256) ++ t .behind) 0 p (t .place)) in
     low-first s p n ∙ rw (rest, byte) (omega arith)
-
--- a stored cell reads back
-pub low-stored : (t : List ℕ) (at n v : ℕ) → v < 256 ^ n → at + n ≤ length t → lowAt (sets t at (lowBytes n v)) at n ≡ v
-low-stored t at n v h room = low-back n v (stored t at (lowBytes n v) (omega (arith, low-length n v))) h
 
 -- a number of n bytes, each below 256, is below 256 ^ n
 pub low-below : (s : List ℕ) → ((i : ℕ) → getD s i 0 < 256) → (p n : ℕ) → lowAt s p n < 256 ^ n

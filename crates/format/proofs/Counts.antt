@@ -1,16 +1,16 @@
 -- No table needs more rows than the counts in a file can tell.
 use Prim.Native.Nat.{ℕ, zero, suc, _+_, _*_, _≤_, _<_}
 use mathlib.Core.Path.{_≡_, refl, subst}
-use mathlib.Core.List.{List, [], _∷_, _++_, map}
+use mathlib.Core.List.{List, [], _∷_, map}
 use mathlib.Core.Bool.{Bool, true, false}
 use native.Mathlib.Nat.{suc-mul, mul-le-mul-right}
 use native.Mathlib.Omega.{arith}
 use lib.ListN.{length, take, drop, length-append}
 use lib.Dec.{leb, eqb, lit<, lit≤}
 use Rattle.format.specs.Bytes.{IsBytes, both, pick, beAt, gather}
-use Rattle.format.specs.ClipRecord.{Row, Extension, sequencesStart, programsStart, cpiStart, extensionsStart, atcAt, stcAt, nextStc, stcsOf, nextAtc, atcsFrom, stcsFrom}
-use Rattle.format.specs.Programs.{programAt, streamAt, nextStream, streamsOf, nextProgram, programsFrom, streamsFrom}
-use Rattle.format.specs.EntryPoints.{mapAt, nextMap, fineCountAt, entriesOf, mapCount, mapsFrom, entriesFrom}
+use Rattle.format.specs.ClipRecord.{Row, sequencesStart, programsStart, cpiStart, extensionsStart, stcsOf, nextAtc, atcsFrom, stcsFrom}
+use Rattle.format.specs.Programs.{streamsOf, nextProgram, programsFrom, streamsFrom}
+use Rattle.format.specs.EntryPoints.{nextMap, fineCountAt, entriesOf, mapCount, mapsFrom, entriesFrom}
 use Rattle.format.specs.Extensions.{Found, nothing, found, isKept, extensionAt, keptAt, nextExtension, extensionCount, hasExtensions, extensionRows, dataLength, dataStart, dataOf, extensionOf, extensionsFrom, listData, listIn, listProgramsOf, listStreamsOf}
 use Rattle.format.specs.Reading.{clipOf, recordOf}
 use Rattle.format.specs.Refusals.{ReadAnswer, refused, tooShort, accepted, refusalOf, tablesOf, statedOf, tablesAnswer, readAnswer}

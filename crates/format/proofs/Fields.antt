@@ -2,8 +2,8 @@
 use Prim.Native.Nat.{ℕ, zero, suc, _+_, _*_, _-_, _/_, _%_, _^_, _<_, _≤_, max}
 use mathlib.Core.Path.{_≡_, refl, sym, ap, ap₂, _∙_}
 use mathlib.Core.List.{List, [], _∷_}
-use mathlib.Core.Bool.{Bool, true, false}
-use native.Mathlib.Nat.{add-zero, zero-add, add-assoc, add-mul, suc-mul, zero-mul, mul-assoc, mul-le-mul-right, mod-lt, mod-eq-of-lt, div-one}
+use mathlib.Core.Bool.{true}
+use native.Mathlib.Nat.{add-zero, zero-add, add-assoc, add-mul, suc-mul, zero-mul, mul-assoc, mul-le-mul-right, mod-lt, mod-eq-of-lt}
 use native.Mathlib.Numerals.{one-add}
 use native.Mathlib.Omega.{arith}
 use lib.Bits.{bitAnd, bitOr, and-mask, and-high, and-block, or-step, or-zero-r, or-zero-l, or-block, or-shifted}

@@ -1,7 +1,7 @@
 -- Runs, coarse rows, fine rows: joined by the stepping rule they give the entries back.
 use Prim.Native.Nat.{ℕ, suc, _/_, _%_, _<_, _≤_}
 use mathlib.Core.Path.{_≡_, refl, ap₂, _∙_}
-use mathlib.Core.List.{List, [], _∷_, _++_}
+use mathlib.Core.List.{List, [], _∷_}
 use mathlib.Core.Bool.{Bool, true, false}
 use native.Mathlib.Nat.{le-refl}
 use native.Mathlib.Omega.{arith}

@@ -1,14 +1,13 @@
 -- What is read of a list of bytes is a record that can be written.
 use Prim.Native.Nat.{ℕ, zero, suc, _+_, _*_, _/_, _%_, _^_, _<_, _≤_, max}
-use mathlib.Core.Path.{_≡_, refl, sym, ap, ap₂, _∙_}
-use mathlib.Core.List.{List, [], _∷_, _++_, map}
+use mathlib.Core.Path.{_≡_, refl, ap, _∙_}
+use mathlib.Core.List.{List, [], _∷_, map}
 use mathlib.Core.Bool.{Bool, true, false, not}
-use native.Mathlib.Nat.{add-zero, add-assoc, pow-suc}
 use native.Mathlib.Omega.{arith}
-use lib.ListN.{length, getD, take, drop, length-append}
+use lib.ListN.{length, getD, take, drop}
 use lib.Seq.{take-at, drop-at}
 use lib.Dec.{leb, eqb, lit<}
-use borrow.Author.Tests.{leb-true, leb-false, le-leb, lt-leb, eq-eqb}
+use borrow.Author.Tests.{leb-true, le-leb, lt-leb}
 use Rattle.format.specs.Bytes.{IsBytes, both, pick, beAt, rowsAt, gather}
 use Rattle.format.specs.ClipRecord.{Row, Clip, atcStcCount, streamCount, entryCount, scalarsOf, atcAt, stcAt, nextStc, stcsOf, nextAtc, atcsFrom, stcsFrom}
 use Rattle.format.specs.EntryPoints.{coarseAt, nextCoarse, firstFine, fineAt, nextFine, joinTime, joinPacket, entryOf, stepOn, coarseFor, entriesFor, mapTypeAt, coarseCountAt, fineCountAt, mapAt, nextMap, bodyAt, fineStart, entriesOf, hasMaps, mapCount, mapsFrom, entriesFrom}

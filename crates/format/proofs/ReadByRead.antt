@@ -11,11 +11,11 @@ use borrow.Author.Tests.{leb-true, leb-false, le-leb, lt-leb, ltb-true, ltb-fals
 use Rattle.format.specs.Bytes.{both, pick, every, beAt, widthOf, rowsAt, endOf}
 use Rattle.format.specs.ClipRecord.{sequencesStart, programsStart, cpiStart, marksStart, clipInfoIn, nextStc, nextAtc, sequencesEnd, present, marksIn}
 use Rattle.format.specs.Programs.{nextStream, nextProgram, programsEnd}
-use Rattle.format.specs.EntryPoints.{nextCoarse, nextMap, cpiLength, cpiEnd, cpiType, hasMaps, mapCount, coarseCountAt, fineCountAt, bodyAt, fineStart, addressIn, fineAddressIn, fineRowsIn, mapIn, cpiIn, mapsIn}
+use Rattle.format.specs.EntryPoints.{nextCoarse, nextMap, cpiLength, cpiEnd, cpiType, hasMaps, mapCount, coarseCountAt, fineCountAt, bodyAt, fineStart, fineAddressIn, fineRowsIn, mapIn, cpiIn, mapsIn}
 use Rattle.format.specs.Extensions.{found, listIn, blockLength, extensionCount, hasExtensions}
 use Rattle.format.specs.Refusals.{refusalOf}
 use Rattle.format.specs.ReadByRead.{startIn, readsIn, itemsIn, clipInfoRead, stcRead, atcRead, sequencesRead, streamRead, programRead, programsRead, mapHeaderRead, cpiHeadersRead, cpiTypeRead, cpiRead, mapRead, mapsRead, marksRead, refusalRead, extensionRead, blockRead, extensionsRead}
-use Rattle.format.proofs.Tests.{right-fails}
+use Rattle.format.proofs.Tests.{both-assoc, right-fails}
 use Rattle.format.proofs.Loops.{end-ge}
 use Rattle.format.proofs.Places.{up-stc, up-atc, up-stream, up-program}
 use Rattle.format.proofs.Sweep.{end-steps}
@@ -43,11 +43,7 @@ reads-some f p w ws =
     let e : p + w + widthOf ws ≡ p + (w + widthOf ws) = add-assoc p w (widthOf ws) in
     rw (← e) (then (length f) (p + w) (p + w + widthOf ws) (readsIn f (p + w) ws) (omega arith) (λ k. reads f (p + w) ws k))
 
--- tests in a row, grouped otherwise; rows read by equal tests
-both-inner : (a b c d : Bool) → both a (both b (both c d)) ≡ both a (both (both b c) d)
-both-inner a true c d = refl
-both-inner a false c d = refl
-
+-- rows read by equal tests
 rows-same : (g h : ℕ → Bool) → ((p : ℕ) → g p ≡ h p) → (next : ℕ → ℕ) (p n : ℕ) → rowsAt g next p n ≡ rowsAt h next p n
 rows-same g h e next p zero = refl
 rows-same g h e next p (suc n) = ap₂ (λ (x : Bool) (xs : List Bool). x ∷ xs) (e p) (rows-same g h e next (next p) n)
@@ -198,7 +194,7 @@ module _ (f : List ℕ) where
       rw (
         reads-some f body 4 [],
         fine,
-        both-inner (addressIn f c p) (leb (body + 4) (length f)) (itemsIn (λ q. readsIn f q (8 ∷ [])) nextCoarse (body + 4) (coarseCountAt f p))
+        ← both-assoc (leb (body + 4) (length f)) (itemsIn (λ q. readsIn f q (8 ∷ [])) nextCoarse (body + 4) (coarseCountAt f p))
             (both (fineAddressIn f c p) (fineRowsIn f c p)),
         coarse,
       )

@@ -3,14 +3,14 @@ use mathlib.Core.Path.{_≡_, refl, sym, ap, _∙_, subst}
 use mathlib.Core.Logic.{_⊎_, inl, inr}
 use mathlib.Core.Bool.{Bool, true, false, not, cond, true≢false}
 use Prim.Native.Nat.{ℕ, suc, _+_, _-_, _*_, _/_, _%_, _^_, _≤_, _<_, compare, Ordering, Ordering·lt, Ordering·eq, Ordering·gt}
-use native.Mathlib.Nat.{le-trans, le-of-eq, mul-one, one-mul, zero-mul, suc-mul, mul-comm, mul-assoc, mul-left-comm, mul-right-comm, mul-le-mul-right, mul-le-mul-left, le-of-mul-le-mul-right, mul-pos, mul-sub, eq-zero-or-pos, lt-irrefl, lt-of-le-of-lt, le-of-mul-le-mul-left, add-mul, mul-add, div-add-mod', le-div-iff-mul-le, mod-lt}
+use native.Mathlib.Nat.{le-trans, le-of-eq, mul-one, one-mul, zero-mul, suc-mul, mul-comm, mul-assoc, mul-left-comm, mul-le-mul-right, mul-le-mul-left, mul-pos, mul-sub, eq-zero-or-pos, lt-irrefl, lt-of-le-of-lt, le-of-mul-le-mul-left, add-mul, mul-add, div-add-mod', le-div-iff-mul-le, mod-lt}
 use native.Mathlib.Omega.{arith}
 use native.Mathlib.Numerals.{unary-clauses}
 use lib.Dec.{T, isLe, isEq, eqb, leb→le, nleb→lt, eqb→eq, eqb-refl, ltb→lt, lit≤, lit<}
 use lib.Pow.{pow-add, pow-pos}
 use lib.Arith.{lt-of-le-ne}
 use lib.IntN.{pos}
-use lib.Ieee.{Float, nan, inf, fin, Format, binary64, prec, emax, low, up, down, size, nearest, round, div, ofInt, ofBits, toBits}
+use lib.Ieee.{Float, nan, inf, fin, Format, binary64, prec, low, up, down, size, nearest, round, div, ofInt, ofBits, toBits}
 use lib.Ieee.Digits.{size-reaches}
 use lib.Ieee.Fits.{two, two-le-pos, up-pos, down-pos, div-fits}
 use lib.Ieee.Bits.{ofBits-toBits}
@@ -19,10 +19,10 @@ use lib.Ieee.Positive.{positive-of-value}
 use lib.Ieee.Exact.{HasValue}
 use lib.Ieee.Nearest.{closest}
 use lib.Ieee.Order.{drop, kept}
-use lib.Ieee.Scale.{grid, overflow, round-val, round-same, normal-of-fraction}
+use lib.Ieee.Scale.{grid, round-val, round-same, normal-of-fraction}
 use borrow.Author.Tests.{eqb-true, eqb-false}
 use Rattle.format.specs.Bytes.{pick}
-use Rattle.format.specs.Questions.{Answer, seconds, noRate, apart, Near, IsTransfer, packetBytes, transferSecs}
+use Rattle.format.specs.Questions.{seconds, noRate, apart, Near, IsTransfer, packetBytes, transferSecs}
 
 -- ---- what `compare` says
 abbrev Cmp : Ordering → ℕ → ℕ → Type 0

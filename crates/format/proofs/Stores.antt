@@ -8,7 +8,7 @@ use native.Mathlib.Omega.{arith}
 use lib.ListN.{length, getD, take, drop, set}
 use lib.Seq.{sets, sets-eq, getD-set-other, length-take-le}
 use Rattle.format.specs.Bytes.{beAt, bytesOf}
-use Rattle.format.proofs.Numbers.{Stands, bytes-length, number-back}
+use Rattle.format.proofs.Numbers.{Stands, bytes-length}
 
 -- ---- stores into any list
 
@@ -84,14 +84,6 @@ div-bytes v n = div-div-eq-div-mul v 256 (256 ^ n) ∙ ap (λ (d : ℕ). v / d) 
 pub be-same : (s t : List ℕ) (p q n : ℕ) → ((k : ℕ) → k < n → getD s (p + k) 0 ≡ getD t (q + k) 0) → beAt s p n ≡ beAt t q n
 unfolding beAt
 be-same s t p q n h = same-read beAt (λ n high byte. high * 256 + byte) (λ s p. refl) (λ s p n. refl) s t p q n h
-
--- a number that no store meets is what it was
-pub be-kept : (l : List ℕ) (i : ℕ) (vs : List ℕ) (p n : ℕ) → Apart p n i (length vs) → beAt (sets l i vs) p n ≡ beAt l p n
-be-kept l i vs p n h = be-same (sets l i vs) l p p n (part-kept l i vs p n h)
-
--- a stored number reads back
-pub be-stored : (l : List ℕ) (i n v : ℕ) → v < 256 ^ n → i + n ≤ length l → beAt (sets l i (bytesOf n v)) i n ≡ v
-be-stored l i n v h room = number-back n v (stored l i (bytesOf n v) (omega (arith, bytes-length n v))) h
 
 -- a number of n bytes, each below 256, is below 256 ^ n
 pub be-below : (s : List ℕ) → ((i : ℕ) → getD s i 0 < 256) → (p n : ℕ) → beAt s p n < 256 ^ n

@@ -1,9 +1,8 @@
 -- The new file is accepted, and reads to the record that was written.
-use Prim.Native.Nat.{ℕ, zero, suc, _+_, _*_, _^_, _<_, _≤_}
+use Prim.Native.Nat.{ℕ, zero, _+_, _^_, _<_, _≤_}
 use mathlib.Core.Path.{_≡_, refl, sym, ap, _∙_}
 use mathlib.Core.List.{List, [], _∷_, _++_, append-nil, map}
-use mathlib.Core.Bool.{Bool, true, false}
-use native.Mathlib.Nat.{add-assoc}
+use mathlib.Core.Bool.{true, false}
 use native.Mathlib.Omega.{arith}
 use lib.ListN.{length, getD, length-append}
 use lib.Dec.{leb, eqb, lit<}
@@ -42,9 +41,6 @@ itself g = record { before = []; behind = []; place = refl; whole = sym (append-
 
 record Facts (c : Clip) (g : List ℕ) (pr cp mk : ℕ) : Type 0 where
   long : length g ≡ mk + 6
-  pr-is : pr ≡ 220 + length (sequencesBytes c)
-  cp-is : cp ≡ pr + length (programsBytes c)
-  mk-is : mk ≡ cp + length (cpiBytes c)
   head : fieldsAt g 0 headWidths ≡ headValues (c .scalars) pr cp mk
   sequences-at : Stands g 220 (sequencesBytes c)
   programs-at : Stands g pr (programsBytes c)
@@ -83,9 +79,6 @@ module _ (c : Clip) (good : GoodClip 65535 c) where
       let ml : length marksBytes ≡ 6 = simp (length-append, bytes-length) in
       record {
         long = length-append h r1 ∙ rw (hl, length-append sq r2, length-append pg r3, length-append ci marksBytes, ml) (omega arith);
-        pr-is = refl;
-        cp-is = refl;
-        mk-is = refl;
         head = fields-back 0 f (left h r1 all);
         sequences-at = left sq r2 t1;
         programs-at = left pg r3 t2;

@@ -1,13 +1,13 @@
 -- A good record is not refused by the writer, and is written as bytes.
-use Prim.Native.Nat.{ℕ, zero, suc, _+_, _*_, _/_, _%_, _^_, _<_, _≤_}
-use mathlib.Core.Path.{_≡_, refl, sym, ap, _∙_}
-use mathlib.Core.List.{List, [], _∷_, _++_}
+use Prim.Native.Nat.{ℕ, zero, suc, _+_, _*_, _/_, _%_, _<_, _≤_}
+use mathlib.Core.Path.{_≡_, refl}
+use mathlib.Core.List.{List, [], _∷_}
 use mathlib.Core.Bool.{Bool, true, false}
 use native.Mathlib.Omega.{arith}
-use lib.ListN.{length, getD, take, drop, length-append, take-append-drop}
-use lib.Seq.{take-at, drop-at, length-take-le}
+use lib.ListN.{length, getD, take, drop, length-append}
+use lib.Seq.{take-at, drop-at}
 use lib.Dec.{leb, eqb, lit<}
-use borrow.Author.Tests.{eqb-true, eq-eqb, leb-true, le-leb}
+use borrow.Author.Tests.{eq-eqb, le-leb}
 use Rattle.format.specs.Bytes.{IsBytes, every, bytesOf, fieldBytes, packed, flat, total}
 use Rattle.format.specs.ClipRecord.{Row, Scalars, Clip, atcStcCount, streamCount, codingType, aspect, language, mapType, entryCount, time, entryType}
 use Rattle.format.specs.EntryPoints.{coarseWidths, fineWidths, headerWidths}

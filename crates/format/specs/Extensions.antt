@@ -1,7 +1,7 @@
 -- "Extensions": a block of entries, and the second list of programs that entry (2, 5) may hold. Nothing here refuses a file.
 use Prim.Native.Nat.{ℕ, _+_, _*_, min}
 use mathlib.Core.List.{List, [], _∷_, map}
-use mathlib.Core.Bool.{Bool, true, false, not}
+use mathlib.Core.Bool.{Bool, false, not}
 use lib.ListN.{length, getD}
 use lib.Dec.{leb, eqb}
 use Rattle.format.specs.Bytes.{part, both, pick, beAt, gather}

@@ -1,7 +1,6 @@
 -- "Checked by hand", the listing program: its text, as bytes, for every input.
 use Prim.Native.Nat.{ℕ, zero, suc, _+_, _*_, _/_, _%_}
 use mathlib.Core.List.{List, [], _∷_, _++_}
-use mathlib.Core.Bool.{Bool}
 use lib.ListN.{length, take, drop, replicate}
 use lib.Dec.{leb, ltb}
 use Rattle.format.specs.Bytes.{pick, flat}

@@ -1,5 +1,5 @@
 -- The refusals of reading told read by read: "a start, length or read passes its stated end". Each read is tested before its value is used.
-use Prim.Native.Nat.{ℕ, _+_, _*_}
+use Prim.Native.Nat.{ℕ, _+_}
 use mathlib.Core.List.{List, [], _∷_}
 use mathlib.Core.Bool.{Bool, true, false}
 use lib.ListN.{length}

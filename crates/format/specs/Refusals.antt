@@ -5,7 +5,7 @@ use mathlib.Core.Bool.{Bool, true, false}
 use lib.ListN.{length, getD, take, drop, replicate}
 use lib.Dec.{leb, ltb, eqb}
 use Rattle.format.specs.Bytes.{both, pick, every, unless, fits}
-use Rattle.format.specs.ClipRecord.{Row, Scalars, Clip, Record, atcStcCount, streamCount, codingType, aspect, language, mapType, entryCount, time, entryType, lettersRight, clipInfoIn, sequencesStart, programsStart, cpiStart, marksStart, extensionsStart, sequencesEnd, marksIn}
+use Rattle.format.specs.ClipRecord.{Row, Scalars, Clip, atcStcCount, streamCount, codingType, aspect, language, mapType, entryCount, time, entryType, lettersRight, clipInfoIn, sequencesStart, programsStart, cpiStart, marksStart, extensionsStart, sequencesEnd, marksIn}
 use Rattle.format.specs.Programs.{isVideo, programsEnd}
 use Rattle.format.specs.EntryPoints.{cpiIn, mapsIn}
 use Rattle.format.specs.Extensions.{extensionRows, dataStart, dataLength, dataOf, dataIn}

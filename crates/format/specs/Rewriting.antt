@@ -2,7 +2,7 @@
 use Prim.Native.Nat.{ℕ, suc, _+_, _*_, _/_, _%_}
 use mathlib.Core.List.{List, [], _∷_, _++_}
 use mathlib.Core.Bool.{Bool, true, false}
-use lib.ListN.{length, getD, take, drop}
+use lib.ListN.{length, take, drop}
 use lib.Dec.{eqb}
 use Rattle.format.specs.Bytes.{both, bytesOf, fieldBytes, packed, flat}
 use Rattle.format.specs.ClipRecord.{clpi, Row, Scalars, Clip, atcStcCount, streamCount, streamPid, codingType, formatByte, aspect, language, mapPid, mapType, entryCount, angle, iEnd, time, packet}

@@ -6,11 +6,10 @@ use mathlib.Core.Bool.{Bool, true, false, not}
 use native.Mathlib.Nat.{le-div-iff-mul-le}
 use native.Mathlib.Omega.{arith}
 use lib.ListN.{length}
-use lib.Dec.{leb}
 use borrow.Author.Tests.{le-leb, lt-leb, not-true, not-false}
 use Rattle.format.specs.Bytes.{both, every}
 use Rattle.format.specs.ClipRecord.{atcStcCount, streamCount, entryCount}
-use Rattle.format.specs.Refusals.{scalarsFit, atcFits, stcFits, programFits, streamFits, mapFits, cellsFit, allStated, countsAdd}
+use Rattle.format.specs.Refusals.{scalarsFit, cellsFit, allStated, countsAdd}
 use Rattle.format.specs.Tables.{ClipTables, isStated, addUp, rowsOf, clipIn, tableRows, rowRoom, atcCells, stcCells, programCells, streamCells, mapCells, entryCells}
 use Rattle.table_rows.specs.OwnRows.{isCounted}
 use Rattle.row_limits.specs.Kinds.{cellsOf, fitsBy}

@@ -1,7 +1,7 @@
 -- What the searches of the tables of programs and streams answer.
 use Prim.Native.Nat.{ℕ, _+_, _*_, _<_, _≤_}
 use mathlib.Core.Path.{_≡_, refl}
-use mathlib.Core.List.{List, map}
+use mathlib.Core.List.{map}
 use mathlib.Core.Bool.{Bool, true, false}
 use lib.ListN.{length-map}
 use borrow.Author.Tests.{leb-true}

@@ -9,7 +9,7 @@ use lib.ListN.{length, getD, take, drop, length-drop}
 use lib.Seq.{take-add, take-suc, take-length, take-all, drop-drop, length-take-le}
 use lib.Dec.{lit<}
 use borrow.Author.Tests.{le-leb, lt-ltb, leb-true}
-use Rattle.format.specs.Bytes.{IsBytes, both, part}
+use Rattle.format.specs.Bytes.{IsBytes, part}
 use Rattle.format.specs.ClipRecord.{Row}
 use Rattle.format.specs.Tables.{cellBytes, rowRoom, rowsOf, tableRows, extensionCells}
 use Rattle.format.specs.Extensions.{firstId, secondId, dataStart, dataLength, dataOf, extensionOf}

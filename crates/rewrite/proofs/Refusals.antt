@@ -1,6 +1,6 @@
 -- The refusal of a file, from what was measured of it, and what its absence says.
-use Prim.Native.Nat.{ℕ, _+_, _*_, _^_, _<_, _≤_}
-use mathlib.Core.Path.{_≡_, refl, sym, ap, _∙_}
+use Prim.Native.Nat.{ℕ, _+_, _^_, _<_, _≤_}
+use mathlib.Core.Path.{_≡_, refl, sym, _∙_}
 use mathlib.Core.List.{List}
 use mathlib.Core.Bool.{Bool, true, false}
 use native.Mathlib.Omega.{arith}
@@ -20,7 +20,7 @@ use Rattle.clip_sections.specs.declared.sections.Sections.{Sections}
 use Rattle.encode_cpi.specs.declared.Length.{Length}
 use Rattle.encode_cpi.specs.Cpi.{cpiLengthOf}
 use Rattle.encode_cpi.proofs.Lengths.{length-said, length-refused}
-use Rattle.encode_measure.specs.Places.{programsPlace, cpiPlace, marksPlace, Placed}
+use Rattle.encode_measure.specs.Places.{programsPlace, cpiPlace, marksPlace}
 use Rattle.encode.specs.Writing.{bytesIn}
 use Rattle.encode_measure.proofs.Parts.{good-short, encode-length}
 use Rattle.encode.proofs.Answers.{bytes-narrow}

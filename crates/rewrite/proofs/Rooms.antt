@@ -1,5 +1,5 @@
 -- What storing each section asks, from a file that can be rewritten and the places of its new sections.
-use Prim.Native.Nat.{ℕ, _+_, _-_, _*_, _≤_}
+use Prim.Native.Nat.{ℕ, _+_, _-_, _*_}
 use mathlib.Core.Path.{_≡_, refl, sym, ap, _∙_}
 use mathlib.Core.List.{List}
 use native.Mathlib.Omega.{arith}
@@ -16,9 +16,8 @@ use Rattle.rewrite_sections.specs.Sections.{newSequences, newPrograms, Sequence
 use Rattle.rewrite_sections.proofs.Groups.{sequences-of, programs-of}
 use Rattle.rewrite_sections.proofs.Lengths.{sequences-long}
 use Rattle.rewrite_cpi.specs.Cpi.{Section, CpiRoom}
-use Rattle.encode_measure.specs.Places.{programsPlace, cpiPlace, marksPlace}
 use Rattle.encode_measure.proofs.Parts.{place-programs, place-cpi, place-marks, InOrder, placed-order}
-use Rattle.rewrite.specs.Rewrite.{rewriteRefusal, Ready}
+use Rattle.rewrite.specs.Rewrite.{Ready}
 use Rattle.rewrite.proofs.Refusals.{passed, marks-short}
 
 module _ (f : List ℕ) where

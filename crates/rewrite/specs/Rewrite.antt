@@ -1,5 +1,5 @@
 -- Rewriting in one go: reading's refusals, then 31, then 23, and the very bytes that writing gives for the record that reading gives.
-use Prim.Native.Nat.{ℕ, _+_, _≤_}
+use Prim.Native.Nat.{ℕ}
 use mathlib.Core.Path.{_≡_}
 use mathlib.Core.List.{List, [], _∷_}
 use lib.ListN.{length}

@@ -4,7 +4,7 @@ use mathlib.Core.Path.{_≡_, refl, ap, _∙_}
 use mathlib.Core.List.{List}
 use native.Mathlib.Omega.{arith}
 use lib.ListN.{length, length-append}
-use Rattle.format.specs.Bytes.{IsBytes, beAt, gather, part}
+use Rattle.format.specs.Bytes.{IsBytes, beAt, part}
 use Rattle.format.specs.ClipRecord.{atcAt, stcAt, nextStc, stcsOf, nextAtc, atcsFrom, stcsFrom, sequencesEnd}
 use Rattle.format.specs.Programs.{isVideo, codingAt, formatAt, aspectAt, languageAt, programAt, streamAt, nextStream, nextProgram}
 use Rattle.format.specs.Rewriting.{programBytes, streamBytes}

@@ -4,7 +4,7 @@ use mathlib.Core.Path.{_≡_, ap, subst, sym, _∙_}
 use mathlib.Core.List.{List}
 use Rattle.format.specs.ClipRecord.{Row, Scalars, Clip}
 use Rattle.format.specs.Tables.{Table, ClipTables, HoldsRows, HoldsClip}
-use Rattle.query_theorems.specs.Calls.{Call, WithTable, FromTable, FromTables, FromNumber, FromNumbers}
+use Rattle.query_theorems.specs.Calls.{WithTable, FromTable, FromTables, FromNumber, FromNumbers}
 use Rattle.query_theorems.specs.Alike.{CallsAlike}
 use Rattle.rewriting_theorems.specs.Asked.{OnTable, OnTables, AskedAlike}
 

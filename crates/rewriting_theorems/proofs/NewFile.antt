@@ -9,7 +9,7 @@ use Rattle.format.specs.Extensions.{extensionRows, extensionOf, extensionsFrom}
 use Rattle.format.specs.Reading.{recordOf}
 use Rattle.format.specs.Tables.{Nine, Room}
 use Rattle.format.specs.Refusals.{Stated, tablesOf, statedOf}
-use Rattle.theorems.specs.Rewriting.{Rewritable, rewritten, withoutExtensions, RewritingKeeps}
+use Rattle.theorems.specs.Rewriting.{Rewritable, rewritten, withoutExtensions}
 use Rattle.theorems.proofs.Rewriting.{rewriting-keeps}
 use Rattle.rewriting_theorems.specs.Rewriting.{kept}
 

@@ -8,13 +8,12 @@ use lib.Dec.{eqb}
 use denote.Ref.{now}
 use borrow.Author.Tests.{le-leb}
 use Rattle.format.specs.Bytes.{IsBytes, pick}
-use Rattle.format.specs.ClipRecord.{Clip}
 use Rattle.format.specs.Reading.{clipOf, recordOf}
 use Rattle.format.specs.Rewriting.{encode}
-use Rattle.format.specs.Tables.{Nine, ClipTables, HoldsClip, Room, clipIn}
+use Rattle.format.specs.Tables.{Nine, ClipTables, Room, clipIn}
 use Rattle.format.specs.Refusals.{refusalOf, statedOf, tablesOf, tablesAfter, WriteAnswer, written, writtenIn, writeAnswer, outputBy, outputAfter}
 use Rattle.format.proofs.ClipTables.{Shaped, shaped, clip-held, all-stated}
-use Rattle.theorems.specs.Rewriting.{Rewritable, rewritten, handOver, handedOver, RewritingKeeps}
+use Rattle.theorems.specs.Rewriting.{Rewritable, rewritten, handOver, handedOver}
 use Rattle.theorems.proofs.Rewriting.{good-of, from-file, reading-holds, rewriting-keeps}
 use Rattle.encode.specs.Writing.{bytesIn, answerOf as writeAnswerOf}
 use Rattle.encode.proofs.write.write.Reads as write

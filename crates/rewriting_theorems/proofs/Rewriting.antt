@@ -10,7 +10,7 @@ use Rattle.format.specs.Tables.{Nine, ClipTables, HoldsClip, Room}
 use Rattle.format.specs.Refusals.{ReadAnswer, refused, tooShort, accepted, Stated, statedOf, tablesOf, readAnswer, tablesAfter, writeAnswer, outputAfter}
 use Rattle.format.proofs.Counts.{tables-few}
 use Rattle.encode.specs.Writing.{bytesIn}
-use Rattle.theorems.specs.Rewriting.{Rewritable, rewritten, handOver, handedOver, Succeeds, RewritingKeeps}
+use Rattle.theorems.specs.Rewriting.{Rewritable, rewritten, handOver, handedOver, Succeeds}
 use Rattle.theorems.proofs.Rewriting.{rewriting-keeps}
 use Rattle.query_theorems.proofs.Alike.{calls-alike}
 use Rattle.rewriting_theorems.specs.Rewriting.{tablesGiven, tablesLeft, givenTo, outputGiven, newFile, ReadCall, WriteCall, kept, Reads, Writes, ReadsAgain, WritesAgain, CallsKeep}

@@ -7,7 +7,7 @@ use native.Mathlib.Nat.{mul-assoc}
 use native.Mathlib.Omega.{arith}
 use borrow.Author.Tests.{not-true, not-false}
 use lib.ListN.{drop}
-use Rattle.format.specs.Bytes.{both, pick, every}
+use Rattle.format.specs.Bytes.{both, pick}
 use Rattle.format.specs.ClipRecord.{Row}
 use Rattle.format.specs.Questions.{Question, Part, partsOf, partStated, Answer, refused, none, number, firstWhere, nextWhere, unless22, ofRow, answer, ask}
 use Rattle.format.specs.Tables.{Table, ClipTables, isStated, rowsOf, cellsAt, tableRows, clipIn}

@@ -2,15 +2,15 @@
 use Prim.Native.Nat.{ℕ, suc, _+_, _*_, _-_, _<_, _≤_, max, min}
 use mathlib.Core.Path.{_≡_, refl, sym, ap, _∙_}
 use mathlib.Core.List.{List, [], _∷_}
-use mathlib.Core.Bool.{Bool, true, false, not}
+use mathlib.Core.Bool.{Bool, false, not}
 use native.Mathlib.Omega.{arith}
-use lib.ListN.{length, getD}
-use lib.Dec.{ltb, lit<}
+use lib.ListN.{getD}
+use lib.Dec.{lit<}
 use borrow.Author.Tests.{lt-ltb, le-ltb}
-use Rattle.format.specs.ClipRecord.{Row, stcStart, stcEnd}
+use Rattle.format.specs.ClipRecord.{Row, stcStart}
 use Rattle.format.specs.Ticks.{Ticks45, Ticks90, doubled, less45, less90, minutes}
 use Rattle.format.specs.Questions.{Question, firstStcSequence, minutesRemaining, presentationSpan90k, Answer, refused, none, number, ticks90, stcs, partsOf, latestEnd, leastStart, presentationSpan, minutesLeft, durationOf, ofStc, answer, ask}
-use Rattle.format.specs.Tables.{cellsAt, tableRows, rowRoom, stcCells, isStated, clipIn}
+use Rattle.format.specs.Tables.{cellsAt, tableRows, stcCells, isStated, clipIn}
 use Rattle.format.proofs.Cell.{cell-of}
 use Rattle.format.proofs.Rows.{rows-length}
 use Rattle.cells.specs.Reads.{CellIs}

@@ -1,24 +1,24 @@
 -- Counts added up while a loop goes over the header rows, and the rows of one of them.
-use Prim.Native.Nat.{ℕ, zero, suc, _+_, _*_, _-_, _/_, _<_, _≤_}
+use Prim.Native.Nat.{ℕ, zero, suc, _+_, _*_, _-_, _<_, _≤_}
 use mathlib.Core.Path.{_≡_, refl, sym, ap, _∙_}
 use mathlib.Core.List.{List, [], _∷_}
 use mathlib.Core.Bool.{Bool, true, false, not}
 use native.Mathlib.Nat.{mul-comm}
 use native.Mathlib.Omega.{arith}
 use lib.ListN.{length, getD, take, drop}
-use lib.Dec.{eqb, ltb}
+use lib.Dec.{eqb}
 use borrow.Author.Tests.{leb-true, ltb-true, eqb-true, lt-ltb, le-ltb, not-true, not-false}
 use Rattle.format.specs.Bytes.{both, pick, total, rowsAt}
 use Rattle.format.specs.ClipRecord.{Row}
 use Rattle.format.specs.Questions.{Answer, refused, unless22, firstRow, ownRows}
-use Rattle.format.specs.Tables.{Table, isStated, addUp, isRow, rowsOf, cellAt, cellsAt, tableRows, rowRoom}
+use Rattle.format.specs.Tables.{Table, isStated, addUp, isRow, rowsOf, cellsAt, tableRows, rowRoom}
 use Rattle.format.proofs.Cell.{cell-of}
 use Rattle.format.proofs.Rows.{take-rows, drop-rows}
 use Rattle.format.proofs.Tables.{rows-stated}
 use Rattle.format.proofs.Tests.{both-true}
 use Rattle.cells.specs.Reads.{CellIs}
 use Rattle.queries.specs.Asked.{stated}
-use Rattle.table_rows.specs.OwnRows.{headCells, cellIn, isCounted, mayAsk, Owned, refusal, owns, ownedRows, rowsFrom}
+use Rattle.table_rows.specs.OwnRows.{headCells, cellIn, isCounted, mayAsk, refusal, owns, ownedRows, rowsFrom}
 use Rattle.table_rows.proofs.Scans.{rowsLeft, left-all, left-turn, left-done, cell-in}
 
 module _ (t : List ℕ) (n cell : ℕ) where

@@ -1,22 +1,22 @@
 -- M1 to M11: by computation, M3 and M9 by the facts given, and M11 by a law for every number of runs.
-use Prim.Native.Nat.{ℕ, zero, suc, _+_, _*_, _/_, _%_, _<_, _≤_}
-use mathlib.Core.Path.{_≡_, refl, sym, ap, _∙_}
+use Prim.Native.Nat.{ℕ, zero, suc, _+_, _*_, _/_, _%_, _<_}
+use mathlib.Core.Path.{_≡_, refl, ap}
 use mathlib.Core.List.{List, [], _∷_, map}
 use mathlib.Core.Bool.{Bool, true, false}
 use native.Mathlib.Nat.{add-zero}
 use native.Mathlib.Omega.{arith}
 use lib.ListN.{length, take}
 use lib.Seq.{take-all}
-use lib.Dec.{eqb, leb, ltb, lit<}
+use lib.Dec.{leb, ltb, lit<}
 use borrow.Author.Tests.{ne-eqb, eq-eqb, lt-ltb, lt-leb}
 use Rattle.format.specs.Bytes.{beAt, bytesOf, both, every, unless, total}
-use Rattle.format.specs.ClipRecord.{Row, entryCount, time, lettersRight, clipInfoIn}
+use Rattle.format.specs.ClipRecord.{Row, entryCount, time, lettersRight}
 use Rattle.format.specs.EntryPoints.{joinTime, joinPacket}
 use Rattle.format.specs.Questions.{entryPointAtOrBefore, spnToByte, byteToSpn, Answer, number, nothing, bestOf, atOrBefore, byteOf, spnOf, ofMap, answer}
 use Rattle.format.specs.Rewriting.{timeKey, coarseAfter, runs, sequencesBytes, programsBytes, bodyBytes, cpiBytes, headBytes, encode}
 use Rattle.format.specs.Refusals.{refusalOf, entryFits, countsAdd, cellsFit, runsFit, writeRefusal}
 use Rattle.format.proofs.Lists.{All, none, more}
-use Rattle.theorems.specs.CheckedByHand.{Outcome, refusal, answered, evaluate, AnyBytes, Packets, RightLetters, hdmv, clpi, rightFile, OtherLetters, otherFile, BeforeAll, emptyClip, alternating, oneMap, table, Holds, end, row}
+use Rattle.theorems.specs.CheckedByHand.{refusal, answered, evaluate, AnyBytes, Packets, RightLetters, hdmv, clpi, rightFile, OtherLetters, otherFile, BeforeAll, emptyClip, alternating, oneMap, table, Holds, end, row}
 
 -- ---- M1
 

@@ -1,7 +1,7 @@
 -- Extensions: the rows are the entries that the rule keeps, and the list is that of the first (2, 5) entry.
-use Prim.Native.Nat.{ℕ, zero, suc, _+_, _*_, _<_, _≤_, min}
-use mathlib.Core.Path.{_≡_, refl, sym, ap, _∙_}
-use mathlib.Core.List.{List, [], _∷_, _++_, List·Memᴰ, List·Memᴰ·head, List·Memᴰ·tail, Memᴰ·append-left, Memᴰ·append-right, Memᴰ·cast}
+use Prim.Native.Nat.{ℕ, zero, suc, _+_, _<_, _≤_, min}
+use mathlib.Core.Path.{_≡_, refl, ap}
+use mathlib.Core.List.{List, [], _∷_, _++_, List·Memᴰ, List·Memᴰ·head, Memᴰ·append-left, Memᴰ·append-right}
 use mathlib.Core.Bool.{Bool, true, false, not}
 use native.Mathlib.Omega.{arith}
 use lib.ListN.{length, getD, drop, length-drop}
@@ -9,9 +9,9 @@ use lib.Seq.{length-take-le}
 use lib.Dec.{eqb, leb}
 use borrow.Author.Tests.{eqb-true, eqb-false, ne-eqb, eq-eqb, leb-true, le-leb, not-true}
 use Rattle.format.specs.Bytes.{beAt, both, pick, gather}
-use Rattle.format.specs.ClipRecord.{Row, Extension}
+use Rattle.format.specs.ClipRecord.{Extension}
 use Rattle.format.specs.Programs.{programsFrom, streamsFrom, programsEnd}
-use Rattle.format.specs.Extensions.{blockEnd, extensionCount, addressAt, dataLengthAt, nextExtension, extensionAt, isKept, keptAt, hasExtensions, extensionRows, dataOf, Found, nothing, found, listData, listIn}
+use Rattle.format.specs.Extensions.{blockEnd, extensionCount, addressAt, dataLengthAt, nextExtension, extensionAt, isKept, keptAt, hasExtensions, extensionRows, nothing, found, listData, listIn}
 use Rattle.format.specs.Reading.{recordOf}
 use Rattle.format.proofs.Tests.{both-true, true-both}
 use Rattle.format.proofs.Lists.{All, none, more, all-append}

@@ -4,7 +4,7 @@ use mathlib.Core.Path.{_≡_}
 use mathlib.Core.List.{List}
 use lib.Bits.{bitAnd, bitOr}
 use Rattle.format.specs.Bytes.{widthOf, unpacked, packed}
-use Rattle.format.specs.EntryPoints.{joinTime, joinPacket}
+use Rattle.format.specs.EntryPoints.{joinTime}
 use Rattle.format.proofs.Fields.{Fit}
 
 pub record BitFields : Type 0 where

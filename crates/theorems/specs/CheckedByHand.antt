@@ -1,7 +1,7 @@
 -- "Checked by hand": M1 to M11 as one table of data, one evaluator, and one sentence over the table.
 use Prim.Native.Nat.{ℕ, zero, suc, _*_, _%_, _<_}
 use mathlib.Core.Path.{_≡_}
-use mathlib.Core.List.{List, [], _∷_, _++_}
+use mathlib.Core.List.{List, [], _∷_}
 use lib.ListN.{length}
 use Rattle.format.specs.Bytes.{fieldsAt, total}
 use Rattle.format.specs.Ticks.{Ticks90}

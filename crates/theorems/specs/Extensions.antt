@@ -6,7 +6,7 @@ use mathlib.Core.Bool.{true, false}
 use lib.ListN.{length, getD, replicate}
 use Rattle.format.specs.ClipRecord.{Row, Extension}
 use Rattle.format.specs.Programs.{programsFrom, streamsFrom}
-use Rattle.format.specs.Extensions.{blockEnd, extensionCount, addressAt, dataLengthAt, extensionAt, hasExtensions, extensionRows, dataOf, Found, nothing, found, listData, listIn}
+use Rattle.format.specs.Extensions.{blockEnd, extensionCount, addressAt, dataLengthAt, extensionAt, hasExtensions, extensionRows, dataOf, nothing, found, listData, listIn}
 use Rattle.format.specs.Reading.{recordOf}
 use Rattle.format.proofs.Lists.{All}
 

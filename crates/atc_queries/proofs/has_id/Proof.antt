@@ -1,6 +1,5 @@
 -- Below the offset, or so far above it.
 use Rattle.atc_queries.proofs.Atcs.{below-offset, from-offset}
-use borrow.Author.Needs.{needs}
 use Rattle.atc_queries.proofs.has_id.Statement.{statement}
 use Rattle.atc_queries.proofs.has_id.Tie as tie
 

@@ -1,10 +1,9 @@
 -- The cells are stored one behind the other.
 use Prim.Native.Nat.{_+_}
-use mathlib.Core.Path.{_∙_}
-use mathlib.Core.List.{[], _∷_, append-nil}
+use mathlib.Core.List.{[], _∷_}
 use native.Mathlib.Nat.{add-assoc}
 use denote.Ref.{now}
-use Rattle.format.specs.Tables.{cellBytes, rowBytes}
+use Rattle.format.specs.Tables.{rowBytes}
 use Rattle.cells.proofs.Laws.{cell-then, cell-last}
 use borrow.Author.Needs.{needs}
 use Rattle.cells.proofs.put_row3.Statement.{statement}

@@ -1,5 +1,4 @@
 -- Each answer has its line or lines.
-use mathlib.Core.Path.{_≡_, sym, ap}
 use native.Mathlib.Omega.{arith}
 use denote.Ref.{now}
 use Rattle.nine_tables.specs.declared.Rows.{Rows}

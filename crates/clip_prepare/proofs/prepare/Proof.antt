@@ -1,15 +1,11 @@
 -- Each return, by what was measured before it.
 use Prim.Native.Nat.{ℕ, _≤_}
-use mathlib.Core.Path.{_≡_, sym, _∙_}
+use mathlib.Core.Path.{sym, _∙_}
 use mathlib.Core.List.{List}
-use mathlib.Core.Bool.{Bool}
 use native.Mathlib.Omega.{arith}
 use denote.Ref.{now}
 use lib.ListN.{length}
-use Rattle.format.specs.Refusals.{tooShort, accepted, statedOf}
-use Rattle.clip_prepare.specs.Prepare.{isList, answerFor, ReadyIs}
 use Rattle.nine_tables.specs.declared.Rows.{Rows}
-use Rattle.nine_tables.specs.declared.Room.{Room}
 use Rattle.clip_sections.proofs.Laws.{SectionsAre, sections-are, accepted-bounds}
 use Rattle.clip_prepare.proofs.PrepareLaws.{Passed, sections-refused, room-short, room-enough, made-ready}
 use borrow.Author.Needs.{needs}

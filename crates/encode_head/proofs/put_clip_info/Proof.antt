@@ -1,9 +1,6 @@
 -- The fields one behind the other.
 use mathlib.Core.Path.{refl}
-use mathlib.Core.List.{[], _∷_}
 use denote.Ref.{now}
-use Rattle.clip_information.specs.Read.{scalarsBy}
-use Rattle.encode_head.specs.Heads.{formatWidths, formatNumbers}
 use Rattle.format.proofs.Stores.{field-then}
 use borrow.Author.Needs.{needs}
 use Rattle.encode_head.proofs.put_clip_info.Statement.{statement}

@@ -1,6 +1,5 @@
 -- The fields one behind the other.
 use mathlib.Core.Path.{refl}
-use mathlib.Core.List.{[], _∷_}
 use denote.Ref.{now}
 use Rattle.format.proofs.Stores.{field-then, field-last}
 use borrow.Author.Needs.{needs}

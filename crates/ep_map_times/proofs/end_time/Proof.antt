@@ -1,6 +1,4 @@
 -- No entry, the last or the first.
-use mathlib.Core.Path.{_∙_}
-use native.Mathlib.Omega.{arith}
 use denote.Ref.{now}
 use Rattle.ep_map_times.proofs.Lasts.{no-end, last-end, first-end}
 use borrow.Author.Needs.{needs}

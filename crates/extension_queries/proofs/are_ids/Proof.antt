@@ -1,6 +1,5 @@
 -- The first id differs, or the second decides.
 use Rattle.extension_queries.proofs.Search.{first-differs, first-same}
-use borrow.Author.Needs.{needs}
 use Rattle.extension_queries.proofs.are_ids.Statement.{statement}
 use Rattle.extension_queries.proofs.are_ids.Tie as tie
 

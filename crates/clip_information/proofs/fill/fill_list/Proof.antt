@@ -1,9 +1,6 @@
 -- Without a list both tables are left; the list is filled from its data as a file of its own.
-use mathlib.Core.Path.{_≡_, sym, ap, _∙_}
 use native.Mathlib.Omega.{arith}
 use denote.Ref.{now}
-use lib.ListN.{length}
-use Rattle.format.specs.Tables.{tableBytes, overwritten}
 use Rattle.clip_prepare.proofs.ListLaws.{list-inside}
 use Rattle.clip_information.proofs.FillLaws.{not-listed, no-list, list-fillable, programs-put, streams-put, filled-as}
 use borrow.Author.Needs.{needs}

@@ -1,8 +1,6 @@
 -- Each pair of tables is filled by its section, from where the header says that it stands.
-use Prim.Native.Nat.{ℕ, _≤_}
 use native.Mathlib.Omega.{arith}
 use denote.Ref.{now}
-use lib.ListN.{length}
 use Rattle.format.specs.ClipRecord.{atcsFrom, stcsFrom}
 use Rattle.format.specs.Programs.{programsFrom, streamsFrom}
 use Rattle.format.specs.EntryPoints.{mapsFrom, entriesFrom}

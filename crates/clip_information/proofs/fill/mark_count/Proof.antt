@@ -1,9 +1,7 @@
 -- Each return, by the tests that led to it.
-use Prim.Native.Nat.{_+_, _≤_}
 use mathlib.Core.Path.{_∙_}
 use native.Mathlib.Omega.{arith}
 use denote.Ref.{now}
-use lib.ListN.{length}
 use Rattle.clip_information.proofs.FillLaws.{no-marks, marks-past, marks-counted, count-in}
 use borrow.Author.Needs.{needs}
 use Rattle.clip_information.proofs.fill.mark_count.Statement.{statement}

@@ -1,5 +1,5 @@
 -- The numbers of the length.
-use mathlib.Core.Path.{_≡_, ap, _∙_}
+use mathlib.Core.Path.{ap, _∙_}
 use denote.Ref.{now}
 use Rattle.rewrite.specs.Rewrite.{lengthNumbers}
 use Rattle.rewrite.proofs.Refusals.{length-narrow}

@@ -1,5 +1,5 @@
 -- The numbers of the answer, and the output that it tells of.
-use mathlib.Core.Path.{_≡_, ap, _∙_}
+use mathlib.Core.Path.{ap, _∙_}
 use denote.Ref.{now}
 use Rattle.format.specs.Refusals.{writeNumbers, outputBy, outputAfter}
 use Rattle.format.specs.Rewriting.{encode}

@@ -1,13 +1,10 @@
 -- The sections one behind the other; each store keeps the output's length.
-use Prim.Native.Nat.{_+_}
-use mathlib.Core.Path.{_≡_, refl, sym, ap, _∙_}
+use mathlib.Core.Path.{_∙_}
 use native.Mathlib.Omega.{arith}
 use denote.Ref.{now}
 use lib.ListN.{length}
 use Rattle.format.specs.Bytes.{IsBytes}
 use Rattle.format.specs.Reading.{clipOf}
-use Rattle.clip_sections.specs.Infos.{clipInfoOf}
-use Rattle.clip_information.specs.Read.{scalarsBy}
 use Rattle.clip_sections.proofs.Laws.{accepted-bounds}
 use Rattle.encode_measure.proofs.Parts.{placed-stored, stored-as}
 use Rattle.rewrite.proofs.Rooms.{accepted, in-order, sequences-room, programs-room, cpi-room, sequences-in, programs-in, cpi-in}
