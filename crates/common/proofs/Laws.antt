@@ -1,7 +1,6 @@
 -- Where bytes end within the buffer, and what an answer of the reader or of the header says.
 use Prim.Native.Nat.{ℕ, _+_, _-_, _<_, _≤_}
 use mathlib.Core.Path.{_≡_, refl, sym, _∙_}
-use mathlib.Core.Logic.{⊎-elim}
 use mathlib.Core.List.{List}
 use mathlib.Core.Bool.{Bool, true, false}
 use native.Mathlib.Nat.{one-le-pow}
@@ -11,7 +10,7 @@ use lib.Dec.{leb, lit<}
 use borrow.Author.Tests.{leb-true, leb-false, le-leb, lt-leb}
 use Rattle.format.specs.Bytes.{beAt}
 use Rattle.format.specs.ClipRecord.{areLetters, lettersRight}
-use Rattle.format.proofs.Sweep.{either-way}
+use Rattle.format.proofs.Tests.{picked, not-picked}
 use Rattle.numbers.specs.Reads.{ReadIs}
 use Rattle.common.specs.Reader.{numberAt, movedTo, NumberIs}
 use Rattle.common.specs.declared.reader.Reader.{Reader}
@@ -61,21 +60,14 @@ pub record Got (f : List ℕ) (p n v : ℕ) (next : Reader) : Type 0 where
   pub behind : next .pos ≡ p + n
 
 pub got : (f : List ℕ) (p n : ℕ) {v : ℕ} {next : Reader} → Number.Read v next ≡ numberAt f p n → Got f p n v next
-got f p n {v} {next} e =
-    let read = Number.Read (beAt f p n) (record { pos = p + n }) in
-    ⊎-elim
-    (λ t. let is = t .1 in record { inside = t .0; value = cc; behind = cc })
-    (λ t. let is = t .1 in let z : _≡_ {A = ℕ} 0 1 = cc in absurd (omega arith))
-    (either-way (p + n) (length f) read Number.PastEnd (sym e))
+got f p n e =
+    let t = picked (leb (p + n) (length f)) (λ e. let z : _≡_ {A = ℕ} 0 1 = cc in omega arith) (sym e) in
+    let is = t .1 in
+    record { inside = leb-true (p + n) (length f) (t .0); value = cc; behind = cc }
 
 -- where none was, the bytes pass the end
 pub not-got : (f : List ℕ) (p n : ℕ) → Number.PastEnd ≡ numberAt f p n → length f < p + n
-not-got f p n e =
-    let read = Number.Read (beAt f p n) (record { pos = p + n }) in
-    ⊎-elim
-    (λ t. let is = t .1 in let z : _≡_ {A = ℕ} 0 1 = cc in absurd (omega arith))
-    (λ t. leb-false (p + n) (length f) (t .0))
-    (either-way (p + n) (length f) read Number.PastEnd (sym e))
+not-got f p n e = leb-false (p + n) (length f) (not-picked (leb (p + n) (length f)) (λ e. let z : _≡_ {A = ℕ} 0 1 = cc in omega arith) (sym e) .0)
 
 -- a place within the file is reached, and one past its end is not
 pub reached : (f : List ℕ) {p q : ℕ} → p ≡ q → p ≤ length f → Moved.At (record { pos = p }) ≡ movedTo f q
@@ -86,18 +78,11 @@ beyond f p h = rw (lt-leb p (length f) h)
 
 -- what a caller learns of a reader that moved
 pub went : (f : List ℕ) (p : ℕ) {r : Reader} → Moved.At r ≡ movedTo f p → (p ≤ length f) × (r .pos ≡ p)
-went f p {r} e =
-    let there = Moved.At (record { pos = p }) in
-    ⊎-elim
-    (λ t. let is = t .1 in (t .0, cc))
-    (λ t. let is = t .1 in let z : _≡_ {A = ℕ} 0 1 = cc in absurd (omega arith))
-    (either-way p (length f) there Moved.PastEnd (sym e))
+went f p e =
+    let t = picked (leb p (length f)) (λ e. let z : _≡_ {A = ℕ} 0 1 = cc in omega arith) (sym e) in
+    let is = t .1 in
+    (leb-true p (length f) (t .0), cc)
 
 -- where it did not, the place lies past the end
 pub stayed : (f : List ℕ) (p : ℕ) → Moved.PastEnd ≡ movedTo f p → length f < p
-stayed f p e =
-    let there = Moved.At (record { pos = p }) in
-    ⊎-elim
-    (λ t. let is = t .1 in let z : _≡_ {A = ℕ} 0 1 = cc in absurd (omega arith))
-    (λ t. leb-false p (length f) (t .0))
-    (either-way p (length f) there Moved.PastEnd (sym e))
+stayed f p e = leb-false p (length f) (not-picked (leb p (length f)) (λ e. let z : _≡_ {A = ℕ} 0 1 = cc in omega arith) (sym e) .0)

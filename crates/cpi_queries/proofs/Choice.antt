@@ -17,7 +17,7 @@ use Rattle.format.proofs.Lookups.{NoneOrRow, primary-row, primary-none, primary
 use Rattle.format.proofs.Rows.{rows-length}
 use Rattle.format.proofs.Tests.{both-true}
 use Rattle.cells.specs.Reads.{CellIs}
-use Rattle.queries.specs.Asked.{stated, onlyMaps, mapsAndEntries}
+use Rattle.queries.specs.Asked.{onlyMaps, mapsAndEntries}
 use Rattle.row_search.specs.FirstRow.{askRow}
 use Rattle.row_search.specs.declared.Test.{Test}
 use Rattle.table_rows.proofs.Scans.{rowsLeft, left-all, left-turn, left-done, cell-in}

@@ -10,7 +10,7 @@ use lib.ListN.{length, length-append}
 use Rattle.format.specs.Bytes.{both, every, fieldBytes}
 use Rattle.format.specs.ClipRecord.{Row, mapType}
 use Rattle.format.specs.Refusals.{entryFits, everyMap}
-use Rattle.format.specs.Rewriting.{runs, bodyBytes, bodies, headers, cpiBytesBy}
+use Rattle.format.specs.Rewriting.{bodyBytes, bodies, headers, cpiBytesBy}
 use Rattle.format.specs.Tables.{tableRows, mapCells, entryCells}
 use Rattle.format.proofs.Cpi.{headers-length}
 use Rattle.format.proofs.Numbers.{bytes-length}

@@ -1,8 +1,9 @@
 -- Zeros, and the head in its two parts.
-use Prim.Native.Nat.{ℕ, _+_, _-_, _^_, _<_, _≤_}
-use mathlib.Core.Path.{_≡_, refl, ap, _∙_}
+use Prim.Native.Nat.{ℕ, suc, _+_, _-_, _^_, _<_, _≤_}
+use mathlib.Core.Path.{_≡_, refl, sym, ap, _∙_}
 use mathlib.Core.List.{List, [], _∷_, _++_, append-assoc}
 use native.Mathlib.Nat.{add-assoc, zero-div}
+use native.Mathlib.Numerals.{one-add}
 use native.Mathlib.Omega.{arith}
 use lib.ListN.{length, length-append}
 use lib.Seq.{sets}
@@ -10,17 +11,13 @@ use Rattle.format.specs.Bytes.{bytesOf, fieldBytes}
 use Rattle.format.specs.ClipRecord.{Scalars}
 use Rattle.format.specs.Rewriting.{headBytes, marksBytes}
 use Rattle.format.proofs.Numbers.{bytes-length, widths-length}
-use Rattle.format.proofs.Loops.{put-more}
+use Rattle.format.proofs.Loops.{one-left, put-more}
 use Rattle.format.proofs.Stores.{sets-append, bytes-parts}
 use Rattle.encode_head.specs.Heads.{headerWidths, headerNumbers, infoWidths, infoNumbers}
 
 -- zeros: one, and the rest
-zeros-more : (n : ℕ) → bytesOf (1 + n) 0 ≡ bytesOf 1 0 ++ bytesOf n 0
-zeros-more n = bytes-parts 1 n 0 ∙ ap (λ (v : ℕ). bytesOf 1 v ++ bytesOf n 0) (zero-div (256 ^ n))
-
--- what is left, one counted apart
-one-left′ : (n k : ℕ) → k < n → n - k ≡ 1 + (n - (k + 1))
-one-left′ n k h = omega arith
+zeros-more : (n : ℕ) → bytesOf (suc n) 0 ≡ bytesOf 1 0 ++ bytesOf n 0
+zeros-more n = ap (λ (m : ℕ). bytesOf m 0) (sym (one-add n)) ∙ bytes-parts 1 n 0 ∙ ap (λ (v : ℕ). bytesOf 1 v ++ bytesOf n 0) (zero-div (256 ^ n))
 
 -- at first all are left
 pub zeros-first : (at n : ℕ) (l : List ℕ) → sets l (at + 0) (bytesOf (n - 0) 0) ≡ sets l at (bytesOf n 0)
@@ -33,7 +30,7 @@ zeros-first at n l =
 pub zeros-turn : (at n k : ℕ) (l : List ℕ) {l′ whole : List ℕ} → k < n → l′ ≡ sets l (at + k) (bytesOf 1 0)
     → sets l (at + k) (bytesOf (n - k) 0) ≡ whole → sets l′ (at + (k + 1)) (bytesOf (n - (k + 1)) 0) ≡ whole
 zeros-turn at n k l h e f =
-    let all : bytesOf (n - k) 0 ≡ bytesOf 1 0 ++ bytesOf (n - (k + 1)) 0 = ap (λ (m : ℕ). bytesOf m 0) (one-left′ n k h) ∙ zeros-more (n - (k + 1)) in
+    let all : bytesOf (n - k) 0 ≡ bytesOf 1 0 ++ bytesOf (n - (k + 1)) 0 = ap (λ (m : ℕ). bytesOf m 0) (one-left n k h) ∙ zeros-more (n - (k + 1)) in
     rw (← add-assoc at k 1) (put-more l (at + k) 1 (bytesOf 1 0) (bytesOf (n - (k + 1)) 0) (bytes-length 1 0) e (rw all at f))
 
 pub zeros-done : (at n k : ℕ) (l : List ℕ) {whole : List ℕ} → n ≤ k → sets l (at + k) (bytesOf (n - k) 0) ≡ whole → l ≡ whole

@@ -6,7 +6,7 @@ use mathlib.Core.Bool.{Bool, true, false}
 use native.Mathlib.Omega.{arith}
 use lib.Dec.{lit<}
 use Rattle.format.specs.Bytes.{rowsAt}
-use Rattle.format.specs.ClipRecord.{time, entryTime}
+use Rattle.format.specs.ClipRecord.{entryTime}
 use Rattle.format.specs.Ticks.{Ticks90, less90}
 use Rattle.format.specs.Questions.{none, ticks90, lastOf, spanOf, indexedSpan90k, answer}
 use Rattle.format.specs.Tables.{Table, cellAt, cellsAt, clipIn, entryCells}

@@ -1,4 +1,4 @@
--- Numbers stored lowest byte first, as the cells of a table: their bytes, that they read back, and that no other cell changes.
+-- Numbers stored lowest byte first, as the cells of a table: their bytes, and that they read back.
 use Prim.Native.Nat.{ℕ, zero, suc, _+_, _*_, _/_, _%_, _^_, _<_}
 use mathlib.Core.Path.{_≡_, refl, sym, ap, ap₂, _∙_}
 use mathlib.Core.List.{List, [], _∷_, _++_}

@@ -1,5 +1,5 @@
 -- Bit fields at every place and every width: shift and mask, shift and OR, taking apart and building; the joined time and packet.
-use Prim.Native.Nat.{ℕ, zero, suc, _+_, _*_, _-_, _/_, _%_, _^_, _<_, _≤_, max}
+use Prim.Native.Nat.{ℕ, suc, _+_, _*_, _-_, _/_, _%_, _^_, _<_, _≤_, max}
 use mathlib.Core.Path.{_≡_, refl, sym, ap, ap₂, _∙_}
 use mathlib.Core.List.{List, [], _∷_}
 use mathlib.Core.Bool.{true}
@@ -10,7 +10,7 @@ use lib.Bits.{bitAnd, bitOr, and-mask, and-high, and-block, or-step, or-zero-r, 
 use lib.Pow.{pow-add, pow-pos, high, low, split, shr-lt, shr-shr, shr-mod, field, mod-mod-pow, mod-pow-add}
 use lib.Dec.{lit<, ltb}
 use borrow.Author.Tests.{ltb-true, lt-ltb}
-use Rattle.format.specs.Bytes.{both, fits, widthOf, packed, unpacked}
+use Rattle.format.specs.Bytes.{fits, widthOf, packed, unpacked}
 use Rattle.format.specs.EntryPoints.{joinTime, joinPacket}
 use Rattle.format.proofs.Tests.{both-true, true-both}
 

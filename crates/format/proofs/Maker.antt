@@ -1,5 +1,5 @@
 -- A record that the writer does not refuse is a good one, if its languages have no capital letter.
-use Prim.Native.Nat.{ℕ, zero, _%_}
+use Prim.Native.Nat.{ℕ, _%_}
 use mathlib.Core.Path.{_≡_}
 use mathlib.Core.List.{List, [], _∷_}
 use mathlib.Core.Bool.{true}

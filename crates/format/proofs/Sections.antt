@@ -1,12 +1,12 @@
 -- The sequences and the programs are read back from their bytes.
-use Prim.Native.Nat.{ℕ, zero, _+_, _*_, _/_, _<_, _≤_}
+use Prim.Native.Nat.{ℕ, _+_, _*_, _/_, _<_, _≤_}
 use mathlib.Core.Path.{_≡_, refl, ap, _∙_}
 use mathlib.Core.List.{List, [], _∷_, map}
 use mathlib.Core.Bool.{Bool, true, false}
 use native.Mathlib.Nat.{add-assoc}
 use native.Mathlib.Omega.{arith}
 use lib.ListN.{length, getD, length-append}
-use lib.Dec.{eqb, leb}
+use lib.Dec.{eqb}
 use borrow.Author.Tests.{eqb-true}
 use Rattle.format.specs.Bytes.{pick, beAt, bytesOf, fieldBytes}
 use Rattle.format.specs.ClipRecord.{Row, Clip, atcStcCount, streamCount, codingType, aspect, language, atcAt, stcAt, nextStc, atcsFrom, stcsFrom, sequencesEnd}

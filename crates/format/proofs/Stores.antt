@@ -1,42 +1,15 @@
--- Bytes stored into a list: read back where they stand, nothing changed elsewhere; big-endian numbers and their bytes in parts.
-use Prim.Native.Nat.{ℕ, zero, suc, _+_, _*_, _/_, _%_, _^_, _<_, _≤_}
+-- Bytes stored into a list, one part behind the other; big-endian numbers and their bytes in parts.
+use Prim.Native.Nat.{ℕ, zero, suc, _+_, _*_, _/_, _%_, _^_, _<_}
 use mathlib.Core.Path.{_≡_, refl, sym, ap, ap₂, _∙_}
-use mathlib.Core.Logic.{_⊎_, inl, inr, ⊎-elim}
 use mathlib.Core.List.{List, [], _∷_, _++_, append-assoc, append-nil}
 use native.Mathlib.Nat.{add-zero, add-suc, add-assoc, mul-assoc, pow-suc, pow-succ', div-one, div-div-eq-div-mul, div-add-mod'}
 use native.Mathlib.Omega.{arith}
-use lib.ListN.{length, getD, take, drop, set}
-use lib.Seq.{sets, sets-eq, getD-set-other, length-take-le}
+use lib.ListN.{length, getD, set}
+use lib.Seq.{sets}
 use Rattle.format.specs.Bytes.{beAt, bytesOf}
-use Rattle.format.proofs.Numbers.{Stands, bytes-length}
+use Rattle.format.proofs.Numbers.{bytes-length}
 
 -- ---- stores into any list
-
--- m places from p and n places from q share none
-abbrev pub Apart : ℕ → ℕ → ℕ → ℕ → Type 0
-Apart p m q n = (p + m ≤ q) ⊎ (q + n ≤ p)
-
--- a place that no store meets keeps its value
-kept : (l : List ℕ) (i : ℕ) (vs : List ℕ) (k : ℕ) → Apart k 1 i (length vs) → getD (sets l i vs) k 0 ≡ getD l k 0
-kept l i [] k h = refl
-kept l i (v ∷ vs) k h =
-    let other : k ≡ i → ⊥ = λ e. ⊎-elim (λ a. omega arith) (λ a. omega arith) h in
-    let later : Apart k 1 (suc i) (length vs) = ⊎-elim (λ a. inl (omega arith)) (λ a. inr (omega arith)) h in
-    kept (set l i v) (suc i) vs k later ∙ getD-set-other l i k v 0 other
-
--- so does each of n places that no store meets
-pub part-kept : (l : List ℕ) (i : ℕ) (vs : List ℕ) (p n : ℕ) → Apart p n i (length vs)
-    → (k : ℕ) → k < n → getD (sets l i vs) (p + k) 0 ≡ getD l (p + k) 0
-part-kept l i vs p n h k b = kept l i vs (p + k) (⊎-elim (λ a. inl (omega arith)) (λ a. inr (omega arith)) h)
-
--- what is stored stands where it was stored
-pub stored : (l : List ℕ) (i : ℕ) (vs : List ℕ) → i + length vs ≤ length l → Stands (sets l i vs) i vs
-stored l i vs h = record {
-  before = take i l;
-  behind = drop (i + length vs) l;
-  place = length-take-le i l (omega arith);
-  whole = sets-eq vs l i h ∙ append-assoc (take i l) vs (drop (i + length vs) l);
-}
 
 -- two parts stored one behind the other are one store of both
 pub sets-append : (l : List ℕ) (i : ℕ) (vs ws : List ℕ) → sets l i (vs ++ ws) ≡ sets (sets l i vs) (i + length vs) ws

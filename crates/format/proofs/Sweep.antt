@@ -1,15 +1,13 @@
 -- A pass over items that stand one behind the other, of any kind: where it has come to, what it has counted, and the tables that it fills.
 use Prim.Native.Nat.{ℕ, zero, suc, _+_, _*_, _-_, _<_, _≤_}
 use mathlib.Core.Path.{_≡_, refl, sym, ap, _∙_}
-use mathlib.Core.Logic.{_⊎_, inl, inr}
 use mathlib.Core.List.{List, [], _++_}
-use mathlib.Core.Bool.{Bool, true, false}
 use native.Mathlib.Nat.{sub-zero, le-trans, mul-comm, le-div-iff-mul-le}
 use native.Mathlib.Omega.{arith}
 use lib.ListN.{length, length-append}
 use lib.Seq.{sets, length-sets}
 use lib.Dec.{leb}
-use borrow.Author.Tests.{leb-true, le-leb, lt-leb}
+use borrow.Author.Tests.{le-leb, lt-leb}
 use Rattle.format.specs.Bytes.{pick, beAt, rowsAt, gather, endOf}
 use Rattle.format.specs.ClipRecord.{Row}
 use Rattle.format.specs.Tables.{cellBytes, rowBytes, tableBytes, rowRoom, overwritten}
@@ -105,14 +103,6 @@ module _ {A : Type 0} (C : ℕ → ℕ → ℕ → A) (past : A) (head : ℕ →
   section-short up h =
       let beyond : length f < endOf next (start + 6) (beAt f (start + 5) 1) = le-trans h (end-ge next up (start + 6) (beAt f (start + 5) 1)) in
       rw (lt-leb (endOf next (start + 6) (beAt f (start + 5) 1)) (length f) beyond)
-
--- an answer that a test picked is one of the two, with the test's fact
-pub either-way : {A : Type 0} (m l : ℕ) (a b : A) {x : A} → pick (leb m l) a b ≡ x → ((m ≤ l) × (a ≡ x)) ⊎ ((leb m l ≡ false) × (b ≡ x))
-either-way {A} m l a b {x} e = by-test (leb m l) refl
-  where
-    by-test : (t : Bool) → leb m l ≡ t → ((m ≤ l) × (a ≡ x)) ⊎ ((leb m l ≡ false) × (b ≡ x))
-    by-test true h = inl (leb-true m l h, rw h at e)
-    by-test false h = inr (h, rw h at e)
 
 -- ---- tables
 

@@ -1,11 +1,11 @@
 -- The new file is accepted, and reads to the record that was written.
-use Prim.Native.Nat.{ℕ, zero, _+_, _^_, _<_, _≤_}
+use Prim.Native.Nat.{ℕ, _+_, _^_, _<_, _≤_}
 use mathlib.Core.Path.{_≡_, refl, sym, ap, _∙_}
 use mathlib.Core.List.{List, [], _∷_, _++_, append-nil, map}
 use mathlib.Core.Bool.{true, false}
 use native.Mathlib.Omega.{arith}
 use lib.ListN.{length, getD, length-append}
-use lib.Dec.{leb, eqb, lit<}
+use lib.Dec.{leb, lit<}
 use borrow.Author.Tests.{le-leb}
 use Rattle.format.specs.Bytes.{beAt, fieldBytes, fieldsAt}
 use Rattle.format.specs.ClipRecord.{Clip, lettersRight, scalarsOf, clipInfoIn, atcsFrom, stcsFrom, sequencesEnd, marksFrom, marksIn}

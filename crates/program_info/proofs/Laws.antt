@@ -1,20 +1,21 @@
 -- Programs with their streams, and what an answer of the first pass says.
 use Prim.Native.Nat.{ℕ, _+_, _<_, _≤_}
 use mathlib.Core.Path.{_≡_, refl, ap, _∙_}
-use mathlib.Core.Logic.{⊎-elim}
 use mathlib.Core.List.{List}
 use mathlib.Core.Bool.{false}
 use native.Mathlib.Nat.{le-trans}
 use native.Mathlib.Omega.{arith}
 use lib.ListN.{length}
 use lib.Dec.{leb, lit<}
+use borrow.Author.Tests.{leb-true}
 use Rattle.format.specs.Bytes.{beAt, rowsAt, gather, endOf}
 use Rattle.format.specs.Programs.{streamAt, nextStream, programAt, streamsOf, nextProgram, programsFrom, streamsFrom, programsEnd}
 use Rattle.format.specs.Tables.{tableBytes, rowRoom, overwritten, programCells, streamCells}
 use Rattle.format.proofs.Loops.{end-ge}
 use Rattle.format.proofs.Places.{program-head, up-program}
 use Rattle.format.proofs.Rows.{rows-all, gather-all}
-use Rattle.format.proofs.Sweep.{either-way, Filling, filling-front}
+use Rattle.format.proofs.Sweep.{Filling, filling-front}
+use Rattle.format.proofs.Tests.{picked, not-picked}
 use Rattle.common.specs.Reader.{movedTo}
 use Rattle.common.specs.declared.reader.Reader.{Reader}
 use Rattle.common.specs.declared.reader.Moved.{Moved}
@@ -84,16 +85,11 @@ module _ (f : List ℕ) (start : ℕ) where
   pub counts-are : {programs streams end : ℕ} → measured f start ≡ Measured.Counts programs streams end → CountsAre f start programs streams end
   unfolding measured
   counts-are e =
-      ⊎-elim
-      (λ t. let is = t .1 in record { ends = t .0; programs-are = cc; streams-are = cc; end-is = cc })
-      (λ t. let is = t .1 in let z : _≡_ {A = ℕ} 0 1 = cc in absurd (omega arith))
-      (either-way (programsEnd f start) (length f) (Measured.Counts (length (programsFrom f start)) (length (streamsFrom f start)) (programsEnd f start)) Measured.PastEnd e)
+      let t = picked (leb (programsEnd f start) (length f)) (λ e. let z : _≡_ {A = ℕ} 0 1 = cc in omega arith) e in
+      let is = t .1 in
+      record { ends = leb-true (programsEnd f start) (length f) (t .0); programs-are = cc; streams-are = cc; end-is = cc }
 
   -- the section passes the file's end
   pub past-end : measured f start ≡ Measured.PastEnd → leb (programsEnd f start) (length f) ≡ false
   unfolding measured
-  past-end e =
-      ⊎-elim
-      (λ t. let is = t .1 in let z : _≡_ {A = ℕ} 0 1 = cc in absurd (omega arith))
-      (λ t. t .0)
-      (either-way (programsEnd f start) (length f) (Measured.Counts (length (programsFrom f start)) (length (streamsFrom f start)) (programsEnd f start)) Measured.PastEnd e)
+  past-end e = not-picked (leb (programsEnd f start) (length f)) (λ e. let z : _≡_ {A = ℕ} 0 1 = cc in omega arith) e .0

@@ -1,20 +1,21 @@
 -- ATCs with their STCs, and what an answer of the first pass says.
 use Prim.Native.Nat.{ℕ, _+_, _*_, _<_, _≤_}
 use mathlib.Core.Path.{_≡_, refl, ap, _∙_}
-use mathlib.Core.Logic.{⊎-elim}
 use mathlib.Core.List.{List}
 use mathlib.Core.Bool.{false}
 use native.Mathlib.Nat.{le-trans}
 use native.Mathlib.Omega.{arith}
 use lib.ListN.{length}
 use lib.Dec.{leb, lit<}
+use borrow.Author.Tests.{leb-true}
 use Rattle.format.specs.Bytes.{beAt, rowsAt, gather}
 use Rattle.format.specs.ClipRecord.{atcAt, stcAt, nextStc, stcsOf, nextAtc, atcsFrom, stcsFrom, sequencesEnd}
 use Rattle.format.specs.Tables.{tableBytes, rowRoom, overwritten, atcCells, stcCells}
 use Rattle.format.proofs.Loops.{end-ge}
 use Rattle.format.proofs.Places.{atc-head, up-atc}
 use Rattle.format.proofs.Rows.{rows-all, gather-all}
-use Rattle.format.proofs.Sweep.{end-steps, either-way, Filling, filling-front}
+use Rattle.format.proofs.Sweep.{end-steps, Filling, filling-front}
+use Rattle.format.proofs.Tests.{picked, not-picked}
 use Rattle.common.specs.Reader.{movedTo}
 use Rattle.common.specs.declared.reader.Reader.{Reader}
 use Rattle.common.specs.declared.reader.Moved.{Moved}
@@ -77,16 +78,11 @@ module _ (f : List ℕ) (start : ℕ) where
   pub counts-are : {atcs stcs end : ℕ} → measured f start ≡ Measured.Counts atcs stcs end → CountsAre f start atcs stcs end
   unfolding measured
   counts-are e =
-      ⊎-elim
-      (λ t. let is = t .1 in record { ends = t .0; atcs-are = cc; stcs-are = cc; end-is = cc })
-      (λ t. let is = t .1 in let z : _≡_ {A = ℕ} 0 1 = cc in absurd (omega arith))
-      (either-way (sequencesEnd f start) (length f) (Measured.Counts (length (atcsFrom f start)) (length (stcsFrom f start)) (sequencesEnd f start)) Measured.PastEnd e)
+      let t = picked (leb (sequencesEnd f start) (length f)) (λ e. let z : _≡_ {A = ℕ} 0 1 = cc in omega arith) e in
+      let is = t .1 in
+      record { ends = leb-true (sequencesEnd f start) (length f) (t .0); atcs-are = cc; stcs-are = cc; end-is = cc }
 
   -- the section passes the file's end
   pub past-end : measured f start ≡ Measured.PastEnd → leb (sequencesEnd f start) (length f) ≡ false
   unfolding measured
-  past-end e =
-      ⊎-elim
-      (λ t. let is = t .1 in let z : _≡_ {A = ℕ} 0 1 = cc in absurd (omega arith))
-      (λ t. t .0)
-      (either-way (sequencesEnd f start) (length f) (Measured.Counts (length (atcsFrom f start)) (length (stcsFrom f start)) (sequencesEnd f start)) Measured.PastEnd e)
+  past-end e = not-picked (leb (sequencesEnd f start) (length f)) (λ e. let z : _≡_ {A = ℕ} 0 1 = cc in omega arith) e .0

@@ -3,7 +3,7 @@ use Prim.Native.Nat.{ℕ, _+_, _*_, _<_, _≤_}
 use mathlib.Core.Path.{_≡_}
 use mathlib.Core.List.{List, [], _∷_, _++_, List·Memᴰ}
 use mathlib.Core.Bool.{true, false}
-use lib.ListN.{length, getD, replicate}
+use lib.ListN.{length, replicate}
 use Rattle.format.specs.ClipRecord.{Row, Extension}
 use Rattle.format.specs.Programs.{programsFrom, streamsFrom}
 use Rattle.format.specs.Extensions.{blockEnd, extensionCount, addressAt, dataLengthAt, extensionAt, hasExtensions, extensionRows, dataOf, nothing, found, listData, listIn}

@@ -3,7 +3,6 @@ use Prim.Native.Nat.{ℕ}
 use mathlib.Core.Path.{_≡_, refl, ap, _∙_}
 use mathlib.Core.List.{List}
 use denote.Ref.{now}
-use Rattle.format.specs.Ticks.{doubled}
 use Rattle.format.specs.Questions.{stcs, duration45k, ticks45, durationOf, ofStc, answer}
 use Rattle.format.specs.Tables.{tableRows, stcCells, clipIn}
 use Rattle.queries.specs.Asked.{stated, onlyStcs}

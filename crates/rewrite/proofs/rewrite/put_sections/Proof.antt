@@ -2,7 +2,6 @@
 use mathlib.Core.Path.{_∙_}
 use native.Mathlib.Omega.{arith}
 use denote.Ref.{now}
-use lib.ListN.{length}
 use Rattle.format.specs.Bytes.{IsBytes}
 use Rattle.format.specs.Reading.{clipOf}
 use Rattle.clip_sections.proofs.Laws.{accepted-bounds}
