@@ -124,15 +124,15 @@ static inline int same_record(
            same_rows(s->entries, a->entries, t->entries, b->entries, sizeof *s->entries);
 }
 
-/* Reads two clips and tells whether they have the same record; the refusals are those of the two readings. */
+/* Reads two clips and tells whether they have the same record; what the two readings answered is handed back. */
 static inline int same_clip(
-    const uint8_t *a, size_t a_bytes, const uint8_t *b, size_t b_bytes, uint32_t *a_refusal, uint32_t *b_refusal)
+    const uint8_t *a, size_t a_bytes, const uint8_t *b, size_t b_bytes, struct clpi_reading *p, struct clpi_reading *q)
 {
     struct clpi_tables s = {0}, t = {0};
-    struct clpi_reading p = read_clip(a, a_bytes, &s), q = read_clip(b, b_bytes, &t);
-    int same = same_record(&p, &s, &q, &t);
-    *a_refusal = p.refusal;
-    *b_refusal = q.refusal;
+    int same;
+    *p = read_clip(a, a_bytes, &s);
+    *q = read_clip(b, b_bytes, &t);
+    same = same_record(p, &s, q, &t);
     free_tables(&s);
     free_tables(&t);
     return same;

@@ -1,6 +1,7 @@
 /* A new file that takes its place whole or not at all. It is written as a draft, under another name in the same folder,
  * and gets its own name as the last step. What has that name already is never replaced, as a link and not a renaming
- * gives it. A step tells whether it was done, and errno says why not. */
+ * gives it. A step tells whether it was done, and errno says why not. For POSIX: define _POSIX_C_SOURCE, 200809L or
+ * more, before the first #include. */
 #ifndef NEW_FILE_H
 #define NEW_FILE_H
 

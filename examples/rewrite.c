@@ -17,13 +17,13 @@ static int put_new(const char *path, const uint8_t *old, size_t old_bytes, const
     struct new_file f;
     uint8_t *copy = NULL;
     size_t copy_bytes;
-    uint32_t of_old, of_copy;
+    struct clpi_reading of_old, of_copy;
     int done = 0;
     if (!start_file(&f, path) || !write_file(&f, output, output_bytes) || !(copy = load(f.draft, &copy_bytes)))
         perror(path);
     else if (!same_clip(old, old_bytes, copy, copy_bytes, &of_old, &of_copy))
         fprintf(stderr, "%s: the copy does not read as the old file does (refused: old %" PRIu32 ", copy %" PRIu32 ")\n",
-                path, of_old, of_copy);
+                path, of_old.refusal, of_copy.refusal);
     else if (!(done = place_file(&f)))
         perror(path);
     end_file(&f);

@@ -20,8 +20,8 @@
 #include <stddef.h>
 #include <stdint.h>
 
-#if SIZE_MAX < UINT64_MAX
-#error "libclpi.a is made for a 64-bit size_t"
+#if !defined(__x86_64__) || SIZE_MAX < UINT64_MAX
+#error "libclpi.a is made for x86-64 with a 64-bit size_t"
 #endif
 
 #ifdef __cplusplus
@@ -32,7 +32,8 @@ extern "C" {
 
 enum clpi_refusal {
     CLPI_OK = 0,
-    /* the disc's author */
+    /* the disc's author. A start of 0, or at or past the file's end, is no refusal of the CPI, the marks or the
+     * extensions: the file has none then, so that one cut off right before its CPI reads as a file without maps */
     CLPI_HEADER_SHORT = 1,  /* under 8 bytes, or right letters and under 40 */
     CLPI_LETTERS = 2,       /* neither HDMV nor CLPI */
     CLPI_CLIP_INFO = 3,     /* under 194 bytes, or the ClipInfo passes the file's end */
@@ -228,13 +229,13 @@ static inline struct clpi_reading clpi_read_tables(const uint8_t *file, size_t f
 /* The scalars of a record, as a reading has them. The stream type, the application type and the validity flags have a
  * byte each in the file: CLPI_CELLS where one is over 255. */
 struct clpi_clip_info {
-    uint32_t version; /* four bytes, the first one highest */
+    uint32_t version; /* four bytes, the first one highest: 0x30323030 is 0200 */
     uint32_t clip_stream_type;
     uint32_t application_type;
     uint32_t ts_recording_rate; /* bytes a second */
     uint32_t number_of_source_packets;
     uint32_t validity_flags;
-    uint32_t format_id; /* four bytes, the first one highest */
+    uint32_t format_id; /* four bytes, the first one highest: 0x48444D56 is HDMV */
 };
 
 /* What writing and rewriting answer. Other numbers are 0. */
@@ -257,8 +258,9 @@ struct clpi_writing clpi_write(
     const uint8_t *entries, size_t entries_bytes, uint32_t entry_rows,
     uint8_t *output, size_t output_bytes);
 
-/* The same call on the record that a reading has put into the tables. A reading that was refused has put nothing
- * there: its refusal is handed on, and nothing is written. */
+/* The same call on the record that a reading has put into the tables, or on one made by hand: then `r` is all zeros but
+ * for the scalars and the rows of tables 1 to 6. A reading that was refused has put nothing there: its refusal is
+ * handed on, and nothing is written. */
 static inline struct clpi_writing clpi_write_tables(
     const struct clpi_reading *r, const struct clpi_tables *t, uint8_t *output, size_t output_bytes)
 {
@@ -323,8 +325,8 @@ struct clpi_part clpi_extension_data(
  * both lent, where the counts don't add up to the rows stated. A time in 90 kHz ticks has 32 bits where entries are
  * looked up, else 64: C cuts a longer one off without a word, so look up UINT32_MAX where a time is greater, which has
  * the same answer. Ids and types of 8 bits, and PIDs and extension ids of 16, are cut off in the same way, so that 257
- * asks for id 1: test longer ones first. A part of a table may be lent as a table: the streams of one program, say; and tables 8 and 9 may be
- * lent where tables 3 and 4 are asked for. */
+ * asks for id 1: test longer ones first. A part of a table may be lent as a table: the streams of one program, say; and
+ * tables 8 and 9 may be lent where tables 3 and 4 are asked for. */
 
 /* An answer. `found` is 0 where there is none, which is no refusal; then, and beside a refusal, `value` is 0. Below,
  * "nothing" is `found` 0, and "0" is a value that is found. */
@@ -348,7 +350,8 @@ struct clpi_answer clpi_extension_entry(
 /* ---- questions about the ATC and STC sequences */
 
 /* Minutes remaining at a time, the figure on a player's front: the latest STC end, doubled to 90 kHz ticks, less the
- * time, not below 0, in whole minutes; 0 without STCs. */
+ * time, not below 0, in whole minutes; 0 without STCs. The time is on the clock of the STCs, as those of entries are:
+ * to a position counted from where an STC starts, add twice its `presentation_start_time`. */
 struct clpi_answer clpi_minutes_remaining(const uint8_t *stcs, size_t stcs_bytes, uint32_t rows, uint64_t at_90k);
 
 /* Twice the latest STC end less twice the least start, not below 0, in 90 kHz ticks; 0 without STCs. */
@@ -398,7 +401,7 @@ struct clpi_answer clpi_stream_by_pid(const uint8_t *streams, size_t streams_byt
 struct clpi_answer clpi_primary_video_pid(const uint8_t *streams, size_t streams_bytes, uint32_t rows);
 
 /* The first video or audio stream of table 4 from row `from` on; nothing where none is left. For all of them, ask from
- * 0, then from each answer plus 1. */
+ * 0, then from each answer plus 1. `from` is no row number: it may be any number, and is never refused. */
 struct clpi_answer clpi_next_video_stream(const uint8_t *streams, size_t streams_bytes, uint32_t rows, uint32_t from);
 struct clpi_answer clpi_next_audio_stream(const uint8_t *streams, size_t streams_bytes, uint32_t rows, uint32_t from);
 
@@ -416,7 +419,8 @@ struct clpi_answer clpi_entry_point_after(
     const uint8_t *entries, size_t entries_bytes, uint32_t entry_rows,
     uint32_t map, uint32_t at_90k);
 
-/* The packets of these entries: where to read from for a time, and the next such place. */
+/* The packets of these entries: where to read from for a time, and the next such place. A file may name a packet that
+ * its clip does not have: `clpi_spn_to_byte` finds nothing then. */
 struct clpi_answer clpi_seek_spn(
     const uint8_t *maps, size_t maps_bytes, uint32_t map_rows,
     const uint8_t *entries, size_t entries_bytes, uint32_t entry_rows,
@@ -465,7 +469,7 @@ struct clpi_answer clpi_primary_video_ep_map(const uint8_t *maps, size_t maps_by
 /* The row of the first map of a type, by the low four bits of both. */
 struct clpi_answer clpi_ep_map_by_kind(const uint8_t *maps, size_t maps_bytes, uint32_t rows, uint8_t kind);
 
-/* The first video map, of type 1, 5, 6 or 8, from row `from` on; nothing where none is left. */
+/* The first video map, of type 1, 5, 6 or 8, from row `from` on, which is no row number; nothing where none is left. */
 struct clpi_answer clpi_next_video_ep_map(const uint8_t *maps, size_t maps_bytes, uint32_t rows, uint32_t from);
 
 /* ---- questions about the packet count and the rate: none is refused */

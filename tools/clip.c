@@ -100,22 +100,22 @@ static int rewritten(const struct image *old, struct image *new)
     return DONE;
 }
 
-/* Tells whether the copy has the old file's record; where one of them is refused, says which. */
-static int is_same(const struct image *old, const struct image *copy)
+/* Tells whether the copy has the old file's record, and what the copy reads to; where one is refused, says which. */
+static int is_same(const struct image *old, const struct image *copy, struct clpi_reading *of_copy)
 {
-    uint32_t of_old, of_copy;
-    int same = same_clip(old->bytes, old->count, copy->bytes, copy->count, &of_old, &of_copy);
-    if (of_old)
-        refused(old->path, of_old);
-    if (of_copy)
-        refused(copy->path, of_copy);
-    if (!same && !of_old && !of_copy)
+    struct clpi_reading of_old;
+    int same = same_clip(old->bytes, old->count, copy->bytes, copy->count, &of_old, of_copy);
+    if (of_old.refusal)
+        refused(old->path, of_old.refusal);
+    if (of_copy->refusal)
+        refused(copy->path, of_copy->refusal);
+    if (!same && !of_old.refusal && !of_copy->refusal)
         fprintf(stderr, "clip: %s: the copy's record is not the old file's\n", copy->path);
     return same;
 }
 
 /* Reads the draft back: its bytes must be those written, and its record the old file's. */
-static int checked(const char *draft, const struct image *old, const struct image *new)
+static int checked(const char *draft, const struct image *old, const struct image *new, struct clpi_reading *r)
 {
     struct image copy = {new->path, NULL, 0};
     int status = FAILED;
@@ -123,7 +123,7 @@ static int checked(const char *draft, const struct image *old, const struct imag
         return failed(new->path);
     if (copy.count != new->count || memcmp(copy.bytes, new->bytes, copy.count) != 0)
         fprintf(stderr, "clip: %s: the copy reads back with other bytes than were written\n", new->path);
-    else if (is_same(old, &copy))
+    else if (is_same(old, &copy, r))
         status = DONE;
     free(copy.bytes);
     return status;
@@ -144,8 +144,8 @@ static int placed(struct new_file *f)
     return status;
 }
 
-/* Writes the new file beside its place, checks it, and gives it its name. */
-static int put_new(const struct image *old, const struct image *new)
+/* Writes the new file beside its place, checks it, and gives it its name; hands back what it reads to. */
+static int put_new(const struct image *old, const struct image *new, struct clpi_reading *r)
 {
     struct new_file f;
     int status, started;
@@ -155,7 +155,7 @@ static int put_new(const struct image *old, const struct image *new)
     let_signals();
     if (!started || !write_file(&f, new->bytes, new->count))
         status = failed(new->path);
-    else if ((status = checked(f.draft, old, new)) == DONE)
+    else if ((status = checked(f.draft, old, new, r)) == DONE)
         status = placed(&f);
     hold_signals();
     unfinished = NULL;
@@ -165,10 +165,20 @@ static int put_new(const struct image *old, const struct image *new)
     return status;
 }
 
-/* clip rewrite OLD NEW. Once NEW is there all is done, whether or not the line that says so can be printed. */
+/* Says what was done, with the numbers by which a file that lost its index shows. NEW is there, so that failing to
+ * print it is told but changes no status. */
+static void say_done(const struct image *old, const struct image *new, const struct clpi_reading *r)
+{
+    printf("%s: %zu bytes, maps %" PRIu32 ", entries %" PRIu32 ", read back; the record is that of %s\n",
+        new->path, new->count, r->maps, r->entries, old->path);
+    printed();
+}
+
+/* clip rewrite OLD NEW */
 static int rewrite(const char *old_path, const char *new_path)
 {
     struct image old = {old_path, NULL, 0}, new = {new_path, NULL, 0};
+    struct clpi_reading r = {0};
     int status;
     catch_signals();
     if (is_there(new_path))
@@ -177,9 +187,9 @@ static int rewrite(const char *old_path, const char *new_path)
         return failed(old_path);
     status = rewritten(&old, &new);
     if (status == DONE)
-        status = put_new(&old, &new);
+        status = put_new(&old, &new, &r);
     if (status == DONE)
-        printf("%s: %zu bytes, read back; the record is that of %s\n", new_path, new.count, old_path);
+        say_done(&old, &new, &r);
     free(new.bytes);
     free(old.bytes);
     return status;
@@ -222,6 +232,22 @@ static int version(void)
     return printed();
 }
 
+/* Says which word is wrong, where it is one word. */
+static int wrong_word(int words, char **argv)
+{
+    static const char *const commands[] = {"list", "rewrite", "minutes", "help", "--help", "-h", "--version"};
+    int known = words == 0;
+    for (size_t i = 0; words > 0 && i < sizeof commands / sizeof *commands; i++)
+        known |= strcmp(argv[1], commands[i]) == 0;
+    if (!known)
+        fprintf(stderr, "clip: '%s' is no command\n", argv[1]);
+    else if (words == 3 && strcmp(argv[1], "rewrite") == 0)
+        fprintf(stderr, "clip: '%s' looks like a switch: for a file of that name, say './%s'\n", argv[3], argv[3]);
+    else if (words == 3 && strcmp(argv[1], "minutes") == 0)
+        fprintf(stderr, "clip: '%s' is no time: a whole number of 90 kHz ticks, at most %" PRIu64 "\n", argv[3], UINT64_MAX);
+    return wrong_use();
+}
+
 int main(int argc, char **argv)
 {
     const char *command = argc > 1 ? argv[1] : "";
@@ -234,11 +260,9 @@ int main(int argc, char **argv)
         return version();
     if ((argc == 2 || argc == 3) && strcmp(command, "list") == 0)
         return list(argv[2]);
-    if (argc == 4 && strcmp(command, "rewrite") == 0)
+    if (argc == 4 && strcmp(command, "rewrite") == 0 && argv[3][0] != '-')
         return rewrite(argv[2], argv[3]);
     if (argc == 4 && strcmp(command, "minutes") == 0 && number(argv[3], &at))
         return minutes(argv[2], at);
-    if (argc == 4 && strcmp(command, "minutes") == 0)
-        fprintf(stderr, "clip: '%s' is no time: a whole number of 90 kHz ticks\n", argv[3]);
-    return wrong_use();
+    return wrong_word(argc - 1, argv);
 }

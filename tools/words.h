@@ -93,7 +93,7 @@ static const char overview[] =
     "Examples:\n"
     "  clip list 00001.clpi\n"
     "  clip rewrite 00001.clpi 00001.new\n"
-    "  clip minutes 00001.clpi 216000000     at 40 minutes: 40 x 60 x 90000\n"
+    "  clip minutes 00001.clpi 216000000     40 x 60 x 90000: minute 40 from 0\n"
     "\n"
     "The manual page is clip(1).\n";
 
@@ -129,7 +129,7 @@ static const char help_rewrite[] =
     "\n"
     "Reads OLD, writes its record as a new file, reads that file back, and compares\n"
     "the two records. Only then does the new file get the name NEW, and one line says\n"
-    "how long it is.\n"
+    "how long it is and how many maps and entries it has.\n"
     "\n"
     "  OLD is only read: it is never replaced, truncated, renamed or removed.\n"
     "  NEW must not be there yet, be it a file, a folder or a link: nothing is ever\n"
@@ -139,7 +139,8 @@ static const char help_rewrite[] =
     "\n"
     "The new file has every sequence, program, stream, entry map and entry of OLD.\n"
     "Its marks are empty, and it has no extensions. Rewriting it again changes no\n"
-    "byte.\n"
+    "byte. An OLD whose index starts past its end has no maps, by the format's rules,\n"
+    "and is not refused: look at the number of maps before you give up a damaged file.\n"
     "\n"
     "Until it gets its name, the new file is called .clip- and six more letters, in\n"
     "NEW's folder. Where the machine stops or clip is killed, such a file may be\n"
@@ -161,14 +162,15 @@ static const char help_minutes[] =
     "Prints the minutes remaining at TIME: up to the latest end of the file's STC\n"
     "sequences, rounded down. It is 0 after that end, and in a file without such\n"
     "sequences. TIME is in 90 kHz ticks, of which a minute has 5400000: a whole\n"
-    "number from 0 to 18446744073709551615.\n"
+    "number from 0 to 18446744073709551615. It is a time on the clock of these\n"
+    "sequences, as 'ep' lines have it, and not counted from the clip's start.\n"
     "\n"
     "FILE is only read.\n"
     "\n"
     "Exit status: 0 the figure is printed, 1 the file is refused, 2 the arguments are\n"
     "wrong, 3 the system failed.\n"
     "\n"
-    "Example, at 40 minutes, which are 40 x 60 x 90000 ticks:\n"
+    "Example, at minute 40 of a clip whose clock starts at 0: 40 x 60 x 90000 ticks:\n"
     "  clip minutes 00001.clpi 216000000\n";
 
 /* Prints the refusals and their words. */
@@ -177,9 +179,11 @@ static int help_refusals(void)
     printf("A file is refused by one of these numbers, and then nothing is written:\n\n");
     for (size_t i = 0; i < sizeof refusals / sizeof *refusals; i++)
         printf("  %2" PRIu32 "  %s\n", refusals[i].refusal, refusals[i].words);
-    printf("\n1 to 8 are faults of the file. 'clip list' has lower limits for 20 and 21: see\n"
-           "'clip help list'. 22, 23 and 30 come from the library alone, to programs that call\n"
-           "it. What the system can't do is told in the system's words, without a number.\n");
+    printf("\n1 to 8 are faults of the file. An entry index or marks that start at 0, or at or\n"
+           "past the file's end, are no fault: the file has none. 'clip list' has lower limits\n"
+           "for 20 and 21: see 'clip help list'. 22, 23 and 30 come from the library alone, to\n"
+           "programs that call it. What the system can't do is told in the system's words,\n"
+           "without a number.\n");
     return printed();
 }
 
@@ -193,7 +197,7 @@ static int wrong_use(void)
 /* Prints the help on a command, or on all where none is named. */
 static int help(const char *topic)
 {
-    if (!topic)
+    if (!topic || strcmp(topic, "help") == 0)
         printf("%s%s", usage, overview);
     else if (strcmp(topic, "list") == 0)
         fputs(help_list, stdout);
@@ -203,8 +207,10 @@ static int help(const char *topic)
         fputs(help_minutes, stdout);
     else if (strcmp(topic, "refusals") == 0)
         return help_refusals();
-    else
+    else {
+        fprintf(stderr, "clip: there is no help on '%s'\n", topic);
         return wrong_use();
+    }
     return printed();
 }
 

@@ -1,6 +1,6 @@
 -- STCs through their ATCs: by id while a loop goes over the ATCs, by packet while one goes over the STCs of an ATC, and the tests in front.
 use Prim.Native.Nat.{ℕ, suc, _+_, _*_, _-_, _<_, _≤_}
-use mathlib.Core.Path.{_≡_, refl, sym, ap, _∙_}
+use mathlib.Core.Path.{_≡_, refl, sym, _∙_}
 use mathlib.Core.List.{List, map}
 use mathlib.Core.Bool.{Bool, true, false}
 use native.Mathlib.Omega.{arith}
@@ -10,13 +10,13 @@ use borrow.Author.Tests.{leb-true, le-leb, lt-leb}
 use Rattle.format.specs.Bytes.{both, pick}
 use Rattle.format.specs.ClipRecord.{atcStcCount, offsetId, stcPacket}
 use Rattle.format.specs.Questions.{stcSequenceById, stcSequenceForSpn, Answer, refused, none, number, lastWhere, stcById, stcBySpn, firstRow, ownRows, ofAtcs, ofAtc, answer, ask}
-use Rattle.format.specs.Tables.{Table, rowsOf, cellAt, cellsAt, tableRows, clipIn, atcCells, stcCells}
-use Rattle.format.proofs.Cell.{item-at}
+use Rattle.format.specs.Tables.{Table, rowsOf, cellsAt, tableRows, clipIn, atcCells, stcCells}
 use Rattle.format.proofs.Loops.{one-left, none-left}
 use Rattle.cells.specs.Reads.{CellIs}
+use Rattle.format.proofs.Cell.{row-cell}
 use Rattle.queries.specs.Asked.{atcsAndStcs}
 use Rattle.table_rows.specs.OwnRows.{refusal, owns, ownedRows, rowsFrom}
-use Rattle.table_rows.proofs.Scans.{rowsLeft, left-all, left-turn, left-done, cell-in}
+use Rattle.table_rows.proofs.Scans.{rowsLeft, left-all, left-turn, left-done}
 use Rattle.table_rows.proofs.OwnRows.{own-rows, behindCount, behindTests, tests-fail, tests-pass}
 
 -- ---- by id
@@ -49,10 +49,10 @@ module _ (t : List ℕ) (n id : ℕ) where
       (is : b ≡ both (leb offset id) (ltb (id - offset) count)) (i : Ids k first) where
     -- the numbers that were read are the row's
     is-count : count ≡ atcStcCount (cellsAt t atcCells (4 * atcCells * k))
-    is-count = cell-in atcCells t n k 1 (lit< tt) (omega arith) (c .same)
+    is-count = row-cell t atcCells (4 * atcCells * k) 1 (lit< tt) (omega arith) (c .same)
 
     is-offset : offset ≡ offsetId (cellsAt t atcCells (4 * atcCells * k))
-    is-offset = cell-in atcCells t n k 2 (lit< tt) (omega arith) (o .same)
+    is-offset = row-cell t atcCells (4 * atcCells * k) 2 (lit< tt) (omega arith) (o .same)
 
     pub ids-turn : b ≡ false → Ids (k + 1) (first + count)
     unfolding stcById
@@ -93,8 +93,7 @@ module _ (t : List ℕ) (first count spn : ℕ) where
   spns-turn k found h c e i =
       let p : 4 * stcCells * (first + k) + 16 ≡ 4 * stcCells * suc (first + k) = omega arith in
       let s : first + (k + 1) ≡ suc (first + k) = omega arith in
-      let q : 16 * (first + k) + 4 ≡ 4 * stcCells * (first + k) + 4 * 1 = omega arith in
-      let is = c .same ∙ ap (cellAt t) q ∙ sym (item-at (cellAt t) 0 4 (4 * stcCells * (first + k)) stcCells 1 (lit< tt)) in
+      let is = row-cell t stcCells (4 * stcCells * (first + k)) 1 (lit< tt) (omega arith) (c .same) in
       rw (s, e) (rw (one-left count k h, p, ← is) at i)
 
   pub spns-done : (k : ℕ) (found : Answer) → count ≤ k → Spns k found → found ≡ stcBySpn (rowsFrom stcCells t first count) spn first

@@ -17,10 +17,11 @@ use Rattle.format.proofs.Lookups.{NoneOrRow, primary-row, primary-none, primary
 use Rattle.format.proofs.Rows.{rows-length}
 use Rattle.format.proofs.Tests.{both-true}
 use Rattle.cells.specs.Reads.{CellIs}
+use Rattle.format.proofs.Cell.{row-cell}
 use Rattle.queries.specs.Asked.{onlyMaps, mapsAndEntries}
 use Rattle.row_search.specs.FirstRow.{askRow}
 use Rattle.row_search.specs.declared.Test.{Test}
-use Rattle.table_rows.proofs.Scans.{rowsLeft, left-all, left-turn, left-done, cell-in}
+use Rattle.table_rows.proofs.Scans.{rowsLeft, left-all, left-turn, left-done}
 use Rattle.row_search.proofs.FirstRow.{row-answers, through, next-through}
 use Rattle.queries.proofs.Asking.{through-test}
 use Rattle.ep_map_queries.specs.InMap.{seekIn, seekQuestion, primarySeekQuestion}
@@ -86,7 +87,7 @@ module _ (t : List ℕ) (n : ℕ) where
 
   pub pids-turn : (k : ℕ) (s : Nearest) {x : ℕ} {r : Nearest} → k < n → CellIs t (12 * k) x → r ≡ pick (ltb x (s .distance)) (record { row = k; distance = x }) s → Pids k s → Pids (k + 1) r
   pids-turn k s {x} h c chose i =
-      let is : x ≡ mapPid (cellsAt t mapCells (4 * mapCells * k)) = cell-in mapCells t n k 0 (lit< tt) (omega arith) (c .same) in
+      let is : x ≡ mapPid (cellsAt t mapCells (4 * mapCells * k)) = row-cell t mapCells (4 * mapCells * k) 0 (lit< tt) (omega arith) (c .same) in
       record {
         so-far = better less k x (i .so-far);
         says = least-chosen k x (c .below) (i .says) chose;

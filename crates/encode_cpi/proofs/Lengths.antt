@@ -17,11 +17,12 @@ use Rattle.format.proofs.Numbers.{bytes-length}
 use Rattle.format.proofs.Tests.{both-assoc, picked, not-picked}
 use Rattle.cells.specs.Reads.{CellIs}
 use Rattle.table_rows.proofs.Scans.{left-all, left-done}
+use Rattle.format.proofs.Cell.{row-cell}
 use Rattle.runs.specs.Runs.{entriesAt}
 use Rattle.entry_runs.specs.Fitting.{runsFit}
 use Rattle.entry_runs.specs.declared.RunCount.{RunCount}
 use Rattle.entry_runs.proofs.Choices.{runs-told, unfit-told}
-use Rattle.encode_map.proofs.Bodies.{map-cell, body-size, runs-within}
+use Rattle.encode_map.proofs.Bodies.{body-size, runs-within}
 use Rattle.encode_cpi.specs.Cpi.{Counted, fewRuns, entriesFit, mapRows, entryRows, cpiLengthOf, testedOf}
 use Rattle.encode_cpi.specs.declared.Length.{Length}
 use Rattle.encode_cpi.specs.declared.Tested.{Tested}
@@ -86,7 +87,7 @@ module _ (maps : List ℕ) (n : ℕ) (entries : List ℕ) (m : ℕ) where
 
     -- its type
     type-is : type ≡ mapType (mapRow maps n entries m k)
-    type-is = map-cell maps (12 * k) 1 (omega arith) kind
+    type-is = row-cell maps 3 (12 * k) 1 (omega arith) refl (kind .same)
 
     -- the entries left: its own, and those of the maps behind it
     fit-turn : both (every (entryFits type) own) (everyMap entriesFit (mapsLeft maps n entries m (k + 1)) (entriesLeft maps n entries m (j + c)))

@@ -1,6 +1,6 @@
 -- The walk over maps, each with its own entries: what is left of both tables after k maps and j entries.
 use Prim.Native.Nat.{ℕ, _+_, _*_, _-_, _^_, _<_, _≤_}
-use mathlib.Core.Path.{_≡_}
+use mathlib.Core.Path.{_≡_, refl}
 use mathlib.Core.List.{List, [], _∷_, _++_}
 use mathlib.Core.Bool.{Bool, true}
 use native.Mathlib.Nat.{le-div-iff-mul-le}
@@ -20,8 +20,8 @@ use Rattle.format.proofs.Rows.{rows-length, take-rows, drop-rows}
 use Rattle.format.proofs.Tests.{both-true}
 use Rattle.cells.specs.Reads.{CellIs}
 use Rattle.table_rows.proofs.Scans.{rowsLeft, left-all, left-turn}
+use Rattle.format.proofs.Cell.{row-cell}
 use Rattle.runs.specs.Runs.{entriesAt}
-use Rattle.encode_map.proofs.Bodies.{map-cell}
 use Rattle.encode_cpi.specs.Cpi.{BothThere, Counted, fewRuns, mapRows, entryRows}
 
 -- ---- one map
@@ -124,7 +124,7 @@ module _ (maps : List ℕ) (n : ℕ) (entries : List ℕ) (m : ℕ) where
     module _ {c : ℕ} (cell : CellIs maps (12 * k + 8) c) where
       -- its count
       count-is : c ≡ entryCount (mapRow k)
-      count-is = map-cell maps (12 * k) 2 (omega arith) cell
+      count-is = row-cell maps 3 (12 * k) 2 (omega arith) refl (cell .same)
 
       -- and what the maps behind it count
       counts : c + total entryCount (mapsLeft (k + 1)) ≡ m - j

@@ -13,7 +13,7 @@ use Rattle.format.specs.ClipRecord.{Row, mapType, entryCount}
 use Rattle.format.specs.Refusals.{everyMap}
 use Rattle.format.specs.Rewriting.{runs, bodyBytes, bodies, headerBytes, headers, cpiBytesBy}
 use Rattle.format.specs.Tables.{cellAt, tableRows, mapCells, entryCells}
-use Rattle.format.proofs.Cell.{item-at}
+use Rattle.format.proofs.Cell.{row-cell}
 use Rattle.format.proofs.Cpi.{header-length, headers-length}
 use Rattle.format.proofs.Numbers.{bytes-length}
 use Rattle.format.proofs.Stores.{sets-append, part-then, field-then, field-last}
@@ -94,7 +94,7 @@ module _ (maps : List ℕ) (n : ℕ) (entries : List ℕ) (m : ℕ) where
   -- the cell of a map's count
   count-cell : (j k : ℕ) → Walk maps n entries m j k → k < n → CellIs maps (12 * k + 8) (cellAt maps (12 * k + 8))
   count-cell j k w h =
-      let is : cellAt maps (12 * k + 8) ≡ entryCount (mapRow maps n entries m k) = sym (item-at (cellAt maps) 0 4 (12 * k) 3 2 (omega arith)) in
+      let is : cellAt maps (12 * k + 8) ≡ entryCount (mapRow maps n entries m k) = row-cell maps 3 (12 * k) 2 (omega arith) refl refl in
       record { same = refl; below = omega (arith, is, row-fits maps n entries m j k w h .count-fits) }
 
   -- the counts from map k on

@@ -5,7 +5,7 @@ use mathlib.Core.List.{List, [], _∷_, _++_, append-nil}
 use mathlib.Core.Bool.{Bool, true, false}
 use native.Mathlib.Numerals.{add-one}
 use native.Mathlib.Omega.{arith}
-use lib.ListN.{length, getD, length-append}
+use lib.ListN.{length, length-append}
 use lib.Seq.{sets, length-sets}
 use lib.Dec.{eqb}
 use Rattle.format.specs.Bytes.{both, every, bytesOf, fieldBytes, fits, packed, rowsAt, flat}
@@ -13,8 +13,7 @@ use Rattle.format.specs.ClipRecord.{Row, mapPid, mapType, angle, iEnd, time, en
 use Rattle.format.specs.EntryPoints.{headerWidths, coarseWidths}
 use Rattle.format.specs.Refusals.{entryFits}
 use Rattle.format.specs.Rewriting.{sameRun, unlessSame, coarseRow, coarseRows, runs, coarseBytes, fineBytes, bodyBytes, headerBytes}
-use Rattle.format.specs.Tables.{cellAt, cellsAt}
-use Rattle.format.proofs.Cell.{item-at}
+use Rattle.format.specs.Tables.{cellsAt}
 use Rattle.format.proofs.Cpi.{body-length}
 use Rattle.format.proofs.Fields.{Fit, one, fits-fit}
 use Rattle.format.proofs.Loops.{flat-append}
@@ -25,7 +24,8 @@ use Rattle.format.proofs.Rows.{all-rows, rows-length, flat-length}
 use Rattle.format.proofs.Tests.{both-true}
 use Rattle.cells.specs.Reads.{CellIs}
 use Rattle.runs.specs.Runs.{entriesAt, entriesFrom, keyed, pairRow, PairIs, begun}
-use Rattle.runs.proofs.Runs.{entry-cell, left-all, left-turn, left-done, begun-none, begun-first, begun-later, begun-few}
+use Rattle.format.proofs.Cell.{row-cell}
+use Rattle.runs.proofs.Runs.{left-all, left-turn, left-done, begun-none, begun-first, begun-later, begun-few}
 use Rattle.encode_map.specs.Bodies.{EntriesFit, ownCoarse}
 use Rattle.map_rows.proofs.Puts.{sets-before, put-below}
 
@@ -57,9 +57,8 @@ every-row test row p (suc n) (suc k) h l =
 pub entry-narrow : (t : List ℕ) (q type : ℕ) {a i : ℕ} → entryFits type (cellsAt t 5 q) ≡ true → CellIs t q a → CellIs t (q + 4) i → (a < 2 ^ 1) × (i < 2 ^ 3)
 entry-narrow t q type {a} {i} f c d =
     let fits = narrow type (cellsAt t 5 q) f in
-    let first : q + 4 * 0 ≡ q = omega arith in
-    let a′ : a ≡ angle (cellsAt t 5 q) = entry-cell t q 0 (omega arith) (rw first c) in
-    let i′ : i ≡ iEnd (cellsAt t 5 q) = entry-cell t q 1 (omega arith) d in
+    let a′ : a ≡ angle (cellsAt t 5 q) = row-cell t 5 q 0 (omega arith) (omega arith) (c .same) in
+    let i′ : i ≡ iEnd (cellsAt t 5 q) = row-cell t 5 q 1 (omega arith) refl (d .same) in
     (rw a′ (fits .angle-fits), rw i′ (fits .end-fits))
 
 -- each of n entries that fit does
@@ -72,14 +71,13 @@ row-fits t p n k f h = every-row (entryFits (f .type)) (cellsAt t 5) p n k (f .f
 pub fine-put : (t : List ℕ) (q pair : ℕ) (o : List ℕ) (at : ℕ) {a b c d : ℕ} {o′ : List ℕ} → CellIs t q a → CellIs t (q + 4) b → PairIs t q pair → c ≡ pair % 4294967296 → d ≡ pair / 4294967296
     → o′ ≡ sets o at (fineBytes (a ∷ b ∷ c ∷ d ∷ [])) → o′ ≡ sets o at (fineBytes (cellsAt t 5 q))
 fine-put t q pair o at {a = v} a b is c d put =
-    let first : q + 4 * 0 ≡ q = omega arith in
-    let a′ : v ≡ angle (cellsAt t 5 q) = entry-cell t q 0 (omega arith) (rw first a) in
-    put ∙ rw (c, d, a′, entry-cell t q 1 (omega arith) b, entry-cell t q 2 (omega arith) (is .time), entry-cell t q 3 (omega arith) (is .packet))
+    let a′ : v ≡ angle (cellsAt t 5 q) = row-cell t 5 q 0 (omega arith) (omega arith) (a .same) in
+    put ∙ rw (c, d, a′, row-cell t 5 q 1 (omega arith) refl (b .same), row-cell t 5 q 2 (omega arith) refl (is .time .same), row-cell t 5 q 3 (omega arith) refl (is .packet .same))
 
 -- an entry by its pair has the entry's coarse row
 pub own-pairs : (t : List ℕ) (q q′ k : ℕ) {before pair : ℕ} → PairIs t q before → PairIs t q′ pair → ownCoarse k (pairRow before) (pairRow pair) ≡ ownCoarse k (cellsAt t 5 q) (cellsAt t 5 q′)
 own-pairs t q q′ k b w =
-    rw (entry-cell t q 2 (omega arith) (b .time), entry-cell t q 3 (omega arith) (b .packet), entry-cell t q′ 2 (omega arith) (w .time), entry-cell t q′ 3 (omega arith) (w .packet))
+    rw (row-cell t 5 q 2 (omega arith) refl (b .time .same), row-cell t 5 q 3 (omega arith) refl (b .packet .same), row-cell t 5 q′ 2 (omega arith) refl (w .time .same), row-cell t 5 q′ 3 (omega arith) refl (w .packet .same))
 
 -- a coarse row stored by its numbers is that of the pair
 pub pair-put : (k pair : ℕ) (o : List ℕ) (at : ℕ) {a b : ℕ} {o′ : List ℕ} → a ≡ pair % 4294967296 → b ≡ pair / 4294967296
@@ -89,7 +87,7 @@ pair-put k pair o at a b put = put ∙ rw (a, b)
 -- and that of the entry
 pub coarse-put : (t : List ℕ) (q k pair : ℕ) (o : List ℕ) (at : ℕ) {a b : ℕ} {o′ : List ℕ} → PairIs t q pair → a ≡ pair % 4294967296 → b ≡ pair / 4294967296
     → o′ ≡ sets o at (coarseBytes (coarseRow k (keyed a b))) → o′ ≡ sets o at (coarseBytes (coarseRow k (cellsAt t 5 q)))
-coarse-put t q k pair o at is a b put = pair-put k pair o at a b put ∙ rw (entry-cell t q 2 (omega arith) (is .time), entry-cell t q 3 (omega arith) (is .packet))
+coarse-put t q k pair o at is a b put = pair-put k pair o at a b put ∙ rw (row-cell t 5 q 2 (omega arith) refl (is .time .same), row-cell t 5 q 3 (omega arith) refl (is .packet .same))
 
 -- in the run of the entry before it an entry has no coarse row
 pub own-none : (k : ℕ) (before e : Row) {s : Bool} → s ≡ sameRun before e → s ≡ true → ownCoarse k before e ≡ []
@@ -281,17 +279,12 @@ body-below es o coarse fine {o₁} e h p q =
 
 -- ---- the header
 
--- cells 0 and 1 of a map's row
-pub map-cell : (t : List ℕ) (q j : ℕ) {v : ℕ} → j < 3 → CellIs t (q + 4 * j) v → v ≡ getD (cellsAt t 3 q) j 0
-map-cell t q j h c = c .same ∙ sym (item-at (cellAt t) 0 4 q 3 j h)
-
 -- a header stored by its numbers is the map's
 pub header-is : (t : List ℕ) (p n : ℕ) (maps : List ℕ) (q address : ℕ) {pid kind count : ℕ} → CellIs maps q pid → CellIs maps (q + 4) kind → count ≡ runs (entriesAt t p n)
     → fieldBytes (2 ∷ 6 ∷ 4 ∷ []) (pid ∷ packed headerWidths (0 ∷ kind ∷ count ∷ n ∷ []) ∷ address ∷ []) ≡ headerBytes (cellsAt maps 3 q) (entriesAt t p n) address
 header-is t p n maps q address {pid} {kind} {count} a b e =
-    let first : q + 4 * 0 ≡ q = omega arith in
-    let a′ : pid ≡ mapPid (cellsAt maps 3 q) = map-cell maps q 0 (omega arith) (rw first a) in
-    let b′ : kind ≡ mapType (cellsAt maps 3 q) = map-cell maps q 1 (omega arith) b in
+    let a′ : pid ≡ mapPid (cellsAt maps 3 q) = row-cell maps 3 q 0 (omega arith) (omega arith) (a .same) in
+    let b′ : kind ≡ mapType (cellsAt maps 3 q) = row-cell maps 3 q 1 (omega arith) refl (b .same) in
     let row = cellsAt maps 3 q in
     let es = entriesAt t p n in
     let counts : 0 ∷ kind ∷ count ∷ n ∷ [] ≡ 0 ∷ mapType row ∷ runs es ∷ length es ∷ [] = rw (b′, e, rows-length (cellsAt t 5) (λ q. q + 20) p n) in

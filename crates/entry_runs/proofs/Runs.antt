@@ -15,7 +15,8 @@ use Rattle.format.specs.Tables.{cellsAt}
 use Rattle.format.proofs.Rows.{rows-length, drop-rows}
 use Rattle.format.proofs.Tests.{true-both, left-fails, picked, not-picked}
 use Rattle.runs.specs.Runs.{entriesAt, entriesFrom, pairRow, PairIs, runEnd, endFrom, coarseFrom}
-use Rattle.runs.proofs.Runs.{run-ends, after-run, coarse-all, entry-cell, left-all, left-turn, left-done}
+use Rattle.format.proofs.Cell.{row-cell}
+use Rattle.runs.proofs.Runs.{run-ends, after-run, coarse-all, left-all, left-turn, left-done}
 use Rattle.entry_runs.specs.Fitting.{fitUntil, endFit, runsFit}
 use Rattle.entry_runs.specs.declared.RunEnd.{RunEnd}
 use Rattle.entry_runs.specs.declared.RunCount.{RunCount}
@@ -66,7 +67,7 @@ module _ (t : List ℕ) (p n type : ℕ) where
       -- row k is compared with the run's first
       same-as : s ≡ sameRun (entryRow from) (entryRow k)
       same-as =
-          is ∙ rw (entry-cell t (p + 20 * from) 2 (omega arith) (one .time), entry-cell t (p + 20 * from) 3 (omega arith) (one .packet), entry-cell t (p + 20 * k) 2 (omega arith) (two .time), entry-cell t (p + 20 * k) 3 (omega arith) (two .packet))
+          is ∙ rw (row-cell t 5 (p + 20 * from) 2 (omega arith) refl (one .time .same), row-cell t 5 (p + 20 * from) 3 (omega arith) refl (one .packet .same), row-cell t 5 (p + 20 * k) 2 (omega arith) refl (two .time .same), row-cell t 5 (p + 20 * k) 3 (omega arith) refl (two .packet .same))
 
       -- it is the first behind the run
       pub along-stop : not s ≡ true → RunEnd.At k ≡ endFit type from (entriesFrom t p n from)

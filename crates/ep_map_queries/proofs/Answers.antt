@@ -9,8 +9,8 @@ use lib.ListN.{length}
 use Rattle.format.specs.ClipRecord.{Row, entryCount, time, packet}
 use Rattle.format.specs.Questions.{Question, partsOf, Answer, refused, number, ofRow, ownRows, ofMap, answer, ask}
 use Rattle.format.specs.Questions as of
-use Rattle.format.specs.Tables.{Table, rowsOf, cellAt, cellsAt, clipIn, mapCells, entryCells}
-use Rattle.format.proofs.Cell.{item-at}
+use Rattle.format.specs.Tables.{Table, rowsOf, cellsAt, clipIn, mapCells, entryCells}
+use Rattle.format.proofs.Cell.{row-cell, item-at}
 use Rattle.format.proofs.Lookups.{before-row, after-row}
 use Rattle.cells.specs.Reads.{CellIs}
 use Rattle.queries.specs.Asked.{mapsAndEntries}
@@ -67,6 +67,5 @@ module _ (t : List ℕ) (first count at : ℕ) where
   pub packet-is : (k : ℕ) {v : ℕ} → k < count → CellIs t (20 * (first + k) + 12) v → number v ≡ ofRow packet (entriesAt t first count) (number k)
   packet-is k h c =
       let row = item-at (cellsAt t entryCells) [] (4 * entryCells) (4 * entryCells * first) count k h in
-      let p : 20 * (first + k) + 12 ≡ 4 * entryCells * first + 4 * entryCells * k + 4 * 3 = omega arith in
-      let cell = item-at (cellAt t) 0 4 (4 * entryCells * first + 4 * entryCells * k) entryCells 3 (lit< tt) in
-      ap (λ (x : ℕ). number x) (c .same ∙ ap (cellAt t) p ∙ sym cell ∙ ap (λ (r : Row). packet r) (sym row))
+      let cell = row-cell t entryCells (4 * entryCells * first + 4 * entryCells * k) 3 (lit< tt) (omega arith) (c .same) in
+      ap (λ (x : ℕ). number x) (cell ∙ ap (λ (r : Row). packet r) (sym row))

@@ -8,8 +8,8 @@ use native.Mathlib.Omega.{arith}
 use lib.Dec.{lit<}
 use lib.ListN.{length, getD, length-map, List·getD-map}
 use Rattle.format.specs.ClipRecord.{Row, time}
-use Rattle.format.specs.Tables.{cellAt, cellsAt, entryCells}
-use Rattle.format.proofs.Cell.{item-at}
+use Rattle.format.specs.Tables.{cellsAt, entryCells}
+use Rattle.format.proofs.Cell.{row-cell, item-at}
 use Rattle.format.proofs.Rows.{rows-length}
 use Rattle.cells.specs.Reads.{CellIs}
 use Rattle.nearest.specs.Nearest.{far, noneYet, closerOf, rowFound, NearestIn}
@@ -30,9 +30,8 @@ module _ (entries : List ℕ) (first count : ℕ) where
   time-at : (k : ℕ) {x : ℕ} → k < count → CellIs entries (20 * first + 8 + 20 * k) x → x ≡ getD times k 0
   time-at k h c =
       let row = item-at (cellsAt entries entryCells) [] (4 * entryCells) (4 * entryCells * first) count k h in
-      let p : 20 * first + 8 + 20 * k ≡ 4 * entryCells * first + 4 * entryCells * k + 4 * 2 = omega arith in
-      let cell = item-at (cellAt entries) 0 4 (4 * entryCells * first + 4 * entryCells * k) entryCells 2 (lit< tt) in
-      c .same ∙ ap (cellAt entries) p ∙ sym cell ∙ ap (λ (r : Row). time r) (sym row) ∙ sym (List·getD-map time (entriesAt entries first count) k [])
+      let cell = row-cell entries entryCells (4 * entryCells * first + 4 * entryCells * k) 2 (lit< tt) (omega arith) (c .same) in
+      cell ∙ ap (λ (r : Row). time r) (sym row) ∙ sym (List·getD-map time (entriesAt entries first count) k [])
 
   module _ (side : Bool) (at : ℕ) where
     -- k entries are looked at

@@ -9,9 +9,9 @@ use Rattle.format.specs.Bytes.{rowsAt}
 use Rattle.format.specs.ClipRecord.{entryTime}
 use Rattle.format.specs.Ticks.{Ticks90, less90}
 use Rattle.format.specs.Questions.{none, ticks90, lastOf, spanOf, indexedSpan90k, answer}
-use Rattle.format.specs.Tables.{Table, cellAt, cellsAt, clipIn, entryCells}
-use Rattle.format.proofs.Cell.{item-at}
+use Rattle.format.specs.Tables.{Table, cellsAt, clipIn, entryCells}
 use Rattle.cells.specs.Reads.{CellIs}
+use Rattle.format.proofs.Cell.{row-cell}
 use Rattle.ep_map_queries.specs.InMap.{entriesAt}
 use Rattle.ep_map_queries.proofs.Answers.{AsksMap}
 use Rattle.ep_map_times.specs.Ends.{endIn, endQuestion}
@@ -19,8 +19,7 @@ use Rattle.ep_map_times.specs.Ends.{endIn, endQuestion}
 -- an entry's time by its cell
 pub time-is : (t : List ℕ) (entry : ℕ) {x : ℕ} → CellIs t (20 * entry + 8) x → record { ticks = x } ≡ entryTime (cellsAt t entryCells (4 * entryCells * entry))
 time-is t entry c =
-    let q : 20 * entry + 8 ≡ 4 * entryCells * entry + 4 * 2 = omega arith in
-    ap (λ (x : ℕ). record { ticks = x }) (c .same ∙ ap (cellAt t) q ∙ sym (item-at (cellAt t) 0 4 (4 * entryCells * entry) entryCells 2 (lit< tt)))
+    ap (λ (x : ℕ). record { ticks = x }) (row-cell t entryCells (4 * entryCells * entry) 2 (lit< tt) (omega arith) (c .same))
 
 -- the last of rows behind a row
 last-is : (t : List ℕ) (p n : ℕ) → lastOf (entryTime (cellsAt t entryCells p)) (rowsAt (cellsAt t entryCells) (λ q. q + 4 * entryCells) (p + 20) n) ≡ entryTime (cellsAt t entryCells (p + 20 * n))

@@ -12,8 +12,9 @@ use Rattle.format.specs.Bytes.{both}
 use Rattle.format.specs.Questions.{refused, none, number}
 use Rattle.format.specs.Tables.{isStated, cellsAt, tableRows, extensionCells}
 use Rattle.cells.specs.Reads.{CellIs}
+use Rattle.format.proofs.Cell.{row-cell}
 use Rattle.queries.specs.Asked.{stated}
-use Rattle.table_rows.proofs.Scans.{rowsLeft, left-all, left-turn, left-done, cell-in}
+use Rattle.table_rows.proofs.Scans.{rowsLeft, left-all, left-turn, left-done}
 use Rattle.extension_queries.specs.ById.{entryById, askEntry}
 
 -- the first id differs, or the second decides
@@ -44,10 +45,10 @@ module _ (t : List ℕ) (n id1 id2 : ℕ) where
   module _ (k : ℕ) {a b : ℕ} {p : Bool} (h : k < n) (one : CellIs t (16 * k) a) (two : CellIs t (16 * k + 4) b) (is : p ≡ both (eqb a id1) (eqb b id2)) (i : Searched k) where
     -- the ids that were read are the row's
     is-one : a ≡ getD (cellsAt t extensionCells (4 * extensionCells * k)) 0 0
-    is-one = cell-in extensionCells t n k 0 (lit< tt) (omega arith) (one .same)
+    is-one = row-cell t extensionCells (4 * extensionCells * k) 0 (lit< tt) (omega arith) (one .same)
 
     is-two : b ≡ getD (cellsAt t extensionCells (4 * extensionCells * k)) 1 0
-    is-two = cell-in extensionCells t n k 1 (lit< tt) (omega arith) (two .same)
+    is-two = row-cell t extensionCells (4 * extensionCells * k) 1 (lit< tt) (omega arith) (two .same)
 
     pub row-fails : p ≡ false → Searched (k + 1)
     unfolding entryById

@@ -16,18 +16,20 @@ item-at row none w p (suc n) (suc k) h =
     let e : p + w + w * k ≡ p + w * suc k = rw mul-suc (omega arith) in
     item-at row none w (p + w) n k (omega arith) ∙ ap row e
 
+-- what is read at the place of cell j of the row at q is that cell
+pub row-cell : (t : List ℕ) (cells q j : ℕ) {at r : ℕ} → j < cells → at ≡ q + 4 * j → r ≡ cellAt t at → r ≡ getD (cellsAt t cells q) j 0
+row-cell t cells q j h e is = is ∙ ap (cellAt t) e ∙ sym (item-at (cellAt t) 0 4 q cells j h)
+
 module _ (cells : ℕ) (t : List ℕ) (n k j : ℕ) (row : k < n) (cell : j < cells) where
   -- where the cell stands
   place : 0 + 4 * cells * k + 4 * j ≡ 4 * (cells * k + j)
   place = rw (mul-assoc 4 cells k) (omega arith)
 
-  -- what is read at the cell's place is the cell of the row
+  -- so with a row of a table
   pub cell-of : {at r : ℕ} → at ≡ 4 * (cells * k + j) → r ≡ cellAt t at → r ≡ getD (getD (tableRows cells t n) k []) j 0
   unfolding tableRows
   cell-of e is =
-      is
-      ∙ ap (cellAt t) (e ∙ sym place)
-      ∙ sym (item-at (cellAt t) 0 4 (0 + 4 * cells * k) cells j cell)
+      row-cell t cells (0 + 4 * cells * k) j cell (e ∙ sym place) is
       ∙ sym (ap (λ (cs : List ℕ). getD cs j 0) (item-at (cellsAt t cells) [] (4 * cells) 0 n k row))
 
   -- the cell's four bytes lie inside a table that has room for the rows

@@ -1,6 +1,6 @@
 -- Lines of rows, and what a caller learns of the text.
 use Prim.Native.Nat.{ℕ, _+_, _*_, _-_, _<_, _≤_}
-use mathlib.Core.Path.{_≡_, refl, sym, ap, ap₂, subst, _∙_}
+use mathlib.Core.Path.{_≡_, refl, ap, ap₂, subst, _∙_}
 use mathlib.Core.List.{List, [], _∷_, _++_}
 use native.Mathlib.Omega.{arith}
 use lib.ListN.{length, getD, take, drop}
@@ -8,32 +8,28 @@ use lib.Seq.{take-at}
 use lib.Dec.{lit<}
 use Rattle.format.specs.Bytes.{flat, total}
 use Rattle.format.specs.ClipRecord.{Row, Record, entryCount}
-use Rattle.format.specs.Tables.{cellAt, cellsAt, mapCells, entryCells}
+use Rattle.format.specs.Tables.{cellsAt, mapCells, entryCells}
 use Rattle.format.specs.Listing.{line, mapWord, epWord, epLine, mapLine, mapLines, recordLines}
-use Rattle.format.proofs.Cell.{item-at}
 use Rattle.format.proofs.Loops.{one-left, none-left, total-turn, sets-front}
 use Rattle.format.proofs.Rows.{take-rows, drop-rows}
 use Rattle.cells.specs.Reads.{CellIs}
+use Rattle.format.proofs.Cell.{row-cell}
 use Rattle.text_lines.specs.Stored.{WroteIn}
 use Rattle.listing.specs.Text.{Shows, Numbers, mapsFrom, entriesFrom, recordRoom, numbersOf, recordText}
 
 -- ---- rows of a table
 
--- a cell that was read 4 * j behind the row's place is cell j of the row
-pub cell-is : (t : List ℕ) (cells q j : ℕ) {v : ℕ} → j < cells → CellIs t (q + 4 * j) v → v ≡ getD (cellsAt t cells q) j 0
-cell-is t cells q j h c = c .same ∙ sym (item-at (cellAt t) 0 4 q cells j h)
-
 -- the line of an entry from its two cells
 pub entry-line : (t : List ℕ) (q : ℕ) {v w : ℕ} → CellIs t (q + 8) v → CellIs t (q + 12) w
     → line epWord (v ∷ w ∷ []) ≡ epLine (cellsAt t entryCells q)
 entry-line t q a b =
-    ap₂ (λ (v w : ℕ). line epWord (v ∷ w ∷ [])) (cell-is t entryCells q 2 (lit< tt) a) (cell-is t entryCells q 3 (lit< tt) b)
+    ap₂ (λ (v w : ℕ). line epWord (v ∷ w ∷ [])) (row-cell t entryCells q 2 (lit< tt) refl (a .same)) (row-cell t entryCells q 3 (lit< tt) refl (b .same))
 
 -- the line of a map from its three cells
 pub map-line : (t : List ℕ) (q : ℕ) {u v w : ℕ} → CellIs t q u → CellIs t (q + 4) v → CellIs t (q + 8) w
     → line mapWord (u ∷ v ∷ w ∷ []) ≡ mapLine (cellsAt t mapCells q)
 map-line t q {u} {v} {w} a b c =
-    ap₂ (λ (v w : ℕ). line mapWord (u ∷ v ∷ w ∷ [])) (cell-is t mapCells q 1 (lit< tt) b) (cell-is t mapCells q 2 (lit< tt) c)
+    ap₂ (λ (v w : ℕ). line mapWord (u ∷ v ∷ w ∷ [])) (row-cell t mapCells q 1 (lit< tt) refl (b .same)) (row-cell t mapCells q 2 (lit< tt) refl (c .same))
     ∙ ap (λ (u : ℕ). line mapWord (u ∷ getD (cellsAt t mapCells q) 1 0 ∷ getD (cellsAt t mapCells q) 2 0 ∷ [])) (a .same)
 
 -- ---- entries: what is left after i of n

@@ -11,13 +11,13 @@ use Rattle.format.specs.Bytes.{both, pick}
 use Rattle.format.specs.ClipRecord.{Row}
 use Rattle.format.specs.Questions.{Question, Part, partsOf, partStated, Answer, refused, none, number, firstWhere, nextWhere, unless22, ofRow, answer, ask}
 use Rattle.format.specs.Tables.{Table, ClipTables, isStated, rowsOf, cellsAt, tableRows, clipIn}
-use Rattle.format.proofs.Cell.{cell-of}
+use Rattle.format.proofs.Cell.{row-cell, cell-of}
 use Rattle.cells.specs.Reads.{CellIs}
 use Rattle.queries.specs.Asked.{stated}
 use Rattle.table_rows.specs.OwnRows.{cellIn}
 use Rattle.row_search.specs.FirstRow.{testOf, askRow}
 use Rattle.row_search.specs.declared.Test.{Test}
-use Rattle.table_rows.proofs.Scans.{drop-map, cell-in, First, first-turn, first-found, first-none}
+use Rattle.table_rows.proofs.Scans.{drop-map, First, first-turn, first-found, first-none}
 
 module _ (t : List ℕ) (n cells cell from : ℕ) (test : Test) where
   -- what is found from row k on is what is found of all
@@ -28,7 +28,7 @@ module _ (t : List ℕ) (n cells cell from : ℕ) (test : Test) where
   value : (k : ℕ) {v : ℕ} {p : Bool} → cell < cells → CellIs t (4 * (cells * k + cell)) v → p ≡ testOf test v → p ≡ testOf test (cellIn cell (cellsAt t cells (4 * cells * k)))
   value k j c is =
       let place : 4 * (cells * k + cell) ≡ 4 * cells * k + 4 * cell = rw (mul-assoc 4 cells k) (omega arith) in
-      is ∙ ap (testOf test) (cell-in cells t n k cell j place (c .same))
+      is ∙ ap (testOf test) (row-cell t cells (4 * cells * k) cell j place (c .same))
 
   -- rows that are not there
   pub not-stated : {b : Bool} → b ≡ isStated cells (stated t n) → not b ≡ true → refused 22 ≡ askRow cells cell from test (stated t n)

@@ -6,18 +6,16 @@ use mathlib.Core.Bool.{Bool, true, false}
 use native.Mathlib.Numerals.{add-one}
 use native.Mathlib.Omega.{arith}
 use borrow.Author.Tests.{eqb-true, eqb-false, eq-eqb, ne-eqb}
-use lib.ListN.{length, getD, drop}
+use lib.ListN.{length, drop}
 use lib.Bits.{bitAnd}
 use lib.Dec.{eqb}
 use Rattle.format.specs.Bytes.{both, pick}
 use Rattle.format.specs.ClipRecord.{Row, time, packet}
 use Rattle.format.specs.Rewriting.{timeKey, packetKey, sameRun, coarseRow, unlessSame, coarseAfter, coarseRows, runs}
-use Rattle.format.specs.Tables.{cellAt, cellsAt}
-use Rattle.format.proofs.Cell.{item-at}
+use Rattle.format.specs.Tables.{cellsAt}
 use Rattle.format.proofs.Fields.{words-masked}
 use Rattle.format.proofs.Loops.{one-left, none-left}
 use Rattle.format.proofs.Tests.{both-true}
-use Rattle.cells.specs.Reads.{CellIs}
 use Rattle.runs.specs.Runs.{entriesAt, entriesFrom, keyed, runKey, runEnd, coarseFrom, begun}
 
 -- ---- keys
@@ -102,10 +100,6 @@ coarse-all [] = refl
 coarse-all (x ∷ xs) = refl
 
 -- ---- entries in a table
-
--- what is read at the place of cell j of the entry at q is that cell
-pub entry-cell : (t : List ℕ) (q j : ℕ) {v : ℕ} → j < 5 → CellIs t (q + 4 * j) v → v ≡ getD (cellsAt t 5 q) j 0
-entry-cell t q j h c = c .same ∙ sym (item-at (cellAt t) 0 4 q 5 j h)
 
 module _ (t : List ℕ) (p n : ℕ) where
   -- before the first turn all are left

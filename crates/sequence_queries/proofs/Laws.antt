@@ -11,12 +11,12 @@ use Rattle.format.specs.ClipRecord.{Row, stcStart}
 use Rattle.format.specs.Ticks.{Ticks45, Ticks90, doubled, less45, less90, minutes}
 use Rattle.format.specs.Questions.{Question, firstStcSequence, minutesRemaining, presentationSpan90k, Answer, refused, none, number, ticks90, stcs, partsOf, latestEnd, leastStart, presentationSpan, minutesLeft, durationOf, ofStc, answer, ask}
 use Rattle.format.specs.Tables.{cellsAt, tableRows, stcCells, isStated, clipIn}
-use Rattle.format.proofs.Cell.{cell-of}
+use Rattle.format.proofs.Cell.{row-cell, cell-of}
 use Rattle.format.proofs.Rows.{rows-length}
 use Rattle.cells.specs.Reads.{CellIs}
 use Rattle.queries.specs.Asked.{stated, onlyStcs}
 use Rattle.queries.proofs.Asking.{answered}
-use Rattle.table_rows.proofs.Scans.{rowsLeft, left-all, left-turn, left-done, cell-in}
+use Rattle.table_rows.proofs.Scans.{rowsLeft, left-all, left-turn, left-done}
 
 module _ (t : List ℕ) (n : ℕ) where
   -- the latest of the ends seen and those left is that of all
@@ -28,7 +28,7 @@ module _ (t : List ℕ) (n : ℕ) where
 
   pub latest-turn : (k latest : ℕ) {at v r : ℕ} → k < n → at ≡ 16 * k + 12 → CellIs t at v → r ≡ max latest v → Latest k latest → Latest (k + 1) r
   latest-turn k latest {v = v} h e c m i =
-      let end = cell-in stcCells t n k 3 (lit< tt) e (c .same) in
+      let end = row-cell t stcCells (4 * stcCells * k) 3 (lit< tt) e (c .same) in
       let i′ = rw (left-turn stcCells t n k h) at i in
       omega (arith, end, m, i′)
 
@@ -47,7 +47,7 @@ module _ (t : List ℕ) (n : ℕ) where
 
   pub least-turn : {whole : Ticks45} (k least : ℕ) {at v r : ℕ} → k < n → at ≡ 16 * k + 8 → CellIs t at v → r ≡ min least v → Least whole k least → Least whole (k + 1) r
   least-turn k least h e c m i =
-      let start = cell-in stcCells t n k 2 (lit< tt) e (c .same) in
+      let start = row-cell t stcCells (4 * stcCells * k) 2 (lit< tt) e (c .same) in
       let i′ = rw (left-turn stcCells t n k h) at i in
       rw (m, start) i′
 
@@ -90,7 +90,7 @@ module _ (t : List ℕ) (n : ℕ) where
   unfolding answer clipIn
   span-is some {v = v} c a b d e s =
       let rows = sym (left-all stcCells t n) ∙ left-turn stcCells t n 0 (omega arith) in
-      let start = cell-in stcCells t n 0 2 (lit< tt) refl (c .same) in
+      let start = row-cell t stcCells (4 * stcCells * 0) 2 (lit< tt) refl (c .same) in
       let span = span-of (cellsAt t stcCells (4 * stcCells * 0)) (rowsLeft stcCells t n 1) v start in
       rw (s, b, e, a, d, rows) (ap (λ (x : Ticks90). ticks90 x) span)
 

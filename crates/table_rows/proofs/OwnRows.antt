@@ -12,14 +12,14 @@ use Rattle.format.specs.Bytes.{both, pick, total, rowsAt}
 use Rattle.format.specs.ClipRecord.{Row}
 use Rattle.format.specs.Questions.{Answer, refused, unless22, firstRow, ownRows}
 use Rattle.format.specs.Tables.{Table, isStated, addUp, isRow, rowsOf, cellsAt, tableRows, rowRoom}
-use Rattle.format.proofs.Cell.{cell-of}
+use Rattle.format.proofs.Cell.{row-cell, cell-of}
 use Rattle.format.proofs.Rows.{take-rows, drop-rows}
 use Rattle.format.proofs.Tables.{rows-stated}
 use Rattle.format.proofs.Tests.{both-true}
 use Rattle.cells.specs.Reads.{CellIs}
 use Rattle.queries.specs.Asked.{stated}
 use Rattle.table_rows.specs.OwnRows.{headCells, cellIn, isCounted, mayAsk, refusal, owns, ownedRows, rowsFrom}
-use Rattle.table_rows.proofs.Scans.{rowsLeft, left-all, left-turn, left-done, cell-in}
+use Rattle.table_rows.proofs.Scans.{rowsLeft, left-all, left-turn, left-done}
 
 module _ (t : List ℕ) (n cell : ℕ) where
   -- what was counted and what is left is all
@@ -32,7 +32,7 @@ module _ (t : List ℕ) (n cell : ℕ) where
 
   pub sum-turn : (k sum : ℕ) {v : ℕ} → cell < headCells → k < n → CellIs t (12 * k + 4 * cell) v → Sum k sum → Sum (k + 1) (sum + v)
   sum-turn k sum {v} j h c i =
-      let count = cell-in headCells t n k cell j refl (c .same) in
+      let count = row-cell t headCells (4 * headCells * k) cell j refl (c .same) in
       let rest = rw (left-turn headCells t n k h) at (i .rest) in
       record { small = omega (arith, i .small, c .below); rest = omega (arith, rest, count) }
 

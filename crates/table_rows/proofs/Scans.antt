@@ -1,19 +1,18 @@
 -- The rows of a table that are left while a loop goes over them.
 use Prim.Native.Nat.{ℕ, zero, suc, _+_, _*_, _-_, _<_, _≤_}
-use mathlib.Core.Path.{_≡_, refl, sym, ap, _∙_}
+use mathlib.Core.Path.{_≡_, refl, sym, ap}
 use mathlib.Core.List.{List, [], _∷_, map}
 use mathlib.Core.Bool.{Bool, true, false}
 use native.Mathlib.Nat.{mul-zero, mul-suc, mul-comm}
 use native.Mathlib.Numerals.{add-one}
 use native.Mathlib.Omega.{arith}
-use lib.ListN.{length, getD, drop}
+use lib.ListN.{length, drop}
 use lib.Dec.{leb}
 use borrow.Author.Tests.{leb-true, leb-false}
 use Rattle.format.specs.Bytes.{rowsAt}
 use Rattle.format.specs.ClipRecord.{Row}
 use Rattle.format.specs.Questions.{none, number, firstWhere, nextWhere}
-use Rattle.format.specs.Tables.{cellAt, cellsAt, tableRows}
-use Rattle.format.proofs.Cell.{item-at}
+use Rattle.format.specs.Tables.{cellsAt, tableRows}
 use Rattle.format.proofs.Rows.{rows-length, drop-rows}
 use Rattle.format.proofs.Loops.{one-left, none-left}
 
@@ -58,10 +57,6 @@ module _ (cells : ℕ) (t : List ℕ) (n : ℕ) where
       go false e =
           let m : n - k ≡ 0 = let l = leb-false k n e in omega arith in
           rw m (drop-beyond k (rowsAt (cellsAt t cells) (λ p. p + 4 * cells) 0 n) (rw (rows-length (cellsAt t cells) (λ p. p + 4 * cells) 0 n) (let l = leb-false k n e in omega arith)))
-
-  -- what is read at the place of cell j of row k is that cell
-  pub cell-in : (k j : ℕ) {at r : ℕ} → j < cells → at ≡ 4 * cells * k + 4 * j → r ≡ cellAt t at → r ≡ getD (cellsAt t cells (4 * cells * k)) j 0
-  cell-in k j h e is = is ∙ ap (cellAt t) e ∙ sym (item-at (cellAt t) 0 4 (4 * cells * k) cells j h)
 
 -- the numbers of the rows behind the first k
 pub drop-map : {A B : Type 0} (f : A → B) (k : ℕ) (xs : List A) → drop k (map f xs) ≡ map f (drop k xs)

@@ -1,6 +1,6 @@
 -- Each turn stores the next map's line and those of its entries; what is left to store is that of the maps and the entries that are left.
 use Prim.Native.Nat.{_+_, _*_, _-_, _≤_}
-use mathlib.Core.Path.{_≡_}
+use mathlib.Core.Path.{_≡_, refl}
 use native.Mathlib.Omega.{arith}
 use lib.Dec.{lit<}
 use denote.Ref.{now}
@@ -12,7 +12,8 @@ use Rattle.format.specs.Listing.{mapLines}
 use Rattle.text_lines.specs.Stored.{Still}
 use Rattle.listing.specs.Text.{mapsFrom, entriesFrom}
 use Rattle.text_lines.proofs.Laws.{in-then, still-as, still-turn, still-none, still-all}
-use Rattle.listing.proofs.Laws.{cell-is, counts-all, maps-all, counts-turn, maps-turn, maps-done}
+use Rattle.format.proofs.Cell.{row-cell}
+use Rattle.listing.proofs.Laws.{counts-all, maps-all, counts-turn, maps-turn, maps-done}
 use Rattle.listing.proofs.put_maps.Statement.{statement}
 use Rattle.listing.proofs.put_maps.Tie as tie
 
@@ -55,7 +56,7 @@ put-entries-requires c κs =
     let ms = now (a .maps) in
     let l = c .before .before .before .before .before .before .before .loop in
     let x = c .before .before .before .before .before .cell-at .result in
-    let count = cell-is ms mapCells (l .q) 2 (lit< tt) (c .before .before .before .before .before .cell-at .ensures) in
+    let count = row-cell ms mapCells (l .q) 2 (lit< tt) refl (c .before .before .before .before .before .cell-at .ensures .same) in
     let enough = counts-turn ms (l .q) (a .n) (l .i) (l .k) (a .m) x (omega arith) count (l .inv .2) in
     omega arith
 
@@ -80,7 +81,7 @@ loop-again c =
     let ms = now (a .maps) in
     let l = c .before .before .before .before .before .before .before .before .before .before .loop in
     let x = c .before .before .before .before .before .before .before .before .cell-at .result in
-    let count = cell-is ms mapCells (l .q) 2 (lit< tt) (c .before .before .before .before .before .before .before .before .cell-at .ensures) in
+    let count = row-cell ms mapCells (l .q) 2 (lit< tt) refl (c .before .before .before .before .before .before .before .before .cell-at .ensures .same) in
     let enough = counts-turn ms (l .q) (a .n) (l .i) (l .k) (a .m) x (omega arith) count (l .inv .2) in
     let es = now (a .entries) in
     let left = still-as (maps-turn ms (l .q) (a .n) (l .i) (l .k) (a .m) x (omega arith) count (l .inv .2) es) (l .inv .4) in
