@@ -23,6 +23,7 @@ STRICT = -std=c99 -Wall -Wextra -Wpedantic -Werror
 library = target/staticlib/libclpi.a
 lister = target/bin/list_clip
 rattle = crates.txt $(shell find crates -name '*.rt' -o -name '*.antt')
+examples = $(notdir $(wildcard examples/*.c examples/*.h))
 sources = tools/clip.c tools/list.h tools/words.h examples/clip_file.h examples/new_file.h include/clpi.h
 
 all: $(library) $(lister) target/install/clip
@@ -57,7 +58,7 @@ test:
 
 install: all
 	$(INSTALL) -d '$(DESTDIR)$(bindir)' '$(DESTDIR)$(libdir)' '$(DESTDIR)$(libexecdir)/clpi' '$(DESTDIR)$(includedir)' \
-	    '$(DESTDIR)$(pkgconfigdir)' '$(DESTDIR)$(mandir)/man1' '$(DESTDIR)$(mandir)/man3' '$(DESTDIR)$(docdir)'
+	    '$(DESTDIR)$(pkgconfigdir)' '$(DESTDIR)$(mandir)/man1' '$(DESTDIR)$(mandir)/man3' '$(DESTDIR)$(docdir)/examples'
 	$(INSTALL) -m 755 target/install/clip '$(DESTDIR)$(bindir)/clip'
 	$(INSTALL) -m 755 $(lister) '$(DESTDIR)$(libexecdir)/clpi/list_clip'
 	$(INSTALL) -m 644 $(library) '$(DESTDIR)$(libdir)/libclpi.a'
@@ -65,16 +66,18 @@ install: all
 	$(INSTALL) -m 644 man/clip.1 '$(DESTDIR)$(mandir)/man1/clip.1'
 	$(INSTALL) -m 644 man/clpi.3 '$(DESTDIR)$(mandir)/man3/clpi.3'
 	$(INSTALL) -m 644 NOTICE '$(DESTDIR)$(docdir)/NOTICE'
+	$(INSTALL) -m 644 $(addprefix examples/,$(examples)) '$(DESTDIR)$(docdir)/examples'
 	sed -e 's|@prefix@|$(prefix)|' -e 's|@includedir@|$(includedir)|' -e 's|@libdir@|$(libdir)|' \
 	    -e 's|@version@|$(VERSION)|' tools/clpi.pc.in >'$(DESTDIR)$(pkgconfigdir)/clpi.pc'
 	chmod 644 '$(DESTDIR)$(pkgconfigdir)/clpi.pc'
 
-# Folders are left but for the two that are its own, and these too where something else is in them.
+# Folders are left but for the three that are its own, and these too where something else is in them.
 uninstall:
 	rm -f '$(DESTDIR)$(bindir)/clip' '$(DESTDIR)$(libexecdir)/clpi/list_clip' '$(DESTDIR)$(libdir)/libclpi.a' \
 	    '$(DESTDIR)$(includedir)/clpi.h' '$(DESTDIR)$(mandir)/man1/clip.1' '$(DESTDIR)$(mandir)/man3/clpi.3' \
-	    '$(DESTDIR)$(docdir)/NOTICE' '$(DESTDIR)$(pkgconfigdir)/clpi.pc'
-	rmdir '$(DESTDIR)$(libexecdir)/clpi' '$(DESTDIR)$(docdir)' 2>/dev/null || true
+	    '$(DESTDIR)$(docdir)/NOTICE' '$(DESTDIR)$(pkgconfigdir)/clpi.pc' \
+	    $(foreach name,$(examples),'$(DESTDIR)$(docdir)/examples/$(name)')
+	rmdir '$(DESTDIR)$(libexecdir)/clpi' '$(DESTDIR)$(docdir)/examples' '$(DESTDIR)$(docdir)' 2>/dev/null || true
 
 clean:
 	rm -rf target tests/target bench/target

@@ -146,6 +146,17 @@ def change_answers(files):
     return table(["offset", "to", "what is asked", "after"], rows)
 
 
+def try_answers(file):
+    """What the questions behind the changes ask for."""
+    after = [changed(file, at, byte) for at, byte, _ in CHANGES]
+    ends = [Reading(data).stcs[1][4] for data in after[1:3]]
+    return {
+        "try_latest": f"{Reading(file).latest_end():,}", "try_second": f"{ends[0]:,}", "try_third": f"{ends[1]:,}",
+        "try_sum": f"{reading.TimesAdded(after[4]).maps[0]['entries'][5]['time']:,}",
+        "try_or": f"{Reading(after[4]).maps[0]['entries'][5]['time']:,}",
+    }
+
+
 # ---- the whole
 
 
@@ -155,5 +166,5 @@ def values(files):
         "error_table": error_table(files), "change_table": change_table(files), "change_answers": change_answers(files),
         "change_example": f"printf '\\x{byte:02x}' | dd of=copy.clpi bs=1 seek={at} conv=notrunc",
         **why_minutes(Reading(files[PLAIN])), **why_times(files[PLAIN]), **why_address(files[PLAIN]),
-        **why_places(Reading(files[BACKWARDS]), Reading(files[OVERLAPPING])),
+        **why_places(Reading(files[BACKWARDS]), Reading(files[OVERLAPPING])), **try_answers(files[PLAIN]),
     }
