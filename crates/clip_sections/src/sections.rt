@@ -72,24 +72,21 @@ pub fn measure(file: &[u8]) -> Sections
     if refusal != 0 {
         return Sections::Refused(refusal);
     }
-    let sequences = u32_at(file, 8) as usize;
     let sequence_info::Measured::Counts { atcs, stcs, end: _ } = sequence_info::measure(
         file,
-        sequences,
+        u32_at(file, 8) as usize,
     ) else {
         return Sections::Refused(4);
     };
-    let progs = u32_at(file, 12) as usize;
     let program_info::Measured::Counts {
         programs,
         streams,
         end: _,
-    } = program_info::measure(file, progs)
+    } = program_info::measure(file, u32_at(file, 12) as usize)
     else {
         return Sections::Refused(5);
     };
-    let index = u32_at(file, 16) as usize;
-    match cpi::maps::measure(file, index) {
+    match cpi::maps::measure(file, u32_at(file, 16) as usize) {
         cpi::maps::Measured::PastEnd => Sections::Refused(6),
         cpi::maps::Measured::MapPastEnd => Sections::Refused(7),
         cpi::maps::Measured::Counts { maps, entries } => {

@@ -41,8 +41,8 @@ module _ (k : tie.Else1) where
 u32-at-requires : tie.Need-u32-at-requires
 u32-at-requires c κs = omega (arith, bounds c)
 
-cast-sequences : tie.Need-cast-sequences
-cast-sequences c = search needs
+cast-measure : tie.Need-cast-measure
+cast-measure c = search needs
 
 measure-requires : tie.Need-measure-requires
 measure-requires c κs = search needs
@@ -74,8 +74,8 @@ module _ (s : tie.After-known-told) where
 u32-at-requires-2 : tie.Need-u32-at-requires-2
 u32-at-requires-2 c κs = omega (arith, bounds (K1 c))
 
-cast-progs : tie.Need-cast-progs
-cast-progs c = search needs
+cast-measure-2 : tie.Need-cast-measure-2
+cast-measure-2 c = search needs
 
 measure-requires-2 : tie.Need-measure-requires-2
 measure-requires-2 c κs = search needs
@@ -108,8 +108,8 @@ module _ (s : tie.After-known-told2) where
 u32-at-requires-3 : tie.Need-u32-at-requires-3
 u32-at-requires-3 c κs = omega (arith, bounds (K1 (A c)))
 
-cast-index : tie.Need-cast-index
-cast-index c = search needs
+cast-measure-3 : tie.Need-cast-measure-3
+cast-measure-3 c = search needs
 
 measure-requires-3 : tie.Need-measure-requires-3
 measure-requires-3 c κs = bounds (K1 (A (c .before))) .0
@@ -186,19 +186,19 @@ measure-spec =
     front-requires
     returns
     u32-at-requires
-    cast-sequences
+    cast-measure
     measure-requires
     enum-known-atcs
     enum-told
     returns-2
     u32-at-requires-2
-    cast-progs
+    cast-measure-2
     measure-requires-2
     enum-known-programs
     enum-told-2
     returns-3
     u32-at-requires-3
-    cast-index
+    cast-measure-3
     measure-requires-3
     enum-told-3
     enum-told-4
