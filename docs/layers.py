@@ -36,7 +36,7 @@ LAYERS = [
         ("questions", "sequence_queries atc_queries program_queries ep_map_queries ep_map_times cpi_queries clip_info_queries extension_queries"),
     ]),
     ("sections", [
-        ("read", "sequence_info program_info cpi cpi_fill extension extension_entry"),
+        ("read", "info_sections sequence_info program_info cpi cpi_fill extension extension_entry"),
         ("written from tables", "encode_sections encode_cpi encode_map limits"),
         ("written from a file", "rewrite_sections rewrite_program rewrite_cpi map_runs"),
         ("tables, as questions see them", "table_rows row_search nearest queries"),

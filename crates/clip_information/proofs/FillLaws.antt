@@ -19,8 +19,8 @@ use Rattle.format.proofs.Tests.{passed}
 use Rattle.format.proofs.Rows.{rows-length}
 use Rattle.extension.specs.Block.{foundIn}
 use Rattle.extension.specs.declared.ListData.{ListData}
-use Rattle.sequence_info.specs.Sequences as Sequences
-use Rattle.program_info.specs.Programs.{Fillable}
+use Rattle.section_heads.specs.declared.Section.{Section}
+use Rattle.info_sections.specs.Sections.{Fillable}
 use Rattle.cpi_fill.specs.Fill as Maps
 use Rattle.clip_information.specs.Fill.{SectionsFit, ListFits, MarksThere}
 use Rattle.clip_sections.proofs.Laws.{both-pass}
@@ -60,21 +60,21 @@ maps-counted f h = h ∙ rows-length (mapAt f) nextMap (cpiStart f + 8) (mapCoun
 
 module _ (f : List ℕ) {count : ℕ} {atcs stcs programs streams maps entries : List ℕ} (fits : SectionsFit f count atcs stcs programs streams maps entries) where
   -- tables 1 and 2 can be filled
-  pub sequences-fillable : {start : ℕ} → start ≡ sequencesStart f → Sequences.Fillable f start atcs stcs
+  pub sequences-fillable : {start : ℕ} → start ≡ sequencesStart f → Fillable Section.Sequences f start atcs stcs
   unfolding clipOf
   sequences-fillable e = record {
     ends = rw e (sound f (fits .accepts) .sequences-in);
-    atcs-room = rw e (fits .atcs-room);
-    stcs-room = rw e (fits .stcs-room);
+    heads-room = rw e (fits .atcs-room);
+    rows-room = rw e (fits .stcs-room);
   }
 
   -- tables 3 and 4 can be filled
-  pub programs-fillable : {start : ℕ} → start ≡ programsStart f → Fillable f start programs streams
+  pub programs-fillable : {start : ℕ} → start ≡ programsStart f → Fillable Section.Programs f start programs streams
   unfolding clipOf
   programs-fillable e = record {
     ends = rw e (sound f (fits .accepts) .programs-in);
-    programs-room = rw e (fits .programs-room);
-    streams-room = rw e (fits .streams-room);
+    heads-room = rw e (fits .programs-room);
+    rows-room = rw e (fits .streams-room);
   }
 
   -- tables 5 and 6 can be filled
@@ -173,9 +173,9 @@ module _ (f : List ℕ) (list : ListData) {has : Bool} {programs streams : List 
     streams-put = rw (listed, data-is)
 
     -- tables 8 and 9 can be filled
-    pub list-fillable : Fillable P 0 programs streams
+    pub list-fillable : Fillable Section.Programs P 0 programs streams
     list-fillable = record {
       ends = list-ends;
-      programs-room = rw programs-put at (fits .programs-room);
-      streams-room = rw streams-put at (fits .streams-room);
+      heads-room = rw programs-put at (fits .programs-room);
+      rows-room = rw streams-put at (fits .streams-room);
     }

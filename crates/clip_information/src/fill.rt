@@ -7,6 +7,7 @@ ghost use Rattle.clip_information.specs.Fill.{SectionsFit, ListFits, Mar
 use extension::ListData;
 use numbers::u16_at;
 use numbers::u32_at;
+use section_heads::Section;
 
 // Tables 1 to 6; the maps are counted already.
 pub(crate) fn fill_sections(
@@ -27,8 +28,20 @@ pub(crate) fn fill_sections(
     ensures { λ _. ⌜ now (maps .exit) ≡ overwritten (tableBytes (clipOf (now (file .entry)) .maps)) (now (maps .entry)) ⌝ }
     ensures { λ _. ⌜ now (entries .exit) ≡ overwritten (tableBytes (clipOf (now (file .entry)) .entries)) (now (entries .entry)) ⌝ }
 {
-    sequence_info::fill(file, u32_at(file, 8) as usize, atcs, stcs);
-    program_info::fill(file, u32_at(file, 12) as usize, programs, streams);
+    info_sections::fill(
+        Section::Sequences,
+        file,
+        u32_at(file, 8) as usize,
+        atcs,
+        stcs,
+    );
+    info_sections::fill(
+        Section::Programs,
+        file,
+        u32_at(file, 12) as usize,
+        programs,
+        streams,
+    );
     cpi_fill::fill(file, u32_at(file, 16) as usize, count, maps, entries);
 }
 
@@ -51,7 +64,7 @@ pub(crate) fn fill_list(
         return;
     };
     let end = start + len;
-    program_info::fill(&file[start..end], 0, programs, streams);
+    info_sections::fill(Section::Programs, &file[start..end], 0, programs, streams);
 }
 
 // The number of marks; none where there is no section of marks.

@@ -9,9 +9,10 @@ use Rattle.format.specs.Programs.{programsEnd}
 use Rattle.format.specs.Extensions.{listIn}
 use Rattle.extension.specs.Block.{foundIn, listEnd}
 use Rattle.extension.specs.declared.ListData.{ListData}
-use Rattle.program_info.specs.Programs.{measured}
-use Rattle.program_info.specs.declared.Measured.{Measured}
-use Rattle.program_info.proofs.Laws.{counts-are, past-end}
+use Rattle.section_heads.specs.declared.Section.{Section}
+use Rattle.info_sections.specs.Sections.{measured}
+use Rattle.info_sections.specs.declared.Measured.{Measured}
+use Rattle.info_sections.proofs.Sections.{counts-are, past-end}
 use Rattle.clip_prepare.specs.Lists.{listRowsOf}
 use Rattle.clip_prepare.specs.declared.list.ListRows.{ListRows}
 
@@ -31,14 +32,14 @@ module _ (f : List ℕ) (list : ListData) where
     part-is = let e : s + n - s ≡ n = omega arith in rw e
 
     -- data that ends within a program is no list
-    pub list-past : measured (take (s + n - s) (drop s f)) 0 ≡ Measured.PastEnd → ListRows.Absent ≡ listRowsOf (foundIn f list)
+    pub list-past : measured Section.Programs (take (s + n - s) (drop s f)) 0 ≡ Measured.PastEnd → ListRows.Absent ≡ listRowsOf (foundIn f list)
     unfolding listRowsOf listIn
-    list-past h = let p = past-end (take n (drop s f)) 0 (rw part-is at h) in rw (at, p)
+    list-past h = let p = past-end Section.Programs (take n (drop s f)) 0 (rw part-is at h) in rw (at, p)
 
     -- else its rows are counted
-    pub list-rows : (p t e : ℕ) → measured (take (s + n - s) (drop s f)) 0 ≡ Measured.Counts p t e → ListRows.Rows p t ≡ listRowsOf (foundIn f list)
+    pub list-rows : (p t : ℕ) → measured Section.Programs (take (s + n - s) (drop s f)) 0 ≡ Measured.Counts p t → ListRows.Rows p t ≡ listRowsOf (foundIn f list)
     unfolding listRowsOf listIn
-    list-rows p t e h =
+    list-rows p t h =
         let d = take n (drop s f) in
-        let c = counts-are d 0 (rw part-is at h) in
-        rw (at, le-leb (programsEnd d 0) (length d) (c .ends), c .programs-are, c .streams-are)
+        let c = counts-are Section.Programs d 0 (rw part-is at h) in
+        rw (at, le-leb (programsEnd d 0) (length d) (c .ends), c .heads-are, c .rows-are)

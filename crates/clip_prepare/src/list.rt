@@ -5,6 +5,8 @@ ghost use lib.ListN.{length};
 ghost use Rattle.extension.specs.Block.{foundIn, listEnd};
 ghost use Rattle.clip_prepare.specs.Lists.{listRowsOf};
 use extension::ListData;
+use info_sections::Measured;
+use section_heads::Section;
 
 // The rows of the list, or that there is none.
 pub enum ListRows {
@@ -21,11 +23,10 @@ pub(crate) fn measure_list(file: &[u8], list: ListData) -> ListRows
         return ListRows::Absent;
     };
     let end = start + len;
-    let program_info::Measured::Counts {
-        programs,
-        streams,
-        end: _,
-    } = program_info::measure(&file[start..end], 0)
+    let Measured::Counts {
+        heads: programs,
+        rows: streams,
+    } = info_sections::measure(Section::Programs, &file[start..end], 0)
     else {
         return ListRows::Absent;
     };

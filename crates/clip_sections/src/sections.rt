@@ -3,7 +3,9 @@ ghost use mathlib.Core.Path.{_≡_};
 ghost use Rattle.clip_sections.specs.Clips.{frontOf, sectionsOf};
 ghost use Rattle.format.specs.ClipRecord.{marksIn};
 use common::header::BdmvHeader;
+use info_sections::Measured;
 use numbers::u32_at;
+use section_heads::Section;
 
 // The rows of tables 1 to 6, or the refusal's number.
 pub enum Sections {
@@ -72,17 +74,17 @@ pub fn measure(file: &[u8]) -> Sections
     if refusal != 0 {
         return Sections::Refused(refusal);
     }
-    let sequence_info::Measured::Counts { atcs, stcs, end: _ } = sequence_info::measure(
-        file,
-        u32_at(file, 8) as usize,
-    ) else {
+    let Measured::Counts {
+        heads: atcs,
+        rows: stcs,
+    } = info_sections::measure(Section::Sequences, file, u32_at(file, 8) as usize)
+    else {
         return Sections::Refused(4);
     };
-    let program_info::Measured::Counts {
-        programs,
-        streams,
-        end: _,
-    } = program_info::measure(file, u32_at(file, 12) as usize)
+    let Measured::Counts {
+        heads: programs,
+        rows: streams,
+    } = info_sections::measure(Section::Programs, file, u32_at(file, 12) as usize)
     else {
         return Sections::Refused(5);
     };

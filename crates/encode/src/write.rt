@@ -8,7 +8,7 @@ ghost use Rattle.format.specs.Tables.{clipIn};
 ghost use Rattle.clip_information.specs.Read.{scalarsBy};
 ghost use Rattle.limits.specs.Stated.{statedTables};
 ghost use Rattle.encode_sections.specs.Sections.{sectionIn, Storable};
-ghost use Rattle.encode_sections.specs.declared.Section.{Section};
+ghost use Rattle.section_heads.specs.declared.Section.{Section};
 ghost use Rattle.encode_measure.specs.Places.{Ready};
 ghost use Rattle.encode.specs.Writing.{answerOf};
 use clip_sections::info::ClipInfo;
@@ -17,9 +17,9 @@ use encode_head::put_head;
 use encode_measure::Measured;
 use encode_measure::Places;
 use encode_measure::measure;
-use encode_sections::Section;
 use encode_sections::put_section;
 use limits::tables::StatedRows;
+use section_heads::Section;
 use section_heads::put_marks;
 
 // How many bytes were written; the refusal's number; or how many bytes the output needs.

@@ -19,7 +19,7 @@ use Rattle.table_rows.specs.OwnRows.{isCounted}
 use Rattle.limits.specs.Clips.{entriesFit, tablesFit}
 use Rattle.limits.proofs.Walks.{counts}
 use Rattle.limits.proofs.Clips.{fields-and-entries, maps-fit}
-use Rattle.encode_sections.specs.declared.Section.{Section}
+use Rattle.section_heads.specs.declared.Section.{Section}
 use Rattle.encode_sections.specs.Sections as sections
 use Rattle.encode_sections.proofs.Sections.{sequences-are, programs-are}
 use Rattle.encode_cpi.specs.declared.Length.{Length}

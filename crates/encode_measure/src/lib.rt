@@ -13,10 +13,10 @@ use clip_sections::info::ClipInfo;
 use encode_cpi::Length;
 use encode_cpi::Tested;
 use encode_cpi::cpi_length;
-use encode_sections::Section;
 use encode_sections::section_length;
 use limits::tables::StatedRows;
 use limits::tables::cells_fit;
+use section_heads::Section;
 use table_rows::own::adds_up;
 
 // The places of the programs, of the CPI and of the marks; the sequences are at 220.

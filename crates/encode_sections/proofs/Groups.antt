@@ -16,7 +16,7 @@ use Rattle.row_values.specs.declared.Kind.{Kind}
 use Rattle.row_values.specs.Kinds.{cellsOf}
 use Rattle.encode_rows.specs.Rows.{stepOf, rowsIn}
 use Rattle.encode_sections.specs.Sections.{headKind, rowKind, countOf, itemsOf, groupBytes, countIn, itemsIn}
-use Rattle.encode_sections.specs.declared.Section.{Section}
+use Rattle.section_heads.specs.declared.Section.{Section}
 
 -- where rows of a kind end: the first of them, and those behind these
 rows-end : (kind : Kind) (q c m : ℕ) → endOf (stepOf kind) q (c + m) ≡ q + 4 * cellsOf kind * c + 4 * cellsOf kind * m

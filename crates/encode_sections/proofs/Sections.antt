@@ -18,7 +18,7 @@ use Rattle.table_rows.specs.OwnRows.{headCells, cellIn, isCounted}
 use Rattle.section_heads.proofs.Stored.{sectionHead}
 use Rattle.row_values.specs.Kinds.{cellsOf, bytesBy}
 use Rattle.encode_sections.specs.Sections.{headKind, rowKind, countOf, itemsOf, sectionOf, headsIn, ownIn, itemsIn, sectionIn, Counted, Storable}
-use Rattle.encode_sections.specs.declared.Section.{Section}
+use Rattle.section_heads.specs.declared.Section.{Section}
 use Rattle.encode_sections.proofs.Groups.{groups-length}
 
 -- ---- the sections of a record

@@ -10,7 +10,7 @@ use Rattle.format.specs.Tables.{tableRows, rowRoom}
 use Rattle.row_values.specs.declared.Kind.{Kind}
 use Rattle.row_values.specs.Kinds.{cellsOf, bytesBy}
 use Rattle.encode_rows.specs.Rows.{stepOf, rowsBytes}
-use Rattle.encode_sections.specs.declared.Section.{Section}
+use Rattle.section_heads.specs.declared.Section.{Section}
 
 -- ---- a section's kinds of rows
 

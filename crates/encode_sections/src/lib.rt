@@ -12,16 +12,11 @@ use row_values::Kind;
 use row_values::Row;
 use row_values::cells_of;
 use row_values::table_row;
+use section_heads::Section;
 use section_heads::put_head;
 
 // The bytes of a header row in its table.
 const HEAD: usize = 12;
-
-// Which section is written.
-pub enum Section {
-    Sequences,
-    Programs,
-}
 
 // The kind of a section's header rows.
 fn head_kind(section: Section) -> Kind

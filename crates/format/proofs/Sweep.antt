@@ -73,20 +73,20 @@ module _ {rows : ℕ → List Row} {next : ℕ → ℕ} {p₀ n p k m : ℕ} (a 
   pub counted-done : n ≤ k → m ≡ length (gather rows next p₀ n)
   counted-done h = omega (arith, rw (none-left n k h) at (a .rest))
 
--- ---- a section: six bytes, the last of them the count, and then items; C tells its heads, the rows behind them and its end
+-- ---- a section: six bytes, the last of them the count, and then items; C tells its heads and the rows behind them
 
-module _ {A : Type 0} (C : ℕ → ℕ → ℕ → A) (past : A) (head : ℕ → Row) (rows : ℕ → List Row) (next : ℕ → ℕ) (f : List ℕ) (start : ℕ) where
+module _ {A : Type 0} (C : ℕ → ℕ → A) (past : A) (head : ℕ → Row) (rows : ℕ → List Row) (next : ℕ → ℕ) (f : List ℕ) (start : ℕ) where
   -- the measure, where the section ends within the file
   abbrev pub sectionOf : A
   sectionOf =
       let n = beAt f (start + 5) 1 in
       pick (leb (endOf next (start + 6) n) (length f))
-      (C (length (rowsAt head next (start + 6) n)) (length (gather rows next (start + 6) n)) (endOf next (start + 6) n))
+      (C (length (rowsAt head next (start + 6) n)) (length (gather rows next (start + 6) n)))
       past
 
   module _ {p n : ℕ} (count : n ≡ beAt f (start + 5) 1) (place : p ≡ start + 6) where
     -- a pass that has come past the last item has measured it
-    pub section-done : {e k m : ℕ} → Along next (length f) p n e k → Counted rows next p n e k m → n ≤ k → C n m e ≡ sectionOf
+    pub section-done : {e k m : ℕ} → Along next (length f) p n e k → Counted rows next p n e k m → n ≤ k → C n m ≡ sectionOf
     section-done {e} {k} {m} a b h =
         let here : endOf next (start + 6) (beAt f (start + 5) 1) ≡ e = rw (← count, ← place) (sym (along-done a h)) in
         let rest : length (gather rows next (start + 6) (beAt f (start + 5) 1)) ≡ m = rw (← count, ← place) (sym (counted-done b h)) in

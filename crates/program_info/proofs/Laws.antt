@@ -1,27 +1,16 @@
--- Programs with their streams, and what an answer of the first pass says.
-use Prim.Native.Nat.{ℕ, _+_, _<_, _≤_}
-use mathlib.Core.Path.{_≡_, refl, ap, _∙_}
+-- Programs with their streams: the place behind one.
+use Prim.Native.Nat.{ℕ, _+_, _<_}
+use mathlib.Core.Path.{_≡_, ap, _∙_}
 use mathlib.Core.List.{List}
-use mathlib.Core.Bool.{false}
-use native.Mathlib.Nat.{le-trans}
 use native.Mathlib.Omega.{arith}
 use lib.ListN.{length}
-use lib.Dec.{leb, lit<}
-use borrow.Author.Tests.{leb-true}
-use Rattle.format.specs.Bytes.{beAt, rowsAt, gather, endOf}
-use Rattle.format.specs.Programs.{streamAt, nextStream, programAt, streamsOf, nextProgram, programsFrom, streamsFrom, programsEnd}
-use Rattle.format.specs.Tables.{tableBytes, rowRoom, overwritten, programCells, streamCells}
-use Rattle.format.proofs.Loops.{end-ge}
-use Rattle.format.proofs.Places.{program-head, up-program}
-use Rattle.format.proofs.Rows.{rows-all, gather-all}
-use Rattle.format.proofs.Sweep.{Filling, filling-front}
-use Rattle.format.proofs.Tests.{picked, not-picked}
+use Rattle.format.specs.Bytes.{endOf}
+use Rattle.format.specs.Programs.{nextStream, nextProgram}
+use Rattle.format.proofs.Places.{program-head}
 use Rattle.common.specs.Reader.{movedTo}
 use Rattle.common.specs.declared.reader.Reader.{Reader}
 use Rattle.common.specs.declared.reader.Moved.{Moved}
 use Rattle.common.proofs.Laws.{Got, beyond}
-use Rattle.program_info.specs.Programs.{measured}
-use Rattle.program_info.specs.declared.Measured.{Measured}
 
 -- ---- the place behind a stream and behind a program
 
@@ -46,50 +35,3 @@ module _ (f : List ℕ) (p : ℕ) where
   -- the eight bytes of the program pass the end
   pub program-cut : length f < p + 8 → Moved.PastEnd ≡ movedTo f (nextProgram f p)
   program-cut h = beyond f (nextProgram f p) (omega (arith, program-head f p))
-
--- ---- the section
-
-module _ (f : List ℕ) (start : ℕ) where
-  -- a section that ends within the file has its six bytes there
-  pub ends-within : programsEnd f start ≤ length f → start + 6 ≤ length f
-  unfolding programsEnd
-  ends-within h = le-trans (end-ge (nextProgram f) (up-program f) (start + 6) (beAt f (start + 5) 1)) h
-
-  module _ {n : ℕ} (count : n ≡ beAt f (start + 5) 1) {t : List ℕ} where
-    -- both tables, before the first row is stored
-    pub programs-filling : length (programsFrom f start) ≤ rowRoom programCells t
-        → Filling (rowsAt (programAt f) (nextProgram f)) t (overwritten (tableBytes (programsFrom f start)) t) t 0 (start + 6) n 0
-    unfolding programsFrom
-    programs-filling room =
-        filling-front 3 (rowsAt (programAt f) (nextProgram f)) t (lit< tt) (rows-all (programAt f) (nextProgram f) (λ p. refl) (start + 6) (beAt f (start + 5) 1)) room
-        (ap (rowsAt (programAt f) (nextProgram f) (start + 6)) count)
-
-    pub streams-filling : length (streamsFrom f start) ≤ rowRoom streamCells t
-        → Filling (gather (streamsOf f) (nextProgram f)) t (overwritten (tableBytes (streamsFrom f start)) t) t 0 (start + 6) n 0
-    unfolding streamsFrom
-    streams-filling room =
-        filling-front 5 (gather (streamsOf f) (nextProgram f)) t (lit< tt)
-        (gather-all (streamsOf f) (nextProgram f) (λ p. rows-all (streamAt f) (nextStream f) (λ q. refl) (p + 8) (beAt f (p + 6) 1)) (start + 6) (beAt f (start + 5) 1)) room
-        (ap (gather (streamsOf f) (nextProgram f) (start + 6)) count)
-
--- ---- what the first pass answers
-
--- the counts and the end that were answered are the section's, and it ends within the file
-pub record CountsAre (f : List ℕ) (start programs streams end : ℕ) : Type 0 where
-  pub ends : programsEnd f start ≤ length f
-  pub programs-are : programs ≡ length (programsFrom f start)
-  pub streams-are : streams ≡ length (streamsFrom f start)
-  pub end-is : end ≡ programsEnd f start
-
-module _ (f : List ℕ) (start : ℕ) where
-  pub counts-are : {programs streams end : ℕ} → measured f start ≡ Measured.Counts programs streams end → CountsAre f start programs streams end
-  unfolding measured
-  counts-are e =
-      let t = picked (leb (programsEnd f start) (length f)) (λ e. let z : _≡_ {A = ℕ} 0 1 = cc in omega arith) e in
-      let is = t .1 in
-      record { ends = leb-true (programsEnd f start) (length f) (t .0); programs-are = cc; streams-are = cc; end-is = cc }
-
-  -- the section passes the file's end
-  pub past-end : measured f start ≡ Measured.PastEnd → leb (programsEnd f start) (length f) ≡ false
-  unfolding measured
-  past-end e = not-picked (leb (programsEnd f start) (length f)) (λ e. let z : _≡_ {A = ℕ} 0 1 = cc in omega arith) e .0

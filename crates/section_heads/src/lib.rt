@@ -1,4 +1,4 @@
-// What a section of a written file begins with, and the empty marks at the file's end.
+// The sections of header rows, what one of a written file begins with, and the empty marks at the file's end.
 ghost use mathlib.Core.Path.{_≡_};
 ghost use mathlib.Core.List.{[], _∷_};
 ghost use Prim.Native.Nat.{_+_, _≤_};
@@ -9,6 +9,12 @@ ghost use Rattle.format.specs.Rewriting.{marksBytes};
 use numbers::put_u8;
 use numbers::put_u16;
 use numbers::put_u32;
+
+// The two sections of header rows with their own rows behind them.
+pub enum Section {
+    Sequences,
+    Programs,
+}
 
 // Stores what a section begins with: the length of what follows it, a spare byte, and the count of its header rows.
 pub fn put_head(size: u32, n: u32, out: &mut [u8], at: usize)

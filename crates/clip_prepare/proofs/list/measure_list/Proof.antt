@@ -54,7 +54,7 @@ returns-3 c =
     let a = c .before .before .before .before .before .before .before .before .before .args in
     let v = c .before .before .before .before .before .before .list .given in
     let n = c .before .programs .given in
-    list-rows (now (a .file)) (a .list) (v .0 .0) (v .0 .1 .0) (v .1) (n .0 .0) (n .0 .1 .0) (n .0 .1 .1 .0) (sym (c .before .before .before .measure .ensures) ∙ n .1)
+    list-rows (now (a .file)) (a .list) (v .0 .0) (v .0 .1 .0) (v .1) (n .0 .0) (n .0 .1 .0) (sym (c .before .before .before .measure .ensures) ∙ n .1)
 
 pub measure-list-spec : {M : Type 1} → statement M
 measure-list-spec =

@@ -10,10 +10,9 @@ use lib.Dec.{leb}
 use borrow.Author.Tests.{le-leb}
 use Rattle.format.specs.ClipRecord.{sequencesStart, programsStart, cpiStart, sequencesEnd, marksIn}
 use Rattle.format.specs.Programs.{programsEnd}
-use Rattle.sequence_info.specs.Sequences.{measured as sequences}
-use Rattle.sequence_info.proofs.Laws as seq
-use Rattle.program_info.specs.Programs.{measured as programs}
-use Rattle.program_info.proofs.Laws as prog
+use Rattle.section_heads.specs.declared.Section.{Section}
+use Rattle.info_sections.specs.Sections.{measured}
+use Rattle.info_sections.proofs.Sections.{CountsAre, counts-are, past-end}
 use Rattle.cpi.specs.Maps.{measured as cpiMeasured}
 use Rattle.clip_sections.specs.Clips.{frontOf}
 use Rattle.clip_sections.proofs.Laws.{front-facts, front-refused, sequences-refused, programs-refused, cpi-refused, maps-refused, marks-refused, all-counted, cpi-past, map-past, cpi-counts}
@@ -57,16 +56,16 @@ returns-2 : tie.Need-returns-2
 returns-2 c =
     let k = c .before .before .before .before in
     sequences-refused (F k) (front k)
-    (seq.past-end (F k) (sequencesStart (F k)) (sym (ap (sequences (F k)) (c .before .before .before .u32-at .ensures .same)) ∙ sym (c .before .before .measure .ensures) ∙ c .enum-told .given .1))
+    (past-end Section.Sequences (F k) (sequencesStart (F k)) (sym (ap (measured Section.Sequences (F k)) (c .before .before .before .u32-at .ensures .same)) ∙ sym (c .before .before .measure .ensures) ∙ c .enum-told .given .1))
 
 -- the sequences are in the file
 module _ (s : tie.After-known-told) where
   abbrev K1 : tie.Else1
   K1 = s .before .before .before .before .before
 
-  sequences-are : seq.CountsAre (F K1) (sequencesStart (F K1)) (s .before .atcs .given .0 .0) (s .before .atcs .given .0 .1 .0) (s .before .atcs .given .0 .1 .1 .0)
+  sequences-are : CountsAre Section.Sequences (F K1) (sequencesStart (F K1)) (s .before .atcs .given .0 .0) (s .before .atcs .given .0 .1 .0)
   sequences-are =
-      seq.counts-are (F K1) (sequencesStart (F K1)) (sym (ap (sequences (F K1)) (s .before .before .before .before .u32-at .ensures .same)) ∙ sym (s .before .before .before .measure .ensures) ∙ s .before .atcs .given .1)
+      counts-are Section.Sequences (F K1) (sequencesStart (F K1)) (sym (ap (measured Section.Sequences (F K1)) (s .before .before .before .before .u32-at .ensures .same)) ∙ sym (s .before .before .before .measure .ensures) ∙ s .before .atcs .given .1)
 
   sequences-in : leb (sequencesEnd (F K1) (sequencesStart (F K1))) (length (F K1)) ≡ true
   sequences-in = le-leb (sequencesEnd (F K1) (sequencesStart (F K1))) (length (F K1)) (sequences-are .ends)
@@ -91,16 +90,16 @@ returns-3 c =
     let a = c .before .before .before .before in
     let k = K1 a in
     programs-refused (F k) (front k) (sequences-in a)
-    (prog.past-end (F k) (programsStart (F k)) (sym (ap (programs (F k)) (c .before .before .before .u32-at2 .ensures .same)) ∙ sym (c .before .before .measure2 .ensures) ∙ c .enum-told2 .given .1))
+    (past-end Section.Programs (F k) (programsStart (F k)) (sym (ap (measured Section.Programs (F k)) (c .before .before .before .u32-at2 .ensures .same)) ∙ sym (c .before .before .measure2 .ensures) ∙ c .enum-told2 .given .1))
 
 -- the programs are in the file
 module _ (s : tie.After-known-told2) where
   abbrev A : tie.After-known-told
   A = s .before .before .before .before .before
 
-  programs-are : prog.CountsAre (F (K1 A)) (programsStart (F (K1 A))) (s .before .programs .given .0 .0) (s .before .programs .given .0 .1 .0) (s .before .programs .given .0 .1 .1 .0)
+  programs-are : CountsAre Section.Programs (F (K1 A)) (programsStart (F (K1 A))) (s .before .programs .given .0 .0) (s .before .programs .given .0 .1 .0)
   programs-are =
-      prog.counts-are (F (K1 A)) (programsStart (F (K1 A))) (sym (ap (programs (F (K1 A))) (s .before .before .before .before .u32-at2 .ensures .same)) ∙ sym (s .before .before .before .measure2 .ensures) ∙ s .before .programs .given .1)
+      counts-are Section.Programs (F (K1 A)) (programsStart (F (K1 A))) (sym (ap (measured Section.Programs (F (K1 A))) (s .before .before .before .before .u32-at2 .ensures .same)) ∙ sym (s .before .before .before .measure2 .ensures) ∙ s .before .programs .given .1)
 
   programs-in : leb (programsEnd (F (K1 A)) (programsStart (F (K1 A)))) (length (F (K1 A))) ≡ true
   programs-in = le-leb (programsEnd (F (K1 A)) (programsStart (F (K1 A)))) (length (F (K1 A))) (programs-are .ends)
@@ -167,7 +166,7 @@ returns-6 c =
     let i = cpi-counts (G m) (cpiStart (G m)) (v .0 .0) (v .0 .1 .0) (index m ∙ v .1) in
     let marks = ap (marksIn (G m)) (sym (c .before .before .u32-at4 .ensures .same)) ∙ sym (c .before .marks-in .ensures) in
     all-counted (G m) (front (K1 a)) (sequences-in a) (programs-in q) (i .0) (i .1) (marks ∙ c .if2 .taken)
-    (sequences-are a .atcs-are) (sequences-are a .stcs-are) (programs-are q .programs-are) (programs-are q .streams-are) (i .2) (i .3)
+    (sequences-are a .heads-are) (sequences-are a .rows-are) (programs-are q .heads-are) (programs-are q .rows-are) (i .2) (i .3)
 
 returns-7 : tie.Need-returns-7
 returns-7 c =

@@ -1,2 +1,2 @@
 -- What the functions of this crate promise and ask.
-pub mod Programs
+pub mod Sections

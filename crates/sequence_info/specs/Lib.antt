@@ -1,2 +1,0 @@
--- What the functions of this crate promise and ask.
-pub mod Sequences
