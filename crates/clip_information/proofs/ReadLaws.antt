@@ -19,7 +19,7 @@ use Rattle.clip_sections.specs.Infos.{clipInfoOf}
 use Rattle.nine_tables.specs.Room.{roomOf, roomBehind}
 use Rattle.clip_prepare.specs.Prepare.{neededRows, roomAnswer, answerFor, preparedAnswer, ReadyIs, PreparedIs}
 use Rattle.clip_information.specs.Fill.{SectionsFit, ListFits, MarksThere}
-use Rattle.clip_information.specs.Read.{lengthsOf, nineBy, scalarsBy, answerOf}
+use Rattle.clip_information.specs.Read.{lengthsOf, nineBy, scalarsBy, answerOf, acceptedOf}
 use Rattle.clip_sections.specs.declared.info.ClipInfo.{ClipInfo}
 use Rattle.nine_tables.specs.declared.Rows.{Rows}
 use Rattle.nine_tables.specs.declared.Room.{Room}
@@ -128,16 +128,17 @@ module _ (f : List ℕ) (tables : Nine (List ℕ)) {rows : Rows} {list : ListDat
     streams-room = each .list-streams-room;
   }
 
-  -- the marks can be counted
-  pub marks-there : {start : ℕ} → start ≡ marksStart f → MarksThere f start
-  marks-there e = record {
-    short = accepted-bounds f (ready .accepts) .0;
-    inside = rw e (sound f (ready .accepts) .marks-in);
-  }
-
   -- what the code states is what reading states
-  pub stated : {info : ClipInfo} {marks start : ℕ} → info ≡ clipInfoOf f → start ≡ marksStart f → marks ≡ marksFrom f start → answerOf (Answer.Accepted info marks rows has) ≡ accepted (statedOf f)
+  pub stated : answerOf (acceptedOf f rows has) ≡ accepted (statedOf f)
   unfolding statedOf recordOf clipOf
-  stated {info} {marks} {start} i s m =
-      let marks-are : marks ≡ marksFrom f (marksStart f) = m ∙ ap (marksFrom f) s in
-      λ k. accepted (record { scalars = scalarsBy (i k); marks = marks-are k; rows = nineBy (ready .rows-are k); hasList = ready .has-is k })
+  stated = λ k. accepted (record { scalars = scalarsBy (clipInfoOf f); marks = marksFrom f (marksStart f); rows = nineBy (ready .rows-are k); hasList = ready .has-is k })
+
+module _ (f : List ℕ) where
+  -- the marks of an accepted file can be counted
+  pub marks-there : refusalOf f ≡ 0 → {start : ℕ} → start ≡ marksStart f → MarksThere f start
+  marks-there h e = record { short = accepted-bounds f h .0; inside = rw e (sound f h .marks-in) }
+
+  -- the scalars and the number of marks that were read are those of the answer
+  pub accepted-as : {info : ClipInfo} {marks start : ℕ} {rows : Rows} {has : Bool} → info ≡ clipInfoOf f → start ≡ marksStart f → marks ≡ marksFrom f start
+      → Answer.Accepted info marks rows has ≡ acceptedOf f rows has
+  accepted-as i s m = rw (i, m, s)

@@ -1,10 +1,12 @@
 -- The answer of reading, as the code holds it.
 use Prim.Native.Nat.{ℕ}
-use mathlib.Core.List.{List}
+use mathlib.Core.List.{List, []}
+use mathlib.Core.Bool.{Bool}
 use lib.ListN.{length}
-use Rattle.format.specs.ClipRecord.{Scalars}
+use Rattle.format.specs.ClipRecord.{Scalars, marksStart, marksFrom}
 use Rattle.format.specs.Tables.{Nine}
 use Rattle.format.specs.Refusals.{ReadAnswer, refused, tooShort, accepted}
+use Rattle.clip_sections.specs.Infos.{clipInfoOf}
 use Rattle.clip_sections.specs.declared.info.ClipInfo.{ClipInfo}
 use Rattle.nine_tables.specs.declared.Rows.{Rows}
 use Rattle.clip_information.specs.declared.read.Answer.{Answer}
@@ -36,6 +38,28 @@ lengthsOf tables = record {
   «list_programs» = length (tables .listPrograms);
   «list_streams» = length (tables .listStreams);
 }
+
+-- those of the first six, and none of the others
+abbrev pub sixLengths : (atcs stcs programs streams maps entries : List ℕ) → Rows
+sixLengths t1 t2 t3 t4 t5 t6 = lengthsOf (nineTables t1 t2 t3 t4 t5 t6 [] [] [])
+
+-- with those of the last three
+abbrev pub nineLengths : Rows → (extensions listPrograms listStreams : List ℕ) → Rows
+nineLengths six t7 t8 t9 = record {
+  atcs = six .atcs;
+  stcs = six .stcs;
+  programs = six .programs;
+  streams = six .streams;
+  maps = six .maps;
+  entries = six .entries;
+  extensions = length t7;
+  «list_programs» = length t8;
+  «list_streams» = length t9;
+}
+
+-- the answer to an accepted file with these rows
+abbrev pub acceptedOf : List ℕ → Rows → Bool → Answer
+acceptedOf f rows has = Answer.Accepted (clipInfoOf f) (marksFrom f (marksStart f)) rows has
 
 -- the scalars and the nine numbers
 abbrev pub scalarsBy : ClipInfo → Scalars

@@ -1,7 +1,7 @@
 // A clip file read into nine lent tables.
 ghost use mathlib.Core.Path.{_≡_};
-ghost use Rattle.format.specs.Refusals.{readAnswer, tablesOf, tableBy};
-ghost use Rattle.clip_information.specs.Read.{answerOf, nineTables};
+ghost use Rattle.format.specs.Refusals.{refusalOf, readAnswer, tablesOf, tableBy};
+ghost use Rattle.clip_information.specs.Read.{answerOf, nineTables, sixLengths, nineLengths, acceptedOf};
 use crate::fill::fill_list;
 use crate::fill::fill_sections;
 use crate::fill::mark_count;
@@ -25,6 +25,60 @@ pub enum Answer {
         table: u32,
         rows: usize,
     },
+}
+
+// The answer to an accepted file, whose header and marks are there.
+fn accepted(file: &[u8], rows: Rows, has_list: bool) -> Answer
+    requires { ⌜ refusalOf (now file) ≡ 0 ⌝ }
+    ensures { λ r. ⌜ r ≡ acceptedOf (now (file .entry)) rows «has_list» ⌝ }
+{
+    Answer::Accepted {
+        info: clip_info(file),
+        marks: mark_count(file, u32_at(file, 20) as usize),
+        rows,
+        has_list,
+    }
+}
+
+// The bytes of tables 1 to 6; the others are none yet.
+fn six_lengths(
+    atcs: &[u8],
+    stcs: &[u8],
+    programs: &[u8],
+    streams: &[u8],
+    maps: &[u8],
+    entries: &[u8],
+) -> Rows
+    ensures { λ r. ⌜ r ≡ sixLengths (now (atcs .entry)) (now (stcs .entry)) (now (programs .entry)) (now (streams .entry)) (now (maps .entry)) (now (entries .entry)) ⌝ }
+{
+    Rows {
+        atcs: atcs.len(),
+        stcs: stcs.len(),
+        programs: programs.len(),
+        streams: streams.len(),
+        maps: maps.len(),
+        entries: entries.len(),
+        extensions: 0,
+        list_programs: 0,
+        list_streams: 0,
+    }
+}
+
+// The bytes of tables 7 to 9 beside those of the first six.
+fn nine_lengths(six: Rows, extensions: &[u8], programs2: &[u8], streams2: &[u8]) -> Rows
+    ensures { λ r. ⌜ r ≡ nineLengths six (now (extensions .entry)) (now (programs2 .entry)) (now (streams2 .entry)) ⌝ }
+{
+    Rows {
+        atcs: six.atcs,
+        stcs: six.stcs,
+        programs: six.programs,
+        streams: six.streams,
+        maps: six.maps,
+        entries: six.entries,
+        extensions: extensions.len(),
+        list_programs: programs2.len(),
+        list_streams: streams2.len(),
+    }
 }
 
 // Reads a file; a refusal leaves every table as it was.
@@ -51,18 +105,8 @@ pub fn read(
     ensures { λ r. ⌜ now (programs2 .exit) ≡ tableBy (answerOf r) (tablesOf (now (file .entry)) .listPrograms) (now (programs2 .entry)) ⌝ }
     ensures { λ r. ⌜ now (streams2 .exit) ≡ tableBy (answerOf r) (tablesOf (now (file .entry)) .listStreams) (now (streams2 .entry)) ⌝ }
 {
-    let bytes = Rows {
-        atcs: atcs.len(),
-        stcs: stcs.len(),
-        programs: programs.len(),
-        streams: streams.len(),
-        maps: maps.len(),
-        entries: entries.len(),
-        extensions: extensions.len(),
-        list_programs: programs2.len(),
-        list_streams: streams2.len(),
-    };
-    match prepare(file, bytes) {
+    let six = six_lengths(atcs, stcs, programs, streams, maps, entries);
+    match prepare(file, nine_lengths(six, extensions, programs2, streams2)) {
         Prepared::Refused(n) => Answer::Refused(n),
         Prepared::TooShort { table, rows } => Answer::TooShort { table, rows },
         Prepared::Ready {
@@ -70,24 +114,11 @@ pub fn read(
             list,
             has_list,
         } => {
-            fill_sections(
-                file,
-                rows.maps,
-                atcs,
-                stcs,
-                programs,
-                streams,
-                maps,
-                entries,
-            );
+            let count = rows.maps;
+            fill_sections(file, count, atcs, stcs, programs, streams, maps, entries);
             extension::fill(file, u32_at(file, 24) as usize, extensions);
             fill_list(file, list, has_list, programs2, streams2);
-            Answer::Accepted {
-                info: clip_info(file),
-                marks: mark_count(file, u32_at(file, 20) as usize),
-                rows,
-                has_list,
-            }
+            accepted(file, rows, has_list)
         }
     }
 }

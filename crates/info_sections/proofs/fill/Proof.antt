@@ -1,11 +1,10 @@
 -- A turn stores one header row and its own rows; the section ends within the file, so each of them does.
 use borrow.Author.Needs.{needs}
-use Prim.Native.Nat.{ℕ, _-_, _*_, _+_, _≤_}
-use mathlib.Core.Path.{_≡_, ap}
+use Prim.Native.Nat.{_+_, _-_, _≤_}
 use native.Mathlib.Omega.{arith}
 use denote.Ref.{now}
 use lib.ListN.{length}
-use Rattle.info_sections.specs.Sections.{ownCells, GroupThere}
+use Rattle.info_sections.specs.Sections.{GroupThere}
 use Rattle.info_sections.proofs.Sections.{ends-within, Passing, passing-first, count-in, group-there, passing-turn, passing-done}
 use Rattle.info_sections.proofs.fill.Statement.{statement}
 use Rattle.info_sections.proofs.fill.Tie as tie
