@@ -6,7 +6,7 @@ use mathlib.Core.Bool.{false}
 use native.Mathlib.Nat.{le-trans}
 use native.Mathlib.Omega.{arith}
 use lib.ListN.{length}
-use lib.Dec.{leb, lit<}
+use lib.Dec.{leb}
 use borrow.Author.Tests.{leb-true}
 use Rattle.format.specs.Bytes.{beAt, rowsAt, gather, endOf}
 use Rattle.format.specs.Programs.{streamAt, nextStream, programAt, streamsOf, nextProgram, programsFrom, streamsFrom, programsEnd}
@@ -61,14 +61,14 @@ module _ (f : List ℕ) (start : ℕ) where
         → Filling (rowsAt (programAt f) (nextProgram f)) t (overwritten (tableBytes (programsFrom f start)) t) t 0 (start + 6) n 0
     unfolding programsFrom
     programs-filling room =
-        filling-front 3 (rowsAt (programAt f) (nextProgram f)) t (lit< tt) (rows-all (programAt f) (nextProgram f) (λ p. refl) (start + 6) (beAt f (start + 5) 1)) room
+        filling-front 3 (rowsAt (programAt f) (nextProgram f)) t (rows-all (programAt f) (nextProgram f) (λ p. refl) (start + 6) (beAt f (start + 5) 1)) room
         (ap (rowsAt (programAt f) (nextProgram f) (start + 6)) count)
 
     pub streams-filling : length (streamsFrom f start) ≤ rowRoom streamCells t
         → Filling (gather (streamsOf f) (nextProgram f)) t (overwritten (tableBytes (streamsFrom f start)) t) t 0 (start + 6) n 0
     unfolding streamsFrom
     streams-filling room =
-        filling-front 5 (gather (streamsOf f) (nextProgram f)) t (lit< tt)
+        filling-front 5 (gather (streamsOf f) (nextProgram f)) t
         (gather-all (streamsOf f) (nextProgram f) (λ p. rows-all (streamAt f) (nextStream f) (λ q. refl) (p + 8) (beAt f (p + 6) 1)) (start + 6) (beAt f (start + 5) 1)) room
         (ap (gather (streamsOf f) (nextProgram f) (start + 6)) count)
 

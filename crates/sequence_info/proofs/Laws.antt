@@ -6,7 +6,7 @@ use mathlib.Core.Bool.{false}
 use native.Mathlib.Nat.{le-trans}
 use native.Mathlib.Omega.{arith}
 use lib.ListN.{length}
-use lib.Dec.{leb, lit<}
+use lib.Dec.{leb}
 use borrow.Author.Tests.{leb-true}
 use Rattle.format.specs.Bytes.{beAt, rowsAt, gather}
 use Rattle.format.specs.ClipRecord.{atcAt, stcAt, nextStc, stcsOf, nextAtc, atcsFrom, stcsFrom, sequencesEnd}
@@ -54,14 +54,14 @@ module _ (f : List ℕ) (start : ℕ) where
         → Filling (rowsAt (atcAt f) (nextAtc f)) t (overwritten (tableBytes (atcsFrom f start)) t) t 0 (start + 6) n 0
     unfolding atcsFrom
     atcs-filling room =
-        filling-front 3 (rowsAt (atcAt f) (nextAtc f)) t (lit< tt) (rows-all (atcAt f) (nextAtc f) (λ p. refl) (start + 6) (beAt f (start + 5) 1)) room
+        filling-front 3 (rowsAt (atcAt f) (nextAtc f)) t (rows-all (atcAt f) (nextAtc f) (λ p. refl) (start + 6) (beAt f (start + 5) 1)) room
         (ap (rowsAt (atcAt f) (nextAtc f) (start + 6)) count)
 
     pub stcs-filling : length (stcsFrom f start) ≤ rowRoom stcCells t
         → Filling (gather (stcsOf f) (nextAtc f)) t (overwritten (tableBytes (stcsFrom f start)) t) t 0 (start + 6) n 0
     unfolding stcsFrom
     stcs-filling room =
-        filling-front 4 (gather (stcsOf f) (nextAtc f)) t (lit< tt)
+        filling-front 4 (gather (stcsOf f) (nextAtc f)) t
         (gather-all (stcsOf f) (nextAtc f) (λ p. rows-all (stcAt f) nextStc (λ q. refl) (p + 6) (beAt f (p + 4) 1)) (start + 6) (beAt f (start + 5) 1)) room
         (ap (gather (stcsOf f) (nextAtc f) (start + 6)) count)
 
