@@ -13,7 +13,7 @@ use Rattle.format.specs.Programs.{programsFrom, streamsFrom, programsEnd}
 use Rattle.format.specs.EntryPoints.{cpiIn, mapsIn, mapsFrom, entriesFrom}
 use Rattle.format.specs.Reading.{clipOf}
 use Rattle.format.specs.Refusals.{refusalOf}
-use Rattle.format.proofs.Tests.{split-both, passed}
+use Rattle.format.proofs.Tests.{both-true, passed}
 use Rattle.common.specs.Header.{headerOf}
 use Rattle.common.specs.declared.header.BdmvHeader.{BdmvHeader}
 use Rattle.common.proofs.Laws.{rest}
@@ -101,7 +101,7 @@ front-facts f h =
     let c = passed (lettersRight f) 1 _ (b .1) in
     let d = passed (leb 40 (length f)) 0 _ (c .1) in
     let e = passed (clipInfoIn f) 2 0 (d .1) in
-    (leb-true (length f) 536870912 (a .0), leb-true 194 (length f) (split-both (e .0) .0))
+    (leb-true (length f) 536870912 (a .0), leb-true 194 (length f) (both-true (e .0) .0))
 
 -- ---- the sections behind it
 

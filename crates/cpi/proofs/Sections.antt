@@ -9,7 +9,7 @@ use borrow.Author.Tests.{le-leb, lt-leb, lt-ltb, le-ltb, leb-true}
 use Rattle.format.specs.Bytes.{pick, both, every, beAt, unpacked, rowsAt, total}
 use Rattle.format.specs.ClipRecord.{entryCount, present}
 use Rattle.format.specs.EntryPoints.{headerWidths, mapTypeAt, coarseCountAt, fineCountAt, mapAt, nextMap, bodyAt, fineStart, entriesOf, cpiEnd, hasMaps, mapCount, mapsFrom, entriesFrom, cpiLengthIn, mapHeadersIn, cpiIn, mapIn, mapsIn}
-use Rattle.format.proofs.Tests.{split-both}
+use Rattle.format.proofs.Tests.{both-true}
 use Rattle.format.proofs.Rows.{rows-length, gather-adds}
 use Rattle.format.proofs.Cpi.{count-by}
 use Rattle.format.proofs.Read.{own-length}
@@ -141,7 +141,7 @@ module _ (f : List ℕ) (c count : ℕ) (counted : count ≡ mapCount f c) where
 module _ (f : List ℕ) (c : ℕ) where
   present-of : hasMaps f c ≡ true → present f c ≡ true
   unfolding hasMaps
-  present-of q = split-both q .0
+  present-of q = both-true q .0
 
   no-maps : hasMaps f c ≡ false → Measured.Counts 0 0 ≡ mapsMeasured f c
   unfolding mapsMeasured mapsIn mapsFrom entriesFrom mapCount

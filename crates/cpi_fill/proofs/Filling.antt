@@ -6,13 +6,12 @@ use mathlib.Core.Bool.{Bool, true, false}
 use native.Mathlib.Omega.{arith}
 use lib.ListN.{length}
 use lib.Seq.{sets}
-use lib.Dec.{lit<}
 use borrow.Author.Tests.{leb-true, ltb-true}
-use Rattle.format.specs.Bytes.{pick, both, every, beAt, rowsAt, gather}
+use Rattle.format.specs.Bytes.{pick, every, beAt, rowsAt, gather}
 use Rattle.format.specs.ClipRecord.{Row, present}
-use Rattle.format.specs.EntryPoints.{coarseAt, fineAt, nextCoarse, nextFine, mapTypeAt, coarseCountAt, fineCountAt, mapAt, nextMap, bodyAt, fineStart, entriesFor, entriesOf, cpiEnd, hasMaps, mapCount, mapsFrom, entriesFrom, cpiLengthIn, mapHeadersIn, cpiIn, addressIn, coarseRowsIn, fineAddressIn, fineRowsIn, mapIn, mapsIn}
+use Rattle.format.specs.EntryPoints.{coarseAt, fineAt, nextCoarse, nextFine, mapTypeAt, coarseCountAt, fineCountAt, mapAt, nextMap, bodyAt, fineStart, entriesFor, entriesOf, cpiEnd, hasMaps, mapCount, mapsFrom, entriesFrom, cpiLengthIn, cpiIn, mapIn, mapsIn}
 use Rattle.format.specs.Tables.{rowBytes, tableBytes, overwritten}
-use Rattle.format.proofs.Tests.{both-true, split-both}
+use Rattle.format.proofs.Tests.{both-true}
 use Rattle.format.proofs.Lists.{none, more}
 use Rattle.format.proofs.Rows.{rows-all, gather-all}
 use Rattle.format.proofs.Read.{own-length}
@@ -32,9 +31,9 @@ pub record BodyIn (f : List ℕ) (c p : ℕ) : Type 0 where
 
 pub body-in : (f : List ℕ) (c p : ℕ) → mapIn f c p ≡ true → BodyIn f c p
 body-in f c p h =
-    let a = both-true (addressIn f c p) (both (coarseRowsIn f c p) (both (fineAddressIn f c p) (fineRowsIn f c p))) h in
-    let b = both-true (coarseRowsIn f c p) (both (fineAddressIn f c p) (fineRowsIn f c p)) (a .1) in
-    let d = both-true (fineAddressIn f c p) (fineRowsIn f c p) (b .1) in
+    let a = both-true h in
+    let b = both-true (a .1) in
+    let d = both-true (b .1) in
     record {
       address = ltb-true (bodyAt f c p) (cpiEnd f c) (a .0);
       coarse = leb-true (bodyAt f c p + 4 + 8 * coarseCountAt f p) (length f) (b .0);
@@ -82,14 +81,14 @@ unfolding mapCount hasMaps
 some-maps f c h = go (hasMaps f c) refl h
   where
     go : (m : Bool) → hasMaps f c ≡ m → 0 < pick m (beAt f (c + 7) 1) 0 → (hasMaps f c ≡ true) × (present f c ≡ true)
-    go true q h = (q, split-both q .0)
+    go true q h = (q, both-true q .0)
     go false q h = absurd (omega arith)
 
 pub there : (f : List ℕ) (c count : ℕ) → count ≡ mapCount f c → cpiIn f c ≡ true → 0 < count → There f c count
 unfolding cpiIn
 there f c count e h some =
     let t = some-maps f c (rw e at some) in
-    let b = both-true (cpiLengthIn f c) (mapHeadersIn f c) h in
+    let b = both-true {a = cpiLengthIn f c} h in
     let l : cpiEnd f c ≤ length f = leb-true (cpiEnd f c) (length f) (rw (t .1) at (b .0)) in
     let m : c + 8 + 12 * mapCount f c ≤ length f = leb-true (c + 8 + 12 * mapCount f c) (length f) (rw (t .0) at (b .1)) in
     record { headers = rw e m; end-in = l }
@@ -113,8 +112,8 @@ filling-first f c count maps₀ entries₀ fill =
     let own = gather-all (entriesOf f c) nextMap (own-cells f c) (c + 8) (mapCount f c) in
     record {
       good = rw (p, n) (fill .maps-in);
-      maps-left = rw p (filling-front 3 (rowsAt (mapAt f) nextMap) maps₀ (lit< tt) have (fill .maps-room) (ap (rowsAt (mapAt f) nextMap (c + 8)) (fill .counted)));
-      entries-left = rw p (filling-front 5 (gather (entriesOf f c) nextMap) entries₀ (lit< tt) own (fill .entries-room) (ap (gather (entriesOf f c) nextMap (c + 8)) (fill .counted)));
+      maps-left = rw p (filling-front 3 (rowsAt (mapAt f) nextMap) maps₀ have (fill .maps-room) (ap (rowsAt (mapAt f) nextMap (c + 8)) (fill .counted)));
+      entries-left = rw p (filling-front 5 (gather (entriesOf f c) nextMap) entries₀ own (fill .entries-room) (ap (gather (entriesOf f c) nextMap (c + 8)) (fill .counted)));
     }
 
 module _ {f : List ℕ} {c count : ℕ} {maps₀ entries₀ maps entries : List ℕ} {at k : ℕ} (i : Filling f c count maps₀ entries₀ maps entries at k) where
@@ -127,7 +126,7 @@ module _ {f : List ℕ} {c count : ℕ} {maps₀ entries₀ maps entries : List 
   module _ (h : k < count) where
     -- the map of this turn and the later ones are good
     goods : (mapIn f c q ≡ true) × (every (λ b. b) (rowsAt (mapIn f c) nextMap (nextMap q) (count - (k + 1))) ≡ true)
-    goods = split-both (rw (one-left count k h) at (i .good))
+    goods = both-true (rw (one-left count k h) at (i .good))
 
     -- the map of this turn
     pub filling-map : mapIn f c q ≡ true

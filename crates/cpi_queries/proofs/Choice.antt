@@ -1,5 +1,5 @@
 -- The choice of the primary map: the first of a type, the least PID, and the packets that are sought in it.
-use Prim.Native.Nat.{ℕ, _+_, _*_, _-_, _%_, _<_, _≤_}
+use Prim.Native.Nat.{ℕ, _+_, _*_, _%_, _<_, _≤_}
 use mathlib.Core.Path.{_≡_, refl, sym, ap, _∙_}
 use mathlib.Core.List.{List, [], map}
 use mathlib.Core.Bool.{Bool, true, false}
@@ -146,7 +146,7 @@ none-through false x h = let z : _≡_ {A = ℕ} 0 1 = cc in absurd (omega arith
 pub maps-there : (t : Table) → none ≡ ask (epMapByKind 8) (onlyMaps t) → t .rows ≤ rowRoom mapCells (t .bytes)
 unfolding ask
 maps-there t h =
-    let b = both-true (isStated mapCells t) true (none-through (both (isStated mapCells t) true) (answer (epMapByKind 8) (clipIn (onlyMaps t))) h) in
+    let b = both-true (none-through (both (isStated mapCells t) true) (answer (epMapByKind 8) (clipIn (onlyMaps t))) h) in
     leb-true (t .rows) (rowRoom mapCells (t .bytes)) (b .0)
 
 -- ---- the packet in the primary map
@@ -222,7 +222,7 @@ module _ (side : Bool) (at : ℕ) (maps entries : Table) where
     unfolding ask answer clipIn
     is-primary =
         let t = through-test (both (isStated mapCells maps) true) (primaryMap (rowsOf mapCells maps)) h in
-        (both-true (isStated mapCells maps) true (t .0) .0, t .1)
+        (both-true (t .0) .0, t .1)
 
     pub map-below : k < maps .rows
     unfolding tableRows

@@ -3,11 +3,9 @@ use Prim.Native.Nat.{ℕ, _+_, _*_, _-_, _^_, _<_, _≤_}
 use mathlib.Core.Path.{_≡_, refl}
 use mathlib.Core.List.{List, [], _∷_, _++_}
 use mathlib.Core.Bool.{Bool, true}
-use native.Mathlib.Nat.{le-div-iff-mul-le}
 use native.Mathlib.Omega.{arith}
 use borrow.Author.Tests.{eqb-true, leb-true}
 use lib.ListN.{length, take, drop, length-append, length-take}
-use lib.Dec.{lit<}
 use Rattle.format.specs.Bytes.{both, every, total}
 use Rattle.format.specs.ClipRecord.{Row, mapType, entryCount}
 use Rattle.format.specs.Refusals.{mapFits, everyMap}
@@ -20,7 +18,7 @@ use Rattle.format.proofs.Rows.{rows-length, take-rows, drop-rows}
 use Rattle.format.proofs.Tests.{both-true}
 use Rattle.cells.specs.Reads.{CellIs}
 use Rattle.table_rows.proofs.Scans.{rowsLeft, left-all, left-turn}
-use Rattle.format.proofs.Cell.{row-cell}
+use Rattle.format.proofs.Cell.{row-cell, rows-room}
 use Rattle.runs.specs.Runs.{entriesAt}
 use Rattle.encode_cpi.specs.Cpi.{BothThere, Counted, fewRuns, mapRows, entryRows}
 
@@ -54,7 +52,7 @@ pub bodies-most : (ms es : List Row) → All FewEntries ms → everyMap fewRuns 
 bodies-most [] es counts r = omega arith
 bodies-most (m ∷ ms) es (more c later) r =
     let own = take (entryCount m) es in
-    let few = both-true (fewRuns m own) (everyMap fewRuns ms (drop (entryCount m) es)) r in
+    let few = both-true r in
     let rest = bodies-most ms (drop (entryCount m) es) later (few .1) in
     let most = leb-true (runs own) 65535 (few .0) in
     let size = body-length own in
@@ -92,11 +90,11 @@ module _ (maps : List ℕ) (n : ℕ) (entries : List ℕ) (m : ℕ) where
 
   -- the rows lie inside the tables
   pub map-room : BothThere maps n entries m → (k : ℕ) → k < n → 12 * k + 12 ≤ length maps
-  map-room l k h = omega (arith, le-div-iff-mul-le (lit< tt) .0 (l .maps-there))
+  map-room l k h = omega (arith, rows-room mapCells maps (l .maps-there))
 
   -- and so do all entries
   pub entries-room : BothThere maps n entries m → 20 * m ≤ length entries
-  entries-room l = omega (arith, le-div-iff-mul-le (lit< tt) .0 (l .entries-there))
+  entries-room l = omega (arith, rows-room entryCells entries (l .entries-there))
 
   -- after k maps and j entries the counts that are left add up to the entries that are left, and each map fits
   pub record Walk (j k : ℕ) : Type 0 where
@@ -119,7 +117,7 @@ module _ (maps : List ℕ) (n : ℕ) (entries : List ℕ) (m : ℕ) where
   module _ (j k : ℕ) (w : Walk j k) (h : k < n) where
     -- the map fits
     pub row-fits : MapFits (mapRow k)
-    row-fits = map-fits (mapRow k) (both-true (mapFits (mapRow k)) (every mapFits (mapsLeft (k + 1))) (rw (left-turn mapCells maps n k h) at (w .fit)) .0)
+    row-fits = map-fits (mapRow k) (both-true (rw (left-turn mapCells maps n k h) at (w .fit)) .0)
 
     module _ {c : ℕ} (cell : CellIs maps (12 * k + 8) c) where
       -- its count
@@ -156,7 +154,7 @@ module _ (maps : List ℕ) (n : ℕ) (entries : List ℕ) (m : ℕ) where
         turns = omega arith;
         within = own-within;
         add = omega (arith, counts);
-        fit = both-true (mapFits (mapRow k)) (every mapFits (mapsLeft (k + 1))) (rw (left-turn mapCells maps n k h) at (w .fit)) .1;
+        fit = both-true {a = mapFits (mapRow k)} (rw (left-turn mapCells maps n k h) at (w .fit)) .1;
       }
 
       -- a test of each map: of this one with its own entries, and of those behind it

@@ -73,9 +73,7 @@ module _ (maps : List ℕ) (n : ℕ) (entries : List ℕ) (m : ℕ) where
     -- what a test of each map says of this one
     pub here : (test : Row → List Row → Bool) → everyMap test (mapsLeft maps n entries m k) (entriesLeft maps n entries m j) ≡ true
         → (test (mapRow maps n entries m k) (entriesAt entries (20 * j) c) ≡ true) × (everyMap test (mapsLeft maps n entries m (k + 1)) (entriesLeft maps n entries m (j + c)) ≡ true)
-    here test t =
-        both-true (test (mapRow maps n entries m k) (entriesAt entries (20 * j) c)) (everyMap test (mapsLeft maps n entries m (k + 1)) (entriesLeft maps n entries m (j + c)))
-        (rw (every-turn maps n entries m j k (i .walk) h cell test) at t)
+    here test t = both-true (rw (every-turn maps n entries m j k (i .walk) h cell test) at t)
 
     -- the body and those behind it
     pub sizes : length (bodies (mapsLeft maps n entries m k) (entriesLeft maps n entries m j))

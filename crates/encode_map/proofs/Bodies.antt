@@ -1,5 +1,5 @@
 -- The loops that store the coarse rows and the fine rows of a map, and its body.
-use Prim.Native.Nat.{ℕ, zero, suc, _+_, _*_, _-_, _/_, _%_, _^_, _<_, _≤_}
+use Prim.Native.Nat.{ℕ, suc, _+_, _*_, _-_, _/_, _%_, _^_, _<_, _≤_}
 use mathlib.Core.Path.{_≡_, refl, sym, ap, ap₂, subst, _∙_}
 use mathlib.Core.List.{List, [], _∷_, _++_, append-nil}
 use mathlib.Core.Bool.{Bool, true, false}
@@ -7,25 +7,25 @@ use native.Mathlib.Numerals.{add-one}
 use native.Mathlib.Omega.{arith}
 use lib.ListN.{length, length-append}
 use lib.Seq.{sets, length-sets}
-use lib.Dec.{eqb}
-use Rattle.format.specs.Bytes.{both, every, bytesOf, fieldBytes, fits, packed, rowsAt, flat}
-use Rattle.format.specs.ClipRecord.{Row, mapPid, mapType, angle, iEnd, time, entryType}
+use Rattle.format.specs.Bytes.{bytesOf, fieldBytes, fits, packed, flat}
+use Rattle.format.specs.ClipRecord.{Row, mapPid, mapType, angle, iEnd, time}
 use Rattle.format.specs.EntryPoints.{headerWidths, coarseWidths}
 use Rattle.format.specs.Refusals.{entryFits}
 use Rattle.format.specs.Rewriting.{sameRun, unlessSame, coarseRow, coarseRows, runs, coarseBytes, fineBytes, bodyBytes, headerBytes}
 use Rattle.format.specs.Tables.{cellsAt}
 use Rattle.format.proofs.Cpi.{body-length}
 use Rattle.format.proofs.Fields.{Fit, one, fits-fit}
+use Rattle.format.proofs.Lists.{every-all, all-at}
 use Rattle.format.proofs.Loops.{flat-append}
 use Rattle.format.proofs.Numbers.{bytes-length}
 use Rattle.format.proofs.Read.{runs-few}
 use Rattle.format.proofs.Stores.{part-then}
-use Rattle.format.proofs.Rows.{all-rows, rows-length, flat-length}
+use Rattle.format.proofs.Rows.{all-rows, rows-length, left-all, left-turn, left-done, flat-length}
 use Rattle.format.proofs.Tests.{both-true}
 use Rattle.cells.specs.Reads.{CellIs}
 use Rattle.runs.specs.Runs.{entriesAt, entriesFrom, keyed, pairRow, PairIs, begun}
-use Rattle.format.proofs.Cell.{row-cell}
-use Rattle.runs.proofs.Runs.{left-all, left-turn, left-done, begun-none, begun-first, begun-later, begun-few}
+use Rattle.format.proofs.Cell.{row-cell, item-at}
+use Rattle.runs.proofs.Runs.{begun-none, begun-first, begun-later, begun-few}
 use Rattle.encode_map.specs.Bodies.{EntriesFit, ownCoarse}
 use Rattle.map_rows.proofs.Puts.{sets-before, put-below}
 
@@ -43,15 +43,7 @@ narrow-by e (one a (one i f)) = record { angle-fits = a; end-fits = i }
 -- by the test of an entry
 narrow : (type : ℕ) (e : Row) → entryFits type e ≡ true → Narrow e
 narrow type e h =
-    narrow-by e (fits-fit (1 ∷ 3 ∷ 32 ∷ 32 ∷ 4 ∷ []) e (both-true (fits (1 ∷ 3 ∷ 32 ∷ 32 ∷ 4 ∷ []) e) (both (eqb (time e % 512) 0) (eqb (entryType e) type)) h .0))
-
--- what passes in each of n rows passes in row k
-every-row : (test : Row → Bool) (row : ℕ → Row) (p n k : ℕ) → every test (rowsAt row (λ q. q + 20) p n) ≡ true → k < n → test (row (p + 20 * k)) ≡ true
-every-row test row p zero k h l = absurd (omega arith)
-every-row test row p (suc n) zero h l = let e : p + 20 * 0 ≡ p = omega arith in rw e (both-true (test (row p)) (every test (rowsAt row (λ q. q + 20) (p + 20) n)) h .0)
-every-row test row p (suc n) (suc k) h l =
-    let e : p + 20 * suc k ≡ p + 20 + 20 * k = omega arith in
-    rw e (every-row test row (p + 20) n k (both-true (test (row p)) (every test (rowsAt row (λ q. q + 20) (p + 20) n)) h .1) (omega arith))
+    narrow-by e (fits-fit (1 ∷ 3 ∷ 32 ∷ 32 ∷ 4 ∷ []) e (both-true h .0))
 
 -- so what is read at the places of the two is
 pub entry-narrow : (t : List ℕ) (q type : ℕ) {a i : ℕ} → entryFits type (cellsAt t 5 q) ≡ true → CellIs t q a → CellIs t (q + 4) i → (a < 2 ^ 1) × (i < 2 ^ 3)
@@ -63,7 +55,9 @@ entry-narrow t q type {a} {i} f c d =
 
 -- each of n entries that fit does
 pub row-fits : (t : List ℕ) (p n k : ℕ) (f : EntriesFit (entriesAt t p n)) → k < n → entryFits (f .type) (cellsAt t 5 (p + 20 * k)) ≡ true
-row-fits t p n k f h = every-row (entryFits (f .type)) (cellsAt t 5) p n k (f .fit) h
+row-fits t p n k f h =
+    rw (item-at (cellsAt t 5) [] 20 p n k h) at
+    (all-at [] (every-all (entryFits (f .type)) (entriesAt t p n) (f .fit)) k (rw (rows-length (cellsAt t 5) (λ q. q + 20) p n) h))
 
 -- ---- the rows of one entry
 
@@ -126,7 +120,7 @@ module _ (t : List ℕ) (p n : ℕ) (o₀ : List ℕ) (fine : ℕ) where
     within = omega arith;
     long = refl;
     place = rw (begun-none t p n) (omega arith);
-    rest = rw (begun-none t p n, left-done t p n n (omega arith));
+    rest = rw (begun-none t p n, left-done (cellsAt t 5) 20 p n n (omega arith));
   }
 
   -- a later entry adds its own coarse row to those of the entries behind it
@@ -158,7 +152,7 @@ module _ (t : List ℕ) (p n : ℕ) (o₀ : List ℕ) (fine : ℕ) where
         let C = flat coarseBytes (begun t p n (suc k)) in
         let size = coarse-size own in
         let up : k + 1 ≡ suc k = add-one k in
-        let rows : flat fineBytes (entriesFrom t p n k) ≡ f ++ F = rw (left-turn t p n k (i .within), up) in
+        let rows : flat fineBytes (entriesFrom t p n k) ≡ f ++ F = rw (left-turn (cellsAt t 5) 20 p n k (i .within), up) in
         let coarse : flat coarseBytes (begun t p n k) ≡ c ++ C = rw more (flat-append coarseBytes own (begun t p n (suc k))) in
         let next : fine + 4 * suc k ≡ fine + 4 * k + 4 = omega arith in
         let one : o₁ ≡ sets (sets o₀ to C) (fine + 4 * k) (f ++ F) = put-below (sets o₀ to C) (fine + 4 * k) 4 f F (bytes-length 4 _) next (i .rest) x in
@@ -179,7 +173,7 @@ module _ (t : List ℕ) (p n : ℕ) (o₀ : List ℕ) (fine : ℕ) where
   stored-all o to i =
       let C = flat coarseBytes (coarseRows (entriesAt t p n)) in
       let e : fine + 4 * 0 ≡ fine = omega arith in
-      let rest : o ≡ sets (sets o₀ to C) fine (flat fineBytes (entriesAt t p n)) = i .rest ∙ rw (e, left-all t p n) in
+      let rest : o ≡ sets (sets o₀ to C) fine (flat fineBytes (entriesAt t p n)) = i .rest ∙ rw (e, left-all (cellsAt t 5) 20 p n) in
       (i .place, part-then o₀ to (8 * length (coarseRows (entriesAt t p n))) C (flat fineBytes (entriesAt t p n)) (coarse-size (coarseRows (entriesAt t p n))) (sym (i .place)) refl rest)
 
   -- without entries nothing is

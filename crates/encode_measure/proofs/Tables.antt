@@ -5,14 +5,12 @@ use mathlib.Core.List.{List}
 use mathlib.Core.Bool.{Bool, true, false, not}
 use native.Mathlib.Omega.{arith}
 use lib.ListN.{length}
-use lib.Dec.{leb}
 use borrow.Author.Tests.{not-true, not-false}
-use Rattle.format.specs.Bytes.{both, unless, every}
-use Rattle.format.specs.ClipRecord.{entryCount}
-use Rattle.format.specs.Tables.{ClipTables, clipIn, isStated, addUp, rowsOf, rowRoom, atcCells, stcCells, programCells, streamCells, mapCells, entryCells}
+use Rattle.format.specs.Bytes.{both, unless}
+use Rattle.format.specs.Tables.{ClipTables, clipIn, isStated, rowsOf, rowRoom, atcCells, stcCells, programCells, streamCells, mapCells, entryCells}
 use Rattle.format.specs.Rewriting.{sequencesBytes, programsBytes, cpiBytes, cpiBytesBy}
-use Rattle.format.specs.Refusals.{mapFits, scalarsFit, cellsFit, runsFit, allStated, writeRefusal}
-use Rattle.format.proofs.Tests.{both-true, split-both, true-both, passed, picked, not-picked, left-fails, right-fails}
+use Rattle.format.specs.Refusals.{scalarsFit, cellsFit, runsFit, allStated, writeRefusal}
+use Rattle.format.proofs.Tests.{both-true, true-both, passed, picked, not-picked, left-fails, right-fails}
 use Rattle.format.proofs.Maker.{good-made}
 use Rattle.queries.specs.Asked.{noScalars, tablesWith}
 use Rattle.table_rows.specs.OwnRows.{isCounted}
@@ -74,7 +72,7 @@ module _ (l : ClipTables) where
   pub pairs : pairsCounted l ≡ true
       → (isCounted 1 stcCells (l .atcs) (l .stcs) ≡ true) × ((isCounted 2 streamCells (l .programs) (l .streams) ≡ true) × (isCounted 2 entryCells (l .maps) (l .entries) ≡ true))
   unfolding pairsCounted
-  pairs h = let first = split-both h in (first .0, split-both (first .1))
+  pairs h = let first = both-true h in (first .0, both-true (first .1))
 
   -- counts that do not add up
   pub refused-22 : {r : Bool} → r ≡ pairsCounted bare → not r ≡ true → refusalIn l ≡ 22
@@ -182,16 +180,16 @@ module _ (l : ClipTables) where
   pub cpi-counted : pairsCounted l ≡ true → fieldsOf ≡ true → cpi.Counted (cpi.mapRows (l .maps .bytes) (l .maps .rows)) (cpi.entryRows (l .entries .bytes) (l .entries .rows))
   unfolding isCounted
   cpi-counted h fields =
-      let tables = both-true (scalarsFit (l .scalars)) (tablesFit (l .atcs) (l .stcs) (l .programs) (l .streams) (l .maps)) fields .1 in
-      let maps = both-true (leb (length (rowsOf mapCells (l .maps))) 255) (every mapFits (rowsOf mapCells (l .maps))) (maps-fit l tables) in
+      let tables = both-true {a = scalarsFit (l .scalars)} fields .1 in
+      let maps = both-true (maps-fit l tables) in
       let stated = both (isStated mapCells (l .maps)) (both (isStated entryCells (l .entries)) true) in
-      let counted = both-true stated (addUp entryCount (rowsOf mapCells (l .maps)) (rowsOf entryCells (l .entries))) (pairs h .1 .1) in
+      let counted = both-true {a = stated} (pairs h .1 .1) in
       record { add = counted .1; few = maps .0; fit = maps .1 }
 
   pub cpi-writable : Passed l → cpi.Writable (cpi.mapRows (l .maps .bytes) (l .maps .rows)) (cpi.entryRows (l .entries .bytes) (l .entries .rows))
   unfolding clipIn runsFit
   cpi-writable p =
-      let parts = both-true fieldsOf entriesOf (sym (fields-and-entries l) ∙ p .fit) in
+      let parts = both-true (sym (fields-and-entries l) ∙ p .fit) in
       record { counted = cpi-counted (p .counted) (parts .0); entries-fit = parts .1; runs-few = p .runs-fit }
 
   -- ---- what storing each section asks, in an output of so many bytes

@@ -2,13 +2,13 @@
 use Prim.Native.Nat.{ℕ, _+_, _*_, _<_, _≤_}
 use mathlib.Core.Path.{_≡_, ap, _∙_}
 use mathlib.Core.List.{List}
-use native.Mathlib.Nat.{mul-comm, le-div-iff-mul-le}
+use native.Mathlib.Nat.{mul-comm}
 use native.Mathlib.Omega.{arith}
 use lib.ListN.{length}
-use lib.Dec.{lit<}
 use Rattle.format.specs.Bytes.{endOf}
 use Rattle.format.specs.ClipRecord.{Row}
 use Rattle.format.specs.Tables.{rowRoom}
+use Rattle.format.proofs.Cell.{rows-room}
 use Rattle.format.proofs.Loops.{end-ge}
 use Rattle.format.proofs.Sweep.{end-steps, Along, along-first, along-turn, along-within}
 use Rattle.row_values.specs.declared.Kind.{Kind}
@@ -17,14 +17,7 @@ use Rattle.row_values.specs.Kinds.{cellsOf, rowOf, bytesBy}
 use Rattle.row_values.proofs.Lengths.{row-short}
 use Rattle.encode_rows.specs.Rows.{stepOf}
 
--- every kind has cells
-cells-some : (kind : Kind) → 0 < 4 * cellsOf kind
-cells-some Kind.Atc = lit< tt
-cells-some Kind.Stc = lit< tt
-cells-some Kind.Program = lit< tt
-cells-some Kind.Stream = lit< tt
-
--- and not more than five
+-- no kind has more than five cells
 pub cells-few : (kind : Kind) → cellsOf kind ≤ 5
 cells-few Kind.Atc = omega arith
 cells-few Kind.Stc = omega arith
@@ -40,8 +33,7 @@ pub rows-inside : (kind : Kind) (t : List ℕ) (n : ℕ) → n ≤ rowRoom (cell
 rows-inside kind t n h =
     let e = end-steps (4 * cellsOf kind) 0 n in
     let c = mul-comm n (4 * cellsOf kind) in
-    let l : n * (4 * cellsOf kind) ≤ length t = le-div-iff-mul-le (cells-some kind) .0 h in
-    omega arith
+    omega (arith, rows-room (cellsOf kind) t h)
 
 -- a pass over rows that end inside begins inside
 pub pass-first : (kind : Kind) (t : List ℕ) (p n : ℕ) → endOf (stepOf kind) p n ≤ length t → Along (stepOf kind) (length t) p n p 0

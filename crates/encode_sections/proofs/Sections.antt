@@ -9,7 +9,7 @@ use borrow.Author.Tests.{leb-true, eqb-true}
 use Rattle.format.specs.Bytes.{both, flat, total}
 use Rattle.format.specs.ClipRecord.{Clip}
 use Rattle.format.specs.Rewriting.{sequencesBytes, programsBytes}
-use Rattle.format.specs.Tables.{tableRows, rowRoom, stcCells, streamCells, isStated, addUp}
+use Rattle.format.specs.Tables.{tableRows, rowRoom, stcCells, streamCells, isStated}
 use Rattle.format.proofs.Tables.{rows-stated}
 use Rattle.format.proofs.Sections.{section-length}
 use Rattle.format.proofs.Tests.{both-true}
@@ -57,10 +57,10 @@ module _ (cell cells : ℕ) (heads : List ℕ) (n : ℕ) (rows : List ℕ) (m : 
   unfolding isCounted
   counted-parts =
       let tables = both (isStated headCells (stated heads n)) (both (isStated cells (stated rows m)) true) in
-      let whole = both-true tables (addUp (cellIn cell) (tableRows headCells heads n) (tableRows cells rows m)) h in
-      let there = both-true (isStated headCells (stated heads n)) (both (isStated cells (stated rows m)) true) (whole .0) in (
+      let whole = both-true h in
+      let there = both-true (whole .0) in (
         leb-true n (rowRoom headCells heads) (there .0),
-        leb-true m (rowRoom cells rows) (both-true (isStated cells (stated rows m)) true (there .1) .0),
+        leb-true m (rowRoom cells rows) (both-true (there .1) .0),
         eqb-true (total (cellIn cell) (tableRows headCells heads n)) (length (tableRows cells rows m)) (whole .1) ∙ rows-stated cells rows m,
       )
 

@@ -12,11 +12,11 @@ use Rattle.format.specs.ClipRecord.{Row}
 use Rattle.format.specs.Refusals.{entryFits}
 use Rattle.format.specs.Rewriting.{timeKey, packetKey, sameRun, coarseRow, coarseAfter, runs}
 use Rattle.format.specs.Tables.{cellsAt}
-use Rattle.format.proofs.Rows.{rows-length, drop-rows}
+use Rattle.format.proofs.Rows.{rows-length, drop-rows, left-all, left-turn, left-done}
 use Rattle.format.proofs.Tests.{true-both, left-fails, picked, not-picked}
 use Rattle.runs.specs.Runs.{entriesAt, entriesFrom, pairRow, PairIs, runEnd, endFrom, coarseFrom}
 use Rattle.format.proofs.Cell.{row-cell}
-use Rattle.runs.proofs.Runs.{run-ends, after-run, coarse-all, left-all, left-turn, left-done}
+use Rattle.runs.proofs.Runs.{run-ends, after-run, coarse-all}
 use Rattle.entry_runs.specs.Fitting.{fitUntil, endFit, runsFit}
 use Rattle.entry_runs.specs.declared.RunEnd.{RunEnd}
 use Rattle.entry_runs.specs.declared.RunCount.{RunCount}
@@ -55,7 +55,7 @@ module _ (t : List ℕ) (p n type : ℕ) where
     -- before its first entry nothing is known
     pub along-first : from < n → Along from
     unfolding runEnd endFit
-    along-first h = record { past = omega arith; within = omega arith; rest = rw (left-turn t p n from h, same-self (entryRow from)); fit = refl }
+    along-first h = record { past = omega arith; within = omega arith; rest = rw (left-turn (cellsAt t 5) 20 p n from h, same-self (entryRow from)); fit = refl }
 
     -- where it ends, its end is told
     at-end : (k : ℕ) → Along k → k ≡ itsEnd → RunEnd.At k ≡ endFit type from (entriesFrom t p n from)
@@ -74,7 +74,7 @@ module _ (t : List ℕ) (p n type : ℕ) where
       unfolding runEnd
       along-stop y =
           let differs : sameRun (entryRow from) (entryRow k) ≡ false = sym same-as ∙ not-true s y in
-          at-end k i (rw (left-turn t p n k h, differs) at (i .rest))
+          at-end k i (rw (left-turn (cellsAt t 5) 20 p n k h, differs) at (i .rest))
 
       module _ (y : not s ≡ false) where
         -- it is in the run
@@ -82,7 +82,7 @@ module _ (t : List ℕ) (p n type : ℕ) where
         unfolding runEnd
         later =
             let same : sameRun (entryRow from) (entryRow k) ≡ true = sym same-as ∙ not-false s y in
-            rw (left-turn t p n k h, same) at (i .rest)
+            rw (left-turn (cellsAt t 5) 20 p n k h, same) at (i .rest)
 
         -- so it is tested with those behind it
         tested : pick (both (entryFits type (entryRow k)) (every (entryFits type) (take (itsEnd - (k + 1)) (entriesFrom t p n (k + 1))))) (RunEnd.At itsEnd) RunEnd.Unfit
@@ -90,7 +90,7 @@ module _ (t : List ℕ) (p n type : ℕ) where
         tested =
             let e = later in
             let more : itsEnd - k ≡ suc (itsEnd - (k + 1)) = omega (arith, run-ends (entryRow from) (suc k) (entriesFrom t p n (k + 1)) .past) in
-            rw (left-turn t p n k h, more) at (i .fit)
+            rw (left-turn (cellsAt t 5) 20 p n k h, more) at (i .fit)
 
         -- it does not fit
         pub along-unfit : {f : Bool} → f ≡ entryFits type (entryRow k) → not f ≡ true → RunEnd.Unfit ≡ endFit type from (entriesFrom t p n from)
@@ -105,7 +105,7 @@ module _ (t : List ℕ) (p n type : ℕ) where
     -- the run ends with the entries
     pub along-done : (k : ℕ) → Along k → n ≤ k → RunEnd.At k ≡ endFit type from (entriesFrom t p n from)
     unfolding runEnd
-    along-done k i h = at-end k i (rw (left-done t p n k h) at (i .rest))
+    along-done k i h = at-end k i (rw (left-done (cellsAt t 5) 20 p n k h) at (i .rest))
 
   -- ---- from run to run
 
@@ -126,7 +126,7 @@ module _ (t : List ℕ) (p n type : ℕ) where
         let e : r ≡ endFrom k es = cc (p′ .1) in
         let first = entryRow k in
         let xs = entriesFrom t p n (k + 1) in
-        let end : r ≡ runEnd first (suc k) xs = rw (left-turn t p n k h) at e in
+        let end : r ≡ runEnd first (suc k) xs = rw (left-turn (cellsAt t 5) 20 p n k h) at e in
         let ends = run-ends first (suc k) xs in
         let size : length xs ≡ n - (k + 1) = rows-length (cellsAt t 5) (λ q. q + 20) (p + 20 * (k + 1)) (n - (k + 1)) in
         let past : k < r = omega (arith, end, ends .past) in
@@ -138,7 +138,7 @@ module _ (t : List ℕ) (p n type : ℕ) where
         record {
           past = past;
           within = within;
-          rows = rw (left-turn t p n k h) (ap (λ (l : List Row). coarseRow k first ∷ l) behind);
+          rows = rw (left-turn (cellsAt t 5) 20 p n k h) (ap (λ (l : List Row). coarseRow k first ∷ l) behind);
           fit = sym (every-parts (entryFits type) (r - k) es) ∙ rw (own, left-drop k r (omega arith) within);
         }
 
@@ -164,8 +164,8 @@ module _ (t : List ℕ) (p n type : ℕ) where
   counted-first = record {
     within = omega arith;
     small = omega arith;
-    rest = rw (left-all t p n, coarse-all (entriesAt t p n)) (omega arith);
-    fit = rw (left-all t p n);
+    rest = rw (left-all (cellsAt t 5) 20 p n, coarse-all (entriesAt t p n)) (omega arith);
+    fit = rw (left-all (cellsAt t 5) 20 p n);
   }
 
   module _ (count k : ℕ) (i : Counted count k) where
@@ -184,7 +184,7 @@ module _ (t : List ℕ) (p n type : ℕ) where
     pub counted-done : n ≤ k → RunCount.Runs count ≡ runsFit type (entriesAt t p n)
     unfolding runsFit
     counted-done h =
-        let rest = rw (left-done t p n k h) at (i .rest) in
-        let fits = rw (left-done t p n k h) at (i .fit) in
+        let rest = rw (left-done (cellsAt t 5) 20 p n k h) at (i .rest) in
+        let fits = rw (left-done (cellsAt t 5) 20 p n k h) at (i .fit) in
         let e : count ≡ runs (entriesAt t p n) = omega arith in
         rw (← fits, e)

@@ -111,7 +111,7 @@ module _ (f : List ℕ) (start : ℕ) where
   pub block : {n end : ℕ} → IsBytes f → length f ≤ 536870912 → Head.Entries n end ≡ headOf f start → Block f start n end
   block bytes small e =
       let h = has e in
-      let t = both-true long whole (both-true (both some before) (both long whole) (h .is) .1) .1 in
+      let t = both-true {a = long} (both-true {a = both some before} (h .is) .1) .1 in
       let room = leb-true (start + 12 + 12 * extensionCount f start) (length f) t in
       record { short = small; room = rw (h .count) room; few = omega (arith, h .count, be-below f bytes (start + 11) 1); stop = h .stop }
 

@@ -2,7 +2,7 @@
 use Prim.Native.Nat.{ℕ, zero, suc, _+_, _*_, _<_, _≤_}
 use mathlib.Core.Path.{_≡_, sym, ap, _∙_}
 use mathlib.Core.List.{List, []}
-use native.Mathlib.Nat.{add-zero, mul-zero, mul-suc, suc-mul, mul-assoc, mul-comm, le-trans, le-div-iff-mul-le, mul-le-mul-right}
+use native.Mathlib.Nat.{add-zero, mul-zero, mul-suc, suc-mul, mul-assoc, mul-comm, le-trans, mul-le-mul-right, div-mul-le-self}
 use native.Mathlib.Omega.{arith}
 use lib.ListN.{length, getD}
 use Rattle.format.specs.Bytes.{rowsAt}
@@ -20,6 +20,10 @@ item-at row none w p (suc n) (suc k) h =
 pub row-cell : (t : List ℕ) (cells q j : ℕ) {at r : ℕ} → j < cells → at ≡ q + 4 * j → r ≡ cellAt t at → r ≡ getD (cellsAt t cells q) j 0
 row-cell t cells q j h e is = is ∙ ap (cellAt t) e ∙ sym (item-at (cellAt t) 0 4 q cells j h)
 
+-- the rows that a table has room for lie inside it
+pub rows-room : (cells : ℕ) (t : List ℕ) {n : ℕ} → n ≤ rowRoom cells t → n * (4 * cells) ≤ length t
+rows-room cells t h = le-trans (mul-le-mul-right (4 * cells) h) (div-mul-le-self (length t) (4 * cells))
+
 module _ (cells : ℕ) (t : List ℕ) (n k j : ℕ) (row : k < n) (cell : j < cells) where
   -- where the cell stands
   place : 0 + 4 * cells * k + 4 * j ≡ 4 * (cells * k + j)
@@ -35,7 +39,6 @@ module _ (cells : ℕ) (t : List ℕ) (n k j : ℕ) (row : k < n) (cell : j < ce
   -- the cell's four bytes lie inside a table that has room for the rows
   pub cell-room : n ≤ rowRoom cells t → 4 * (cells * k + j) + 4 ≤ length t
   cell-room h =
-      let some : 0 < 4 * cells = omega arith in
-      let upto : suc k * (4 * cells) ≤ length t = le-trans (mul-le-mul-right (4 * cells) row) (le-div-iff-mul-le some .0 h) in
+      let upto : suc k * (4 * cells) ≤ length t = le-trans (mul-le-mul-right (4 * cells) row) (rows-room cells t h) in
       let e : k * (4 * cells) ≡ 4 * (cells * k) = mul-comm k (4 * cells) ∙ mul-assoc 4 cells k in
       omega (arith, rw (suc-mul k (4 * cells), e) at upto)

@@ -8,7 +8,7 @@ use native.Mathlib.Numerals.{one-add}
 use native.Mathlib.Omega.{arith}
 use lib.Bits.{bitAnd, bitOr, and-mask, and-high, and-block, or-step, or-zero-r, or-zero-l, or-block, or-shifted}
 use lib.Pow.{pow-add, pow-pos, high, low, split, shr-lt, shr-shr, shr-mod, field, mod-mod-pow, mod-pow-add}
-use lib.Dec.{lit<, ltb}
+use lib.Dec.{lit<}
 use borrow.Author.Tests.{ltb-true, lt-ltb}
 use Rattle.format.specs.Bytes.{fits, widthOf, packed, unpacked}
 use Rattle.format.specs.EntryPoints.{joinTime, joinPacket}
@@ -58,7 +58,7 @@ fits-fit [] [] h = none
 fits-fit [] (v ∷ vs) h = let z : _≡_ {A = ℕ} 0 1 = cc in absurd (omega arith)
 fits-fit (w ∷ ws) [] h = let z : _≡_ {A = ℕ} 0 1 = cc in absurd (omega arith)
 fits-fit (w ∷ ws) (v ∷ vs) h =
-    let b = both-true (ltb v (2 ^ w)) (fits ws vs) h in
+    let b = both-true h in
     one (ltb-true v (2 ^ w) (b .0)) (fits-fit ws vs (b .1))
 
 pub fit-fits : {ws vs : List ℕ} → Fit ws vs → fits ws vs ≡ true

@@ -6,7 +6,6 @@ use mathlib.Core.Bool.{Bool, true, false}
 use native.Mathlib.Nat.{le-refl}
 use native.Mathlib.Omega.{arith}
 use lib.ListN.{getD}
-use lib.Dec.{eqb}
 use borrow.Author.Tests.{le-leb, lt-leb, eqb-true}
 use Rattle.format.specs.ClipRecord.{Row, time, entryType}
 use Rattle.format.specs.EntryPoints.{coarseTime, coarsePacket, entryOf, stepOn, coarseFor, entriesFor}
@@ -65,7 +64,7 @@ module _ (type : ℕ) (whole : List Row) where
           → entriesFor type whole (suc k) (finesOf xs) ≡ xs)
           → entryOf type (coarseFor whole k) (fineRow x) ∷ entriesFor type whole (suc k) (finesOf xs) ≡ x ∷ xs
       go true t way rest =
-          let b = both-true (eqb (timeKey e) (timeKey x)) (eqb (packetKey e) (packetKey x)) t in
+          let b = both-true t in
           let cov′ : Covers c x = record {
             same-time = cov .same-time ∙ eqb-true (timeKey e) (timeKey x) (b .0);
             same-packet = cov .same-packet ∙ eqb-true (packetKey e) (packetKey x) (b .1);

@@ -1,5 +1,5 @@
 -- Lists all of whose elements have a property, and parts of a list.
-use Prim.Native.Nat.{ℕ, zero, suc, _+_, _≤_}
+use Prim.Native.Nat.{ℕ, zero, suc, _+_, _<_, _≤_}
 use mathlib.Core.Path.{_≡_, refl, _∙_}
 use mathlib.Core.List.{List, [], _∷_, _++_}
 use mathlib.Core.Bool.{Bool, true}
@@ -16,7 +16,7 @@ pub data All {A : Type 0} (P : A → Type 0) : List A → Type 0 where
 -- a test of each element, and the fact of each
 pub every-all : {A : Type 0} (test : A → Bool) (xs : List A) → every test xs ≡ true → All (λ x. test x ≡ true) xs
 every-all test [] h = none
-every-all test (x ∷ xs) h = let b = both-true (test x) (every test xs) h in more (b .0) (every-all test xs (b .1))
+every-all test (x ∷ xs) h = let b = both-true h in more (b .0) (every-all test xs (b .1))
 
 pub all-every : {A : Type 0} (test : A → Bool) {xs : List A} → All (λ x. test x ≡ true) xs → every test xs ≡ true
 all-every test none = refl
@@ -39,6 +39,12 @@ all-append (more h hs) k = more h (all-append hs k)
 pub all-map : {A : Type 0} {P Q : A → Type 0} → ((x : A) → P x → Q x) → {xs : List A} → All P xs → All Q xs
 all-map g none = none
 all-map g (more {x = x} h hs) = more (g x h) (all-map g hs)
+
+-- element k has the property that all have
+pub all-at : {A : Type 0} {P : A → Type 0} (other : A) {xs : List A} → All P xs → (k : ℕ) → k < length xs → P (getD xs k other)
+all-at other none k h = absurd (omega arith)
+all-at other (more p ps) zero h = p
+all-at other (more p ps) (suc k) h = all-at other ps k (omega arith)
 
 -- ---- parts
 

@@ -145,7 +145,7 @@ pub maps-narrow : {ms es : List Row} → Maps 262143 ms es → everyMap (λ m ow
 maps-narrow Maps.none h = Maps.none
 maps-narrow (Maps.more {m = m} {ms = ms} {own = own} {rest = rest} g size good few later) h =
     let h′ = rw (take-at own rest (entryCount m) size, drop-at own rest (entryCount m) size) at h in
-    let b = both-true (leb (runs own) 65535) (everyMap (λ m own. leb (runs own) 65535) ms rest) h′ in
+    let b = both-true h′ in
     Maps.more g size good (leb-true (runs own) 65535 (b .0)) (maps-narrow later (b .1))
 
 -- a record of a file that is not refused with 31

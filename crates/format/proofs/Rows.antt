@@ -1,14 +1,16 @@
--- Rows one behind the other, of any kind, and headers with rows behind them, are read back from their bytes.
-use Prim.Native.Nat.{ℕ, zero, suc, _+_, _*_, _-_, _≤_}
+-- Rows one behind the other, of any kind: those that are left while a loop goes over them; with headers before them or without, they are read back from their bytes.
+use Prim.Native.Nat.{ℕ, zero, suc, _+_, _*_, _-_, _<_, _≤_}
 use mathlib.Core.Path.{_≡_, refl, sym, ap, ap₂, _∙_}
 use mathlib.Core.List.{List, [], _∷_, _++_, map}
-use native.Mathlib.Nat.{add-zero, add-assoc, add-comm, mul-zero, mul-suc, suc-mul}
+use native.Mathlib.Nat.{add-zero, add-assoc, add-comm, sub-zero, mul-zero, mul-suc, suc-mul}
+use native.Mathlib.Numerals.{add-one}
 use native.Mathlib.Omega.{arith}
 use lib.ListN.{length, take, drop, length-append, take-append-drop, length-drop}
 use lib.Seq.{length-take-le}
 use Rattle.format.specs.Bytes.{rowsAt, gather, endOf, flat, total}
 use Rattle.format.specs.ClipRecord.{Row}
 use Rattle.format.specs.Rewriting.{groups}
+use Rattle.format.proofs.Loops.{one-left, none-left}
 use Rattle.format.proofs.Lists.{All, none, more, all-take, all-drop, all-append}
 use Rattle.format.proofs.Numbers.{Stands, left, right}
 
@@ -72,6 +74,40 @@ gather-adds head count rows next h p (suc n) =
     let r = gather-adds head count rows next h (next p) n in
     let e = h p in
     rw length-append (omega arith)
+
+-- ---- the rows that are left after k of n
+
+module _ {A : Type 0} (row : ℕ → A) (next : ℕ → ℕ) (q n : ℕ) where
+  -- before the first turn all are left
+  pub rest-all : rowsAt row next q (n - 0) ≡ rowsAt row next q n
+  rest-all = rw (sub-zero n)
+
+  -- with a turn to go, the row at q and those behind it
+  pub rest-turn : (k : ℕ) → k < n → rowsAt row next q (n - k) ≡ row q ∷ rowsAt row next (next q) (n - (k + 1))
+  rest-turn k h = rw (one-left n k h)
+
+  -- at the end none
+  pub rest-done : (k : ℕ) → n ≤ k → rowsAt row next q (n - k) ≡ []
+  rest-done k h = rw (none-left n k h)
+
+module _ {A : Type 0} (row : ℕ → A) (w p n : ℕ) where
+  -- those from row k on, where n rows stand w bytes apart from p on
+  abbrev pub rowsLeft : ℕ → List A
+  rowsLeft k = rowsAt row (λ q. q + w) (p + w * k) (n - k)
+
+  -- before the first turn all are left
+  pub left-all : rowsLeft 0 ≡ rowsAt row (λ q. q + w) p n
+  left-all = rw (mul-zero w, add-zero p, sub-zero n)
+
+  -- with a turn to go, row k and those behind it
+  pub left-turn : (k : ℕ) → k < n → rowsLeft k ≡ row (p + w * k) ∷ rowsLeft (k + 1)
+  left-turn k h =
+      let e : p + w * (k + 1) ≡ p + w * k + w = rw (add-one, mul-suc) (omega arith) in
+      rw e (rest-turn row (λ q. q + w) (p + w * k) n k h)
+
+  -- at the end none
+  pub left-done : (k : ℕ) → n ≤ k → rowsLeft k ≡ []
+  left-done k h = rest-done row (λ q. q + w) (p + w * k) n k h
 
 -- ---- rows
 

@@ -2,7 +2,7 @@
 use Prim.Native.Nat.{ℕ, zero, suc, _+_, _*_, _-_, _<_, _≤_}
 use mathlib.Core.Path.{_≡_, refl, sym, ap, _∙_}
 use mathlib.Core.List.{List, [], _++_}
-use native.Mathlib.Nat.{sub-zero, le-trans, mul-comm, le-div-iff-mul-le}
+use native.Mathlib.Nat.{sub-zero, le-trans, mul-comm}
 use native.Mathlib.Omega.{arith}
 use lib.ListN.{length, length-append}
 use lib.Seq.{sets, length-sets}
@@ -12,6 +12,7 @@ use Rattle.format.specs.Bytes.{pick, beAt, rowsAt, gather, endOf}
 use Rattle.format.specs.ClipRecord.{Row}
 use Rattle.format.specs.Tables.{cellBytes, rowBytes, tableBytes, rowRoom, overwritten}
 use Rattle.format.proofs.Lists.{All, all-map}
+use Rattle.format.proofs.Cell.{rows-room}
 use Rattle.format.proofs.Cells.{low-length}
 use Rattle.format.proofs.Rows.{all-rows, rows-length, rows-all, flat-length}
 use Rattle.format.proofs.Loops.{one-left, none-left, flat-append, put-more, sets-front, end-ge, end-turn, end-done, end-past}
@@ -129,12 +130,11 @@ pub record Filling (items : ℕ → ℕ → List Row) (t₀ whole t : List ℕ) 
   pub rest : sets t at (tableBytes (items q (n - k))) ≡ whole
 
 -- rows that a table has room for, before the first is stored
-pub filling-front : (cells : ℕ) (items : ℕ → ℕ → List Row) {rows : List Row} (t : List ℕ) {p n : ℕ} → 0 < cells → HaveCells cells rows
+pub filling-front : (cells : ℕ) (items : ℕ → ℕ → List Row) {rows : List Row} (t : List ℕ) {p n : ℕ} → HaveCells cells rows
     → length rows ≤ rowRoom cells t → items p n ≡ rows → Filling items t (overwritten (tableBytes rows) t) t 0 p n 0
-filling-front cells items {rows} t {p} {n} pos have room e =
-    let some : 0 < 4 * cells = omega arith in
+filling-front cells items {rows} t {p} {n} have room e =
     let fits : length (tableBytes rows) ≤ length t =
-    omega (arith, table-bytes cells have, mul-comm (4 * cells) (length rows), le-div-iff-mul-le some .0 room) in
+    omega (arith, table-bytes cells have, mul-comm (4 * cells) (length rows), rows-room cells t room) in
     record { long = refl; room = rw (sub-zero n, e) (omega arith); rest = rw (sub-zero n, e) (sets-front t (tableBytes rows) fits refl) }
 
 -- n rows of so many cells from `at` on, before the first is stored

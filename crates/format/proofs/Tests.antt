@@ -6,13 +6,9 @@ use native.Mathlib.Omega.{arith}
 use Rattle.format.specs.Bytes.{both, pick, unless}
 
 -- both tests pass where their conjunction does
-pub both-true : (a b : Bool) → both a b ≡ true → (a ≡ true) × (b ≡ true)
-both-true true b h = (refl, h)
-both-true false b h = let z : _≡_ {A = ℕ} 0 1 = cc in absurd (omega arith)
-
--- the same where the two tests are shown by the hypothesis
-pub split-both : {a b : Bool} → both a b ≡ true → (a ≡ true) × (b ≡ true)
-split-both {a} {b} h = both-true a b h
+pub both-true : {a b : Bool} → both a b ≡ true → (a ≡ true) × (b ≡ true)
+both-true {a = true} h = (refl, h)
+both-true {a = false} h = let z : _≡_ {A = ℕ} 0 1 = cc in absurd (omega arith)
 
 -- and both pass where each does
 pub true-both : {a b : Bool} → a ≡ true → b ≡ true → both a b ≡ true

@@ -3,7 +3,6 @@ use Prim.Native.Nat.{ℕ, _+_, _*_, _<_, _≤_}
 use mathlib.Core.Path.{_≡_, refl, ap, _∙_}
 use mathlib.Core.List.{List}
 use mathlib.Core.Bool.{Bool, true, false, not}
-use native.Mathlib.Nat.{le-div-iff-mul-le}
 use native.Mathlib.Omega.{arith}
 use lib.ListN.{length}
 use borrow.Author.Tests.{le-leb, lt-leb, not-true, not-false}
@@ -15,6 +14,7 @@ use Rattle.table_rows.specs.OwnRows.{isCounted}
 use Rattle.row_limits.specs.Kinds.{cellsOf, fitsBy}
 use Rattle.row_limits.specs.declared.Kind.{Kind}
 use Rattle.limits.specs.Clips.{entriesFit, headsFit, groupsFit, tablesFit}
+use Rattle.format.proofs.Cell.{rows-room}
 use Rattle.format.proofs.Tables.{rows-stated}
 use Rattle.format.proofs.Tests.{both-true, both-assoc}
 
@@ -30,19 +30,10 @@ then-second x y {a} is h then = rw (← is, not-false a h) then
 
 -- ---- the rows of a table
 
--- every row has a cell
-some-cells : (kind : Kind) → 0 < 4 * cellsOf kind
-some-cells Kind.Atc = omega arith
-some-cells Kind.Stc = omega arith
-some-cells Kind.Program = omega arith
-some-cells Kind.Stream = omega arith
-some-cells Kind.Map = omega arith
-some-cells (Kind.Entry type) = omega arith
-
 module _ (kind : Kind) (t : List ℕ) (n : ℕ) where
   -- rows that are stated and there
   pub table-room : n ≤ rowRoom (cellsOf kind) t → 0 + n * (4 * cellsOf kind) ≤ length t
-  table-room h = let fits : n * (4 * cellsOf kind) ≤ length t = le-div-iff-mul-le (some-cells kind) .0 h in omega arith
+  table-room h = omega (arith, rows-room (cellsOf kind) t h)
 
   -- too many
   pub too-many : 255 < n → false ≡ headsFit kind (tableRows (cellsOf kind) t n)
@@ -80,7 +71,7 @@ module _ (l : ClipTables) where
   -- where all fit, the maps do
   pub maps-fit : allOf ≡ true → mapsOf ≡ true
   unfolding tablesFit
-  maps-fit h = both-true programsOf mapsOf (both-true sequencesOf (both programsOf mapsOf) h .1) .1
+  maps-fit h = both-true {a = programsOf} (both-true {a = sequencesOf} h .1) .1
 
   -- the sequences fail
   pub sequences-fail : {a : Bool} → a ≡ sequencesOf → not a ≡ true → false ≡ allOf

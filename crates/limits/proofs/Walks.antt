@@ -12,7 +12,7 @@ use Rattle.format.specs.ClipRecord.{Row}
 use Rattle.format.specs.Tables.{Table, rowsOf, cellsAt, rowRoom}
 use Rattle.format.proofs.Loops.{one-left, none-left}
 use Rattle.format.proofs.Tables.{rows-stated}
-use Rattle.format.proofs.Tests.{split-both}
+use Rattle.format.proofs.Tests.{both-true}
 use Rattle.table_rows.specs.OwnRows.{headCells, cellIn, isCounted}
 
 -- ---- rows one behind the other, of so many cells each
@@ -73,10 +73,10 @@ pub record Counts (cell cells : ℕ) (heads rows : Table) : Type 0 where
 pub counts : (cell cells : ℕ) (heads rows : Table) → isCounted cell cells heads rows ≡ true → Counts cell cells heads rows
 unfolding isCounted
 counts cell cells heads rows h =
-    let tests = split-both h in
-    let there = split-both (tests .0) in
+    let tests = both-true h in
+    let there = both-true (tests .0) in
     record {
       heads-there = leb-true (heads .rows) (rowRoom headCells (heads .bytes)) (there .0);
-      rows-there = leb-true (rows .rows) (rowRoom cells (rows .bytes)) (split-both (there .1) .0);
+      rows-there = leb-true (rows .rows) (rowRoom cells (rows .bytes)) (both-true (there .1) .0);
       adds = eqb-true (total (cellIn cell) (rowsOf headCells heads)) (length (rowsOf cells rows)) (tests .1) ∙ rows-stated cells (rows .bytes) (rows .rows);
     }

@@ -32,21 +32,6 @@ map-line t q {u} {v} {w} a b c =
     ap₂ (λ (v w : ℕ). line mapWord (u ∷ v ∷ w ∷ [])) (row-cell t mapCells q 1 (lit< tt) refl (b .same)) (row-cell t mapCells q 2 (lit< tt) refl (c .same))
     ∙ ap (λ (u : ℕ). line mapWord (u ∷ getD (cellsAt t mapCells q) 1 0 ∷ getD (cellsAt t mapCells q) 2 0 ∷ [])) (a .same)
 
--- ---- entries: what is left after i of n
-
--- before the first all are left
-pub entries-all : (t : List ℕ) (q n : ℕ) → flat epLine (entriesFrom t q n) ≡ flat epLine (entriesFrom t q (n - 0))
-entries-all t q n = let e : n - 0 ≡ n = omega arith in rw e
-
--- the next entry's line, then those of the later ones
-pub entries-turn : (t : List ℕ) (q n i : ℕ) → i < n
-    → flat epLine (entriesFrom t q (n - i)) ≡ epLine (cellsAt t entryCells q) ++ flat epLine (entriesFrom t (q + 20) (n - (i + 1)))
-entries-turn t q n i h = rw (one-left n i h)
-
--- behind the last nothing is left
-pub entries-done : (t : List ℕ) (q n i : ℕ) → n ≤ i → flat epLine (entriesFrom t q (n - i)) ≡ []
-entries-done t q n i h = rw (none-left n i h)
-
 -- ---- maps: what is left after i of n maps and k of m entries
 
 module _ (maps : List ℕ) (q n i k m c : ℕ) (h : i < n) (count : c ≡ entryCount (cellsAt maps mapCells q))

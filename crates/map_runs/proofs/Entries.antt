@@ -2,6 +2,7 @@
 use Prim.Native.Nat.{ℕ, zero, suc, _+_, _*_, _-_, _<_, _≤_}
 use mathlib.Core.Path.{_≡_, ap, _∙_}
 use mathlib.Core.List.{List, [], _∷_}
+use native.Mathlib.Numerals.{add-one}
 use native.Mathlib.Omega.{arith}
 use lib.ListN.{length, drop}
 use Rattle.format.specs.Bytes.{rowsAt}
@@ -9,8 +10,8 @@ use Rattle.format.specs.ClipRecord.{Row}
 use Rattle.format.specs.EntryPoints.{fineAt, nextFine}
 use Rattle.format.specs.Rewriting.{coarseRow, coarseAfter, runs, bodyBytes}
 use Rattle.format.proofs.Cpi.{body-length}
-use Rattle.format.proofs.Loops.{one-left, none-left}
 use Rattle.format.proofs.Read.{entries-length}
+use Rattle.format.proofs.Rows as Rows
 use Rattle.format.proofs.Rows.{rows-length}
 use Rattle.runs.specs.Runs.{runEnd, endFrom, coarseFrom}
 use Rattle.format.proofs.Read.{runs-few}
@@ -25,21 +26,15 @@ module _ (f : List ℕ) (m : MapBody) where
 
   -- before the first turn all are left
   pub left-all : entriesLeft f m 0 ≡ entriesIn f m
-  left-all =
-      let p : m .fine + 4 * 0 ≡ m .fine = omega arith in
-      let d : n - 0 ≡ n = omega arith in
-      rw (p, d)
+  left-all = rw (Rows.left-all (fineAt f) 4 (m .fine) n)
 
   -- with a turn to go, row k and those behind it
   pub left-turn : (k : ℕ) → k < n → entriesLeft f m k ≡ entryIn f m k ∷ entriesLeft f m (k + 1)
-  left-turn k h =
-      let p : m .fine + 4 * (k + 1) ≡ m .fine + 4 * k + 4 = omega arith in
-      let s : k + 1 ≡ suc k = omega arith in
-      rw (one-left n k h, p, s)
+  left-turn k h = rw (Rows.left-turn (fineAt f) 4 (m .fine) n k h, add-one k)
 
   -- at the end none
   pub left-done : (k : ℕ) → n ≤ k → entriesLeft f m k ≡ []
-  left-done k h = rw (none-left n k h)
+  left-done k h = rw (Rows.left-done (fineAt f) 4 (m .fine) n k h)
 
   -- how many they are
   pub left-length : (k : ℕ) → length (entriesLeft f m k) ≡ n - k

@@ -58,6 +58,6 @@ unfolding ask answer clipIn tableRows
 row-there t k h =
     let codings = map codingType (rowsOf streamCells t) in
     let through = through-test (both (isStated streamCells t) true) (firstWhere isVideo 0 codings) h in
-    let there = leb-true (t .rows) (rowRoom streamCells (t .bytes)) (both-true (isStated streamCells t) true (through .0) .0) in
+    let there = leb-true (t .rows) (rowRoom streamCells (t .bytes)) (both-true (through .0) .0) in
     let row = first-row isVideo codings k (through .1) in
     (rw (length-map (rowsOf streamCells t) codingType, rows-length (cellsAt (t .bytes) streamCells) (λ p. p + 4 * streamCells) 0 (t .rows)) at row, there)

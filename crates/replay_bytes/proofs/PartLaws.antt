@@ -39,7 +39,7 @@ starts-short (x ∷ xs) (z ∷ zs) h = right-fails (eqb x z) (starts-short xs zs
 pub starts-fits : (xs zs : List ℕ) → startsWith xs zs ≡ true → length xs ≤ length zs
 starts-fits [] zs h = omega arith
 starts-fits (x ∷ xs) [] h = let z : _≡_ {A = ℕ} 0 1 = cc in absurd (omega arith)
-starts-fits (x ∷ xs) (z ∷ zs) h = omega (arith, starts-fits xs zs (both-true (eqb x z) (startsWith xs zs) h .1))
+starts-fits (x ∷ xs) (z ∷ zs) h = omega (arith, starts-fits xs zs (both-true {a = eqb x z} h .1))
 
 -- what stands at the front and is as long is the same
 pub starts-same : (xs zs : List ℕ) → length zs ≡ length xs → startsWith xs zs ≡ sameBytes xs zs
@@ -61,7 +61,7 @@ same-equal [] [] h = refl
 same-equal [] (z ∷ zs) h = let z : _≡_ {A = ℕ} 0 1 = cc in absurd (omega arith)
 same-equal (x ∷ xs) [] h = let z : _≡_ {A = ℕ} 0 1 = cc in absurd (omega arith)
 same-equal (x ∷ xs) (z ∷ zs) h =
-    let t = both-true (eqb x z) (sameBytes xs zs) h in
+    let t = both-true h in
     rw (eqb-true x z (t .0), same-equal xs zs (t .1))
 
 -- and for all of them
@@ -190,7 +190,7 @@ pub starts-front : (xs zs : List ℕ) → startsWith xs zs ≡ true → xs ++ dr
 starts-front [] zs h = refl
 starts-front (x ∷ xs) [] h = let z : _≡_ {A = ℕ} 0 1 = cc in absurd (omega arith)
 starts-front (x ∷ xs) (z ∷ zs) h =
-    let t = both-true (eqb x z) (startsWith xs zs) h in
+    let t = both-true h in
     let e = eqb-true x z (t .0) in
     rw (starts-front xs zs (t .1), e)
 

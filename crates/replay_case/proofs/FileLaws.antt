@@ -1,5 +1,5 @@
 -- What reading left in the tables, passed in turn, is the answer that must be stored with the file.
-use Prim.Native.Nat.{ℕ, zero, suc, _+_, _*_, _^_, _<_, _≤_, min}
+use Prim.Native.Nat.{ℕ, _+_, _*_, _^_, _<_, _≤_, min}
 use mathlib.Core.Path.{_≡_, refl, sym, ap, _∙_}
 use mathlib.Core.List.{List, [], _∷_, _++_, map}
 use mathlib.Core.Bool.{Bool, true, false, not}
@@ -17,7 +17,7 @@ use Rattle.format.specs.Reading.{clipOf, recordOf}
 use Rattle.format.specs.Refusals.{ReadAnswer, refused, tooShort, accepted, Stated, refusalOf, tablesOf, statedOf, tablesAnswer, readAnswer, readNumbers, tableBy, tablesAfter}
 use Rattle.format.specs.Tables.{Nine, rowBytes, tableBytes, overwritten, rowRoom, rowsOf, atcCells, stcCells, programCells, streamCells, mapCells, entryCells, extensionCells}
 use Rattle.format.proofs.Tests.{both-true, picked, passed}
-use Rattle.format.proofs.Lists.{All, none, more, all-map}
+use Rattle.format.proofs.Lists.{All, none, more, all-map, all-at}
 use Rattle.format.proofs.Rows.{rows-all, gather-all}
 use Rattle.format.proofs.Stores.{be-below}
 use Rattle.format.proofs.Sweep.{HaveCells, table-bytes}
@@ -62,7 +62,7 @@ module _ (f : List ℕ) (bytes : IsBytes f) (small : length f ≤ 536870912) (st
   kept-row : (p : ℕ) → isKept f start p ≡ true → KeptRow f (extensionAt f start p)
   kept-row p h =
       let end = start + addressAt f p + dataLengthAt f p in
-      let b = both-true (not (eqb (addressAt f p) 0)) (leb end (min (blockEnd f start) (length f))) h in
+      let b = both-true {a = not (eqb (addressAt f p) 0)} h in
       let l = leb-true end (min (blockEnd f start) (length f)) (b .1) in
       let i1 : beAt f p 2 < 2 ^ 32 = omega (arith, be-below f bytes p 2) in
       let i2 : beAt f (p + 2) 2 < 2 ^ 32 = omega (arith, be-below f bytes (p + 2) 2) in
@@ -170,12 +170,6 @@ module _ (f : List ℕ) where
       leb-true (length f) 536870912 (passed (leb (length f) 536870912) 19 _ (eqb-true (refusalOf f) 0 (p .0)) .0)
 
 -- ---- an accepted file
-
--- an element of a list all of whose elements have a property
-all-at : {A : Type 0} {P : A → Type 0} (other : A) {xs : List A} → All P xs → (k : ℕ) → k < length xs → P (getD xs k other)
-all-at other none k h = absurd (omega arith)
-all-at other (more p ps) zero h = p
-all-at other (more p ps) (suc k) h = all-at other ps k (omega arith)
 
 -- the bytes of mapped rows
 flat-map : {A B : Type 0} (bytes : B → List ℕ) (g : A → B) (xs : List A) → flat (λ x. bytes (g x)) xs ≡ flat bytes (map g xs)

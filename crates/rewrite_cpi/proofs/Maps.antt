@@ -11,10 +11,10 @@ use Rattle.format.specs.ClipRecord.{Row}
 use Rattle.format.specs.EntryPoints.{headerWidths, fineCountAt, mapAt, nextMap, bodyAt, entriesOf, mapCount, mapsFrom, entriesFrom, mapIn, mapsIn}
 use Rattle.format.specs.Refusals.{everyMap}
 use Rattle.format.specs.Rewriting.{bodyBytes, bodies, headerBytes, headers}
-use Rattle.format.proofs.Loops.{one-left, none-left}
+use Rattle.format.proofs.Loops.{one-left}
 use Rattle.format.proofs.Read.{own-length}
-use Rattle.format.proofs.Rows.{rows-length}
-use Rattle.format.proofs.Tests.{split-both}
+use Rattle.format.proofs.Rows.{rows-length, left-turn, left-done}
+use Rattle.format.proofs.Tests.{both-true}
 use Rattle.ep_rows.specs.Rows.{headerOf}
 use Rattle.ep_rows.specs.declared.MapHeader.{MapHeader}
 use Rattle.cpi_fill.proofs.Filling.{body-in, there}
@@ -85,7 +85,7 @@ module _ (f : List ℕ) (c count : ℕ) where
 
   -- after the last none is left
   pub maps-done : (k : ℕ) → count ≤ k → mapsLeft k ≡ []
-  maps-done k h = rw (none-left count k h)
+  maps-done k h = left-done (mapAt f) 12 (c + 8) count k h
 
   -- how many are left
   pub left-count : (k : ℕ) → length (mapsLeft k) ≡ count - k
@@ -105,21 +105,19 @@ module _ (f : List ℕ) (c count : ℕ) where
       record { within = omega arith; good = rw (p, n) (s .maps-in) }
 
   module _ (k : ℕ) (h : k < count) where
-    -- the header behind this one
-    next-at : headAt k + 12 ≡ headAt (k + 1)
-    next-at = omega arith
-
     -- this map and those behind it
     maps-turn : mapsLeft k ≡ mapAt f (headAt k) ∷ mapsLeft (k + 1)
-    maps-turn = rw (one-left count k h, next-at)
+    maps-turn = left-turn (mapAt f) 12 (c + 8) count k h
 
     -- its entries and theirs
     entries-turn : entriesLeft k ≡ entriesOf f c (headAt k) ++ entriesLeft (k + 1)
-    entries-turn = rw (one-left count k h, next-at)
+    entries-turn =
+        let next : headAt (k + 1) ≡ headAt k + 12 = omega arith in
+        rw (one-left count k h, next)
 
     -- this map is in the file, and those behind it are
-    goods : Left k → (mapIn f c (headAt k) ≡ true) × (every (λ b. b) (rowsAt (mapIn f c) nextMap (headAt k + 12) (count - (k + 1))) ≡ true)
-    goods i = split-both (rw (one-left count k h) at (i .good))
+    goods : Left k → (mapIn f c (headAt k) ≡ true) × (every (λ b. b) (rowsAt (mapIn f c) nextMap (headAt (k + 1)) (count - (k + 1))) ≡ true)
+    goods i = both-true (rw (left-turn (mapIn f c) 12 (c + 8) count k h) at (i .good))
 
     -- so its header and body are
     pub left-map : Section f c count → Left k → MapAt f c (headAt k)
@@ -129,7 +127,7 @@ module _ (f : List ℕ) (c count : ℕ) where
 
     -- those behind it are left
     pub left-next : Left k → Left (k + 1)
-    left-next i = record { within = omega arith; good = rw next-at at (goods i .1) }
+    left-next i = record { within = omega arith; good = goods i .1 }
 
     -- its own entries
     abbrev own : List Row

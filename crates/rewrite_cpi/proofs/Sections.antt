@@ -120,7 +120,7 @@ module _ (f : List ℕ) (c count : ℕ) (o₀ : List ℕ) (at : ℕ) where
 
       -- it has not too many runs, and they have not
       here : (fewRuns (mapAt f (headAt f c count k)) own ≡ true) × (everyMap fewRuns ms es ≡ true)
-      here = both-true (fewRuns (mapAt f (headAt f c count k)) own) (everyMap fewRuns ms es) (rw (every-turn f c count k h fewRuns) at (i .runs-few))
+      here = both-true (rw (every-turn f c count k h fewRuns) at (i .runs-few))
 
       -- the body and those behind it
       sizes : length (bodies (mapsLeft f c count k) (entriesLeft f c count k)) ≡ length (bodyBytes own) + length (bodies ms es)

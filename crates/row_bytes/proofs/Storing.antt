@@ -2,13 +2,14 @@
 use Prim.Native.Nat.{ℕ, _+_, _-_, _<_, _≤_}
 use mathlib.Core.Path.{_≡_, refl, sym, ap, _∙_}
 use mathlib.Core.List.{List, [], _++_}
-use native.Mathlib.Nat.{sub-zero, add-zero}
+use native.Mathlib.Nat.{add-zero}
 use native.Mathlib.Omega.{arith}
 use lib.ListN.{length, length-append}
 use lib.Seq.{sets, length-sets}
 use Rattle.format.specs.Bytes.{rowsAt, flat}
 use Rattle.format.specs.ClipRecord.{Row}
-use Rattle.format.proofs.Loops.{one-left, none-left, put-more}
+use Rattle.format.proofs.Loops.{put-more}
+use Rattle.format.proofs.Rows.{rest-turn, rest-done}
 use Rattle.format.proofs.Stores.{part-then}
 
 -- ---- an output while bytes are stored
@@ -69,17 +70,9 @@ module _ (row : ℕ → Row) (next : ℕ → ℕ) (bytes : Row → List ℕ) (q 
   abbrev pub rowsLeft : ℕ → List ℕ
   rowsLeft k = flat bytes (rowsAt row next q (n - k))
 
-  -- before the first turn all are left
-  pub rows-all : rowsLeft 0 ≡ flat bytes (rowsAt row next q n)
-  rows-all = rw (sub-zero n)
-
-  -- at the end none
-  pub rows-none : (k : ℕ) → n ≤ k → rowsLeft k ≡ []
-  rows-none k h = rw (none-left n k h)
-
-  -- with a turn to go, the row at q and those behind it
-  pub rows-turn : (k : ℕ) → k < n → rowsLeft k ≡ bytes (row q) ++ flat bytes (rowsAt row next (next q) (n - (k + 1)))
-  rows-turn k h = rw (one-left n k h)
+  -- with a turn to go, those of the row at q and of the rows behind it
+  rows-turn : (k : ℕ) → k < n → rowsLeft k ≡ bytes (row q) ++ flat bytes (rowsAt row next (next q) (n - (k + 1)))
+  rows-turn k h = ap (flat bytes) (rest-turn row next q n k h)
 
 module _ (row : ℕ → Row) (next : ℕ → ℕ) (bytes : Row → List ℕ) {o₀ whole : List ℕ} {end : ℕ} {o : List ℕ} {at : ℕ} (q n k : ℕ)
     (s : Storing o₀ whole end (rowsLeft row next bytes q n k) o at) (h : k < n) where
@@ -107,4 +100,4 @@ module _ (row : ℕ → Row) (next : ℕ → ℕ) (bytes : Row → List ℕ) (wh
 
   -- none is left
   pub rows-added : (sum q n k : ℕ) → Adding sum q n k → n ≤ k → sum ≡ whole
-  rows-added sum q n k a h = sym (add-zero sum) ∙ rw (rows-none row next bytes q n k h) at a
+  rows-added sum q n k a h = sym (add-zero sum) ∙ rw (rest-done row next q n k h) at a

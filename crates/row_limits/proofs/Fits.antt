@@ -7,7 +7,7 @@ use native.Mathlib.Omega.{arith}
 use lib.Bits.{bitAnd}
 use lib.Dec.{eqb, ltb}
 use borrow.Author.Tests.{lt-ltb, ltb-true, ltb-false, eqb-true, eq-eqb, ne-eqb}
-use Rattle.format.specs.Bytes.{IsBytes, both, fits}
+use Rattle.format.specs.Bytes.{IsBytes, both}
 use Rattle.format.specs.ClipRecord.{Row, time, entryType}
 use Rattle.format.specs.Refusals.{entryFits}
 use Rattle.format.specs.Tables.{cellAt, cellsAt}
@@ -54,9 +54,9 @@ type-wide type e h = go (entryFits type e) refl
   where
     go : (b : Bool) → entryFits type e ≡ b → false ≡ b
     go true fit =
-        let parts = both-true (fits (1 ∷ 3 ∷ 32 ∷ 32 ∷ 4 ∷ []) e) (both (eqb (time e % 512) 0) (eqb (entryType e) type)) fit in
+        let parts = both-true fit in
         let few = narrow-type e (fits-fit (1 ∷ 3 ∷ 32 ∷ 32 ∷ 4 ∷ []) e (parts .0)) in
-        let same = eqb-true (entryType e) type (both-true (eqb (time e % 512) 0) (eqb (entryType e) type) (parts .1) .1) in
+        let same = eqb-true (entryType e) type (both-true {a = eqb (time e % 512) 0} (parts .1) .1) in
         absurd (omega arith)
     go false fit = refl
 

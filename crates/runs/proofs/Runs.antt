@@ -14,9 +14,9 @@ use Rattle.format.specs.ClipRecord.{Row, time, packet}
 use Rattle.format.specs.Rewriting.{timeKey, packetKey, sameRun, coarseRow, unlessSame, coarseAfter, coarseRows, runs}
 use Rattle.format.specs.Tables.{cellsAt}
 use Rattle.format.proofs.Fields.{words-masked}
-use Rattle.format.proofs.Loops.{one-left, none-left}
+use Rattle.format.proofs.Rows.{left-all, left-turn, left-done}
 use Rattle.format.proofs.Tests.{both-true}
-use Rattle.runs.specs.Runs.{entriesAt, entriesFrom, keyed, runKey, runEnd, coarseFrom, begun}
+use Rattle.runs.specs.Runs.{entriesAt, keyed, runKey, runEnd, coarseFrom, begun}
 
 -- ---- keys
 
@@ -62,7 +62,7 @@ pub same-after : (e d : Row) → sameRun e d ≡ true → (k : ℕ) (xs : List R
 unfolding coarseAfter
 same-after e d h k [] = refl
 same-after e d h k (x ∷ xs) =
-    let b = both-true (eqb (timeKey e) (timeKey d)) (eqb (packetKey e) (packetKey d)) h in
+    let b = both-true h in
     rw (eqb-true (timeKey e) (timeKey d) (b .0), eqb-true (packetKey e) (packetKey d) (b .1))
 
 -- a run ends at or past where it is looked at, and with the entries at the latest
@@ -99,28 +99,9 @@ pub coarse-all : (es : List Row) → coarseFrom 0 es ≡ coarseRows es
 coarse-all [] = refl
 coarse-all (x ∷ xs) = refl
 
--- ---- entries in a table
+-- ---- entries in a table, from row to row: the runs that begin there or later
 
 module _ (t : List ℕ) (p n : ℕ) where
-  -- before the first turn all are left
-  pub left-all : entriesFrom t p n 0 ≡ entriesAt t p n
-  left-all =
-      let e : p + 20 * 0 ≡ p = omega arith in
-      let m : n - 0 ≡ n = omega arith in
-      rw (e, m)
-
-  -- with a turn to go, row k and those behind it
-  pub left-turn : (k : ℕ) → k < n → entriesFrom t p n k ≡ cellsAt t 5 (p + 20 * k) ∷ entriesFrom t p n (k + 1)
-  left-turn k h =
-      let e : p + 20 * (k + 1) ≡ p + 20 * k + 20 = omega arith in
-      rw (one-left n k h, e)
-
-  -- at the end none
-  pub left-done : (k : ℕ) → n ≤ k → entriesFrom t p n k ≡ []
-  left-done k h = rw (none-left n k h)
-
-  -- ---- from row to row: the runs that begin there or later
-
   -- behind the last row none begins
   pub begun-none : begun t p n n ≡ []
   unfolding coarseAfter
@@ -128,11 +109,11 @@ module _ (t : List ℕ) (p n : ℕ) where
     where
       go : (m : ℕ) → n ≡ m → begun t p n m ≡ []
       go zero e = rw e
-      go (suc m) e = rw (left-done (suc m) (omega arith))
+      go (suc m) e = rw (left-done (cellsAt t 5) 20 p n (suc m) (omega arith))
 
   -- the first row begins one
   pub begun-first : 0 < n → begun t p n 0 ≡ coarseRow 0 (cellsAt t 5 (p + 20 * 0)) ∷ begun t p n 1
-  begun-first h = ap coarseRows (sym left-all ∙ left-turn 0 h)
+  begun-first h = ap coarseRows (sym (left-all (cellsAt t 5) 20 p n) ∙ left-turn (cellsAt t 5) 20 p n 0 h)
 
   -- a later row does unless it is in the run of the row before it
   pub begun-later : (k : ℕ) → 0 < k → k < n → begun t p n k
@@ -142,7 +123,7 @@ module _ (t : List ℕ) (p n : ℕ) where
   begun-later (suc k) h g =
       let e = add-one (suc k) in
       let before : p + 20 * suc k - 20 ≡ p + 20 * k = omega arith in
-      rw (left-turn (suc k) g, e, before)
+      rw (left-turn (cellsAt t 5) 20 p n (suc k) g, e, before)
 
   -- there are not more than all
   pub begun-few : (k : ℕ) → k ≤ n → length (begun t p n k) ≤ runs (entriesAt t p n)

@@ -91,10 +91,9 @@ module _ (cell cells : ℕ) (heads rows : Table) (head : ℕ) where
   own-rows {first} {count} h =
       let hs = rowsOf headCells heads in
       let told = chosen (mayAsk cell cells heads rows head) h in
-      let tests = both-true (isCounted cell cells heads rows) (isRow head hs) (told .0) in
-      let tables = both-true (both (isStated headCells heads) (both (isStated cells rows) true)) (addUp (cellIn cell) hs (rowsOf cells rows)) (tests .0) in
-      let stated = both-true (isStated headCells heads) (both (isStated cells rows) true) (tables .0) in
-      let there = both-true (isStated cells rows) true (stated .1) .0 in
+      let tests = both-true (told .0) in
+      let tables = both-true (tests .0) in
+      let stated = both-true {a = isStated headCells heads} (tables .0) in
       let added = eqb-true (total (cellIn cell) hs) (length (rowsOf cells rows)) (tables .1) in
       let within = total-part cell hs head (ltb-true head (length hs) (tests .1)) in
       let fits : first + count ≤ rows .rows = omega (arith, within, told .1, told .2, added, rows-stated cells (rows .bytes) (rows .rows)) in
@@ -102,7 +101,7 @@ module _ (cell cells : ℕ) (heads rows : Table) (head : ℕ) where
         may = told .0;
         begins = told .1;
         inside = fits;
-        room = leb-true (rows .rows) (rowRoom cells (rows .bytes)) there;
+        room = leb-true (rows .rows) (rowRoom cells (rows .bytes)) (both-true {b = true} (stated .1) .0);
         own = rw (← told .1, ← told .2) (own-part cells (rows .bytes) (rows .rows) first count fits);
       }
 
@@ -193,8 +192,8 @@ module _ (heads rows : List ℕ) (n e cell cells : ℕ) where
   pub heads-there : {a : Bool} → a ≡ isCounted cell cells Heads Rows → not a ≡ false → n ≤ rowRoom headCells heads
   unfolding isCounted
   heads-there {a} is h =
-      let whole = both-true (both (isStated headCells Heads) (both (isStated cells Rows) true)) (addUp (cellIn cell) (rowsOf headCells Heads) (rowsOf cells Rows)) (sym is ∙ not-false a h) in
-      leb-true n (rowRoom headCells heads) (both-true (isStated headCells Heads) (both (isStated cells Rows) true) (whole .0) .0)
+      let whole = both-true (sym is ∙ not-false a h) in
+      leb-true n (rowRoom headCells heads) (both-true (whole .0) .0)
 
   module _ (head : ℕ) {a : Bool} (is : a ≡ isCounted cell cells Heads Rows) where
     pub not-counted : not a ≡ true → refusal ≡ ownedRows cell cells Heads Rows head

@@ -3,7 +3,7 @@ use Prim.Native.Nat.{ℕ, zero, suc, _+_, _*_, _-_, _<_, _≤_}
 use mathlib.Core.Path.{_≡_, refl, sym, ap}
 use mathlib.Core.List.{List, [], _∷_, map}
 use mathlib.Core.Bool.{Bool, true, false}
-use native.Mathlib.Nat.{mul-zero, mul-suc, mul-comm}
+use native.Mathlib.Nat.{zero-add, mul-comm}
 use native.Mathlib.Numerals.{add-one}
 use native.Mathlib.Omega.{arith}
 use lib.ListN.{length, drop}
@@ -13,8 +13,8 @@ use Rattle.format.specs.Bytes.{rowsAt}
 use Rattle.format.specs.ClipRecord.{Row}
 use Rattle.format.specs.Questions.{none, number, firstWhere, nextWhere}
 use Rattle.format.specs.Tables.{cellsAt, tableRows}
+use Rattle.format.proofs.Rows as Rows
 use Rattle.format.proofs.Rows.{rows-length, drop-rows}
-use Rattle.format.proofs.Loops.{one-left, none-left}
 
 -- behind the last row there is none
 drop-beyond : {A : Type 0} (k : ℕ) (xs : List A) → length xs ≤ k → [] ≡ drop k xs
@@ -31,19 +31,15 @@ module _ (cells : ℕ) (t : List ℕ) (n : ℕ) where
   -- before the first turn all are left
   pub left-all : rowsLeft 0 ≡ tableRows cells t n
   unfolding tableRows
-  left-all =
-      let m : n - 0 ≡ n = omega arith in
-      rw (mul-zero (4 * cells), m)
+  left-all = rw zero-add at (Rows.left-all (cellsAt t cells) (4 * cells) 0 n)
 
   -- with a turn to go, row k and those behind it
   pub left-turn : (k : ℕ) → k < n → rowsLeft k ≡ cellsAt t cells (4 * cells * k) ∷ rowsLeft (k + 1)
-  left-turn k h =
-      let e : 4 * cells * (k + 1) ≡ 4 * cells * k + 4 * cells = rw (add-one, mul-suc) (omega arith) in
-      rw (one-left n k h, e)
+  left-turn k h = rw (zero-add (4 * cells * k), zero-add (4 * cells * (k + 1))) at (Rows.left-turn (cellsAt t cells) (4 * cells) 0 n k h)
 
   -- at the end none
   pub left-done : (k : ℕ) → n ≤ k → rowsLeft k ≡ []
-  left-done k h = rw (none-left n k h)
+  left-done k h = rw zero-add at (Rows.left-done (cellsAt t cells) (4 * cells) 0 n k h)
 
   -- they are those behind the first k
   pub left-from : (k : ℕ) → rowsLeft k ≡ drop k (tableRows cells t n)

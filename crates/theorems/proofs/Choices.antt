@@ -150,7 +150,7 @@ module _ (id : ℕ) where
   has-it : (atcs : List Row) (k : ℕ) → hasId (getD atcs k []) ≡ true → HasId atcs id k
   has-it atcs k h =
       let a = getD atcs k [] in
-      let b = both-true (leb (offsetId a) id) (ltb (id - offsetId a) (atcStcCount a)) h in
+      let b = both-true h in
       let l = ltb-true (id - offsetId a) (atcStcCount a) (b .1) in
       record { not-negative = leb-true (offsetId a) id (b .0); row = omega arith }
 

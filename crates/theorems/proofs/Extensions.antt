@@ -6,7 +6,7 @@ use mathlib.Core.Bool.{Bool, true, false, not}
 use native.Mathlib.Omega.{arith}
 use lib.ListN.{length, drop, length-drop}
 use lib.Seq.{length-take-le}
-use lib.Dec.{eqb, leb}
+use lib.Dec.{eqb}
 use borrow.Author.Tests.{eqb-true, eqb-false, ne-eqb, eq-eqb, leb-true, le-leb, not-true}
 use Rattle.format.specs.Bytes.{beAt, both, pick, gather}
 use Rattle.format.specs.ClipRecord.{Extension}
@@ -22,7 +22,7 @@ module _ (f : List ℕ) (start : ℕ) where
   kept-of : (p : ℕ) → isKept f start p ≡ true → Kept f start p
   kept-of p h =
       let end = start + addressAt f p + dataLengthAt f p in
-      let b = both-true (not (eqb (addressAt f p) 0)) (leb end (min (blockEnd f start) (length f))) h in
+      let b = both-true h in
       let l = leb-true end (min (blockEnd f start) (length f)) (b .1) in
       record { address = eqb-false (addressAt f p) 0 (not-true (eqb (addressAt f p) 0) (b .0)); in-block = omega arith; in-file = omega arith }
 

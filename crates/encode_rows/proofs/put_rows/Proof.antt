@@ -6,10 +6,12 @@ use native.Mathlib.Omega.{arith}
 use denote.Ref.{now}
 use lib.ListN.{length}
 use lib.Seq.{sets}
+use Rattle.format.specs.Bytes.{flat}
 use Rattle.format.specs.Tables.{cellsAt}
+use Rattle.format.proofs.Rows.{rest-all, rest-done}
 use Rattle.format.proofs.Sweep.{Along}
 use Rattle.row_values.specs.Kinds.{cellsOf, bytesBy}
-use Rattle.row_bytes.proofs.Storing.{Storing, storing-first, storing-done, rowsLeft, rows-all, rows-none, row-room, row-put}
+use Rattle.row_bytes.proofs.Storing.{Storing, storing-first, storing-done, rowsLeft, row-room, row-put}
 use Rattle.encode_rows.specs.Rows.{stepOf, rowsBytes}
 use Rattle.encode_rows.proofs.Rows.{cells-few, pass-first, row-inside, pass-turn, same-bytes}
 use Rattle.encode_rows.proofs.put_rows.Statement.{statement}
@@ -38,7 +40,7 @@ loop-holds c =
     let a = c .before .before .before .args in
     let t = now (a .t) in (
       pass-first (a .kind) t (a .p) (a .n) (c .before .before .before .pre .0),
-      storing-first (now (a .out)) (rowsBytes (a .kind) t (a .p) (a .n)) (a .at) (c .before .before .before .pre .1) (rows-all (cellsAt t (cellsOf (a .kind))) (stepOf (a .kind)) (bytesBy (a .kind)) (a .p) (a .n)),
+      storing-first (now (a .out)) (rowsBytes (a .kind) t (a .p) (a .n)) (a .at) (c .before .before .before .pre .1) (ap (flat (bytesBy (a .kind))) (rest-all (cellsAt t (cellsOf (a .kind))) (stepOf (a .kind)) (a .p) (a .n))),
     )
 
 table-row-requires : tie.Need-table-row-requires Inv-loop μ-loop
@@ -80,7 +82,7 @@ returns : tie.Need-returns Inv-loop μ-loop
 returns c =
     let a = c .before .before .before .before .before .args in
     let l = c .before .loop in
-    storing-done (l .inv .1) (rows-none (cellsAt (now (a .t)) (cellsOf (a .kind))) (stepOf (a .kind)) (bytesBy (a .kind)) (l .q) (a .n) (l .k) (c .loop-test .left))
+    storing-done (l .inv .1) (ap (flat (bytesBy (a .kind))) (rest-done (cellsAt (now (a .t)) (cellsOf (a .kind))) (stepOf (a .kind)) (l .q) (a .n) (l .k) (c .loop-test .left)))
 
 pub put-rows-spec : {M : Type 1} → statement M
 put-rows-spec =

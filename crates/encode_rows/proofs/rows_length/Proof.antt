@@ -7,9 +7,10 @@ use denote.Ref.{now}
 use lib.ListN.{length}
 use Rattle.format.specs.Bytes.{endOf}
 use Rattle.format.specs.Tables.{cellsAt, tableRows}
+use Rattle.format.proofs.Rows.{rest-all}
 use Rattle.format.proofs.Sweep.{Along}
 use Rattle.row_values.specs.Kinds.{cellsOf, bytesBy}
-use Rattle.row_bytes.proofs.Storing.{rows-all, Adding, row-added, rows-added}
+use Rattle.row_bytes.proofs.Storing.{Adding, row-added, rows-added}
 use Rattle.encode_rows.specs.Rows.{stepOf, rowsBytes}
 use Rattle.encode_rows.proofs.Rows.{cells-few, rows-inside, pass-first, row-inside, pass-turn, same-length, few-bytes}
 use Rattle.encode_rows.proofs.rows_length.Statement.{statement}
@@ -40,7 +41,7 @@ loop-holds : tie.Need-loop-holds Inv-loop μ-loop
 loop-holds c =
     let a = c .before .before .args in
     let t = now (a .t) in
-    (pass-first (a .kind) t 0 (a .n) (rows-inside (a .kind) t (a .n) (c .before .before .pre)), omega arith, rw (rows-all (cellsAt t (cellsOf (a .kind))) (stepOf (a .kind)) (bytesBy (a .kind)) 0 (a .n)) (omega arith))
+    (pass-first (a .kind) t 0 (a .n) (rows-inside (a .kind) t (a .n) (c .before .before .pre)), omega arith, rw (rest-all (cellsAt t (cellsOf (a .kind))) (stepOf (a .kind)) 0 (a .n)) (omega arith))
 
 table-row-requires : tie.Need-table-row-requires Inv-loop μ-loop
 table-row-requires c κs = inside c

@@ -1,15 +1,16 @@
 -- Each turn stores the next entry's line; what is left to store is that of the entries that are left.
 use Prim.Native.Nat.{_+_, _*_, _-_, _≤_}
-use mathlib.Core.Path.{_≡_}
+use mathlib.Core.Path.{_≡_, sym, ap}
 use native.Mathlib.Omega.{arith}
 use denote.Ref.{now}
 use borrow.Author.Needs.{needs}
 use Rattle.format.specs.Bytes.{flat}
 use Rattle.format.specs.Listing.{epLine}
+use Rattle.format.specs.Tables.{cellsAt, entryCells}
+use Rattle.format.proofs.Rows.{rest-all, rest-turn, rest-done}
 use Rattle.text_lines.specs.Stored.{Still}
 use Rattle.listing.specs.Text.{entriesFrom}
 use Rattle.text_lines.proofs.Laws.{still-as, still-turn, still-none, still-all}
-use Rattle.listing.proofs.Laws.{entries-all, entries-turn, entries-done}
 use Rattle.listing.proofs.put_entries.Statement.{statement}
 use Rattle.listing.proofs.put_entries.Tie as tie
 
@@ -26,7 +27,7 @@ loop-holds c =
     let a = c .before .before .args in
     let t = now (a .entries) in
     let whole = flat epLine (entriesFrom t (a .row) (a .count)) in
-    (search needs, search needs, search needs, still-as (entries-all t (a .row) (a .count)) (still-all (now (a .out)) (a .at) whole))
+    (search needs, search needs, search needs, still-as (ap (flat epLine) (sym (rest-all (cellsAt t entryCells) (λ p. p + 20) (a .row) (a .count)))) (still-all (now (a .out)) (a .at) whole))
 
 put-entry-requires : tie.Need-put-entry-requires Inv-loop μ-loop
 put-entry-requires c κs = search needs
@@ -45,7 +46,7 @@ loop-again c =
     let a = c .before .before .before .before .before .before .before .before .args in
     let t = now (a .entries) in
     let l = c .before .before .before .before .before .loop in
-    let left = still-as (entries-turn t (l .q) (a .count) (l .i) (omega arith)) (l .inv .3) in
+    let left = still-as (ap (flat epLine) (rest-turn (cellsAt t entryCells) (λ p. p + 20) (l .q) (a .count) (l .i) (omega arith))) (l .inv .3) in
     let later = flat epLine (entriesFrom t (l .q + 20) (a .count - (l .i + 1))) in
     (search needs, search needs, search needs, still-turn later (c .before .before .put-entry .ensures .text) left)
 
@@ -56,7 +57,7 @@ returns : tie.Need-returns Inv-loop μ-loop
 returns c =
     let a = c .before .before .before .before .args in
     let l = c .before .loop in
-    let none = entries-done (now (a .entries)) (l .q) (a .count) (l .i) (omega arith) in
+    let none = ap (flat epLine) (rest-done (cellsAt (now (a .entries)) entryCells) (λ p. p + 20) (l .q) (a .count) (l .i) (omega arith)) in
     record { text = still-none (still-as none (l .inv .3)); short = search needs }
 
 pub put-entries-spec : {M : Type 1} → statement M

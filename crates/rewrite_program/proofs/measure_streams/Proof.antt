@@ -6,13 +6,15 @@ use native.Mathlib.Nat.{le-trans}
 use native.Mathlib.Omega.{arith}
 use denote.Ref.{now}
 use lib.ListN.{length}
+use Rattle.format.specs.Bytes.{flat}
 use Rattle.format.specs.ClipRecord.{Row}
 use Rattle.format.specs.Programs.{streamAt, nextStream}
 use Rattle.format.specs.Rewriting.{streamBytes}
 use Rattle.format.proofs.Loops.{end-ge}
 use Rattle.format.proofs.Places.{up-stream}
+use Rattle.format.proofs.Rows.{rest-all}
 use Rattle.format.proofs.Sweep.{Along, along-first, along-turn, along-done, along-within}
-use Rattle.row_bytes.proofs.Storing.{rows-all, Adding, row-added, rows-added}
+use Rattle.row_bytes.proofs.Storing.{Adding, row-added, rows-added}
 use Rattle.rewrite_program.specs.Programs.{newStreams}
 use Rattle.rewrite_program.proofs.Laws.{places-are}
 use borrow.Author.Needs.{needs}
@@ -52,7 +54,7 @@ loop-holds c =
     let a = c .before .args in
     let f = now (a .file) in (
       along-first (nextStream f) (le-trans (end-ge (nextStream f) (up-stream f) (a .p) (a .n)) (c .before .pre .0)),
-      ap (λ (l : List ℕ). a .at + length l) (rows-all (streamAt f) (nextStream f) streamBytes (a .p) (a .n)),
+      ap (λ (l : List ℕ). a .at + length l) (ap (flat streamBytes) (rest-all (streamAt f) (nextStream f) (a .p) (a .n))),
     )
 
 stream-row-requires : tie.Need-stream-row-requires Inv-loop μ-loop

@@ -1,19 +1,21 @@
 -- A turn stores one stream and goes on behind it, in the file and in the output.
 use Prim.Native.Nat.{ℕ, _+_, _-_, _≤_}
-use mathlib.Core.Path.{_≡_}
+use mathlib.Core.Path.{_≡_, ap}
 use mathlib.Core.List.{List}
 use native.Mathlib.Nat.{le-trans}
 use native.Mathlib.Omega.{arith}
 use denote.Ref.{now}
 use lib.ListN.{length}
 use lib.Seq.{sets}
+use Rattle.format.specs.Bytes.{flat}
 use Rattle.format.specs.ClipRecord.{Row}
 use Rattle.format.specs.Programs.{streamAt, nextStream}
 use Rattle.format.specs.Rewriting.{streamBytes}
 use Rattle.format.proofs.Loops.{end-ge}
 use Rattle.format.proofs.Places.{up-stream}
+use Rattle.format.proofs.Rows.{rest-all, rest-done}
 use Rattle.format.proofs.Sweep.{Along, along-first, along-turn, along-done, along-within}
-use Rattle.row_bytes.proofs.Storing.{Storing, storing-first, storing-done, rowsLeft, rows-all, rows-none, row-room, row-put}
+use Rattle.row_bytes.proofs.Storing.{Storing, storing-first, storing-done, rowsLeft, row-room, row-put}
 use Rattle.rewrite_program.specs.Programs.{newStreams}
 use Rattle.rewrite_program.proofs.Laws.{places-are, row-as}
 use borrow.Author.Needs.{needs}
@@ -50,7 +52,7 @@ loop-holds c =
     let a = s .args in
     let f = now (a .file) in (
       along-first (nextStream f) (le-trans (end-ge (nextStream f) (up-stream f) (a .p) (a .n)) (s .pre .0)),
-      storing-first (now (a .out)) (newStreams f (a .p) (a .n)) (a .at) (s .pre .1) (rows-all (streamAt f) (nextStream f) streamBytes (a .p) (a .n)),
+      storing-first (now (a .out)) (newStreams f (a .p) (a .n)) (a .at) (s .pre .1) (ap (flat streamBytes) (rest-all (streamAt f) (nextStream f) (a .p) (a .n))),
     )
 
 stream-row-requires : tie.Need-stream-row-requires Inv-loop μ-loop
@@ -88,7 +90,7 @@ returns c =
     let l = c .before .loop in
     let a = c .before .before .before .before .args in
     let f = now (a .file) in
-    let done = storing-done (l .inv .1) (rows-none (streamAt f) (nextStream f) streamBytes (l .q) (a .n) (l .k) (c .loop-test .left)) in
+    let done = storing-done (l .inv .1) (ap (flat streamBytes) (rest-done (streamAt f) (nextStream f) (l .q) (a .n) (l .k) (c .loop-test .left))) in
     (places-are (along-done (l .inv .0) (c .loop-test .left)) (done .0), done .1)
 
 pub put-streams-spec : {M : Type 1} → statement M

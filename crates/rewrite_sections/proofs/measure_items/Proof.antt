@@ -6,12 +6,13 @@ use native.Mathlib.Nat.{le-trans}
 use native.Mathlib.Omega.{arith}
 use denote.Ref.{now}
 use lib.ListN.{length}
+use Rattle.format.specs.Bytes.{flat}
 use Rattle.format.specs.Programs.{nextProgram}
 use Rattle.format.proofs.Loops.{end-ge}
 use Rattle.format.proofs.Places.{up-program}
-use Rattle.format.proofs.Rows.{as-is}
+use Rattle.format.proofs.Rows.{as-is, rest-all}
 use Rattle.format.proofs.Sweep.{Along, along-first, along-turn, along-within}
-use Rattle.row_bytes.proofs.Storing.{rows-all, Adding, row-added, rows-added}
+use Rattle.row_bytes.proofs.Storing.{Adding, row-added, rows-added}
 use Rattle.rewrite_program.specs.Programs.{newProgram}
 use Rattle.rewrite_program.specs.declared.Places.{Places}
 use Rattle.rewrite_sections.specs.Sections.{newItems}
@@ -51,7 +52,7 @@ loop-holds c =
     let a = c .before .args in
     let f = now (a .file) in (
       along-first (nextProgram f) (le-trans (end-ge (nextProgram f) (up-program f) (a .p) (a .n)) (c .before .pre .0)),
-      ap (λ (l : List ℕ). a .at + length l) (rows-all (newProgram f) (nextProgram f) as-is (a .p) (a .n) ∙ flat-gather as-is (newProgram f) (nextProgram f) (a .p) (a .n)),
+      ap (λ (l : List ℕ). a .at + length l) (ap (flat as-is) (rest-all (newProgram f) (nextProgram f) (a .p) (a .n)) ∙ flat-gather as-is (newProgram f) (nextProgram f) (a .p) (a .n)),
     )
 
 measure-program-requires : tie.Need-measure-program-requires Inv-loop μ-loop

@@ -7,12 +7,13 @@ use native.Mathlib.Omega.{arith}
 use denote.Ref.{now}
 use lib.ListN.{length}
 use lib.Seq.{sets}
+use Rattle.format.specs.Bytes.{flat}
 use Rattle.format.specs.Programs.{nextProgram}
 use Rattle.format.proofs.Loops.{end-ge}
 use Rattle.format.proofs.Places.{up-program}
-use Rattle.format.proofs.Rows.{as-is}
+use Rattle.format.proofs.Rows.{as-is, rest-all, rest-done}
 use Rattle.format.proofs.Sweep.{Along, along-first, along-turn, along-within}
-use Rattle.row_bytes.proofs.Storing.{Storing, storing-first, storing-done, rowsLeft, rows-all, rows-none, row-room, row-put}
+use Rattle.row_bytes.proofs.Storing.{Storing, storing-first, storing-done, rowsLeft, row-room, row-put}
 use Rattle.rewrite_program.specs.Programs.{newProgram}
 use Rattle.rewrite_program.specs.declared.Places.{Places}
 use Rattle.rewrite_sections.specs.Sections.{newItems}
@@ -44,7 +45,7 @@ loop-holds c =
     let f = now (a .file) in (
       along-first (nextProgram f) (le-trans (end-ge (nextProgram f) (up-program f) (a .p) (a .n)) (s .pre .0)),
       storing-first (now (a .out)) (newItems f (a .p) (a .n)) (a .at) (s .pre .1)
-          (rows-all (newProgram f) (nextProgram f) as-is (a .p) (a .n) ∙ flat-gather as-is (newProgram f) (nextProgram f) (a .p) (a .n)),
+          (ap (flat as-is) (rest-all (newProgram f) (nextProgram f) (a .p) (a .n)) ∙ flat-gather as-is (newProgram f) (nextProgram f) (a .p) (a .n)),
     )
 
 put-program-requires : tie.Need-put-program-requires Inv-loop μ-loop
@@ -80,7 +81,7 @@ returns c =
     let l = c .before .loop in
     let a = c .before .before .before .before .args in
     let f = now (a .file) in
-    storing-done (l .inv .1) (rows-none (newProgram f) (nextProgram f) as-is (l .q) (a .n) (l .k) (c .loop-test .left))
+    storing-done (l .inv .1) (ap (flat as-is) (rest-done (newProgram f) (nextProgram f) (l .q) (a .n) (l .k) (c .loop-test .left)))
 
 pub put-items-spec : {M : Type 1} → statement M
 put-items-spec =

@@ -33,7 +33,7 @@ module _ (f : tie.Else2) where
   narrow =
       let a = f .before .before .before .args in
       let test = f .before .angle-fits in
-      both-true (ltb (a .angle) 2) (ltb (a .i-end) 8) (sym (test .ensures) ∙ not-false (test .result) (f .if2 .left))
+      both-true (sym (test .ensures) ∙ not-false (test .result) (f .if2 .left))
 
 returns-3 : tie.Need-returns-3
 returns-3 c =
