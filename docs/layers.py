@@ -2,7 +2,7 @@
 """Draws the layers of crates.txt as docs/layers.svg, and checks them.
 
 Every crate stands in one box of LAYERS, and depends only on crates of its own box, of its layer, or of a layer below.
-Bytes are stored into a slice by the crates of STORES alone.
+Bytes are stored into a slice by the crates of STORES alone, and a time is made of another by `ticks` alone.
 Without words it writes the picture; with --check it writes nothing, and fails where the picture is not what it would write.
 """
 import html
@@ -93,6 +93,17 @@ def check_stores():
             sys.exit(f"layers: {crate} stores bytes itself, which {', '.join(sorted(STORES))} do for all")
 
 
+def check_ticks():
+    """No other crate makes a time of another time's number, nor one in 90 kHz ticks of an STC's cell, which has 45."""
+    for source in sorted((HERE.parent / "crates").glob("*/src/**/*.rt")):
+        crate = source.relative_to(HERE.parent / "crates").parts[0]
+        words = source.read_text()
+        of_time = re.search(r"(?:Ticks45|Ticks90|Pts90)\([^()]*\.0\b", words)
+        of_cell = crate == "sequence_queries" and re.search(r"(?:Ticks90|Pts90)\((?!0\))", words)
+        if crate != "ticks" and (of_time or of_cell):
+            sys.exit(f"layers: {crate} makes a time by hand: {(of_time or of_cell).group()}")
+
+
 def wrapped(names, width):
     """The names in lines of at most that width."""
     lines = [""]
@@ -141,6 +152,7 @@ def drawn():
 def main():
     check(crates())
     check_stores()
+    check_ticks()
     picture = HERE / "layers.svg"
     if sys.argv[1:] == ["--check"]:
         if not picture.exists() or picture.read_text() != drawn():

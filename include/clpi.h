@@ -1,8 +1,9 @@
 /* clpi.h: Blu-ray clip information (CLPI) files, read into tables that the caller lends, and written from them.
  *
  * For C99 or C++11 and later. Link with libclpi.a (`pkg-config --libs clpi`; x86-64, 64-bit size_t). Every call takes
- * every input, allocates nothing, keeps nothing, calls nothing, needs less than 1 KB of stack, and ends. What it
- * answers and stores is proved equal to the format's definitions; what is not proved is the caller's side of this page:
+ * every input, allocates nothing, keeps nothing, calls nothing, and ends; its machine code needs less than 1 KB of
+ * stack. What it answers and stores is proved equal to the format's definitions; what is not proved is the figure of
+ * stack, which is counted, and the caller's side of this page:
  *
  *  - a pointer points to as many bytes as its length says, at any alignment; with length 0 it may be NULL;
  *  - the tables lent to one call overlap neither one another nor the file, the output overlaps neither the tables
@@ -45,7 +46,7 @@ enum clpi_refusal {
     /* the caller */
     CLPI_FILE_TOO_LONG = 20,  /* over CLPI_MOST_BYTES */
     CLPI_TABLE_SHORT = 21,    /* a table is too short: `table` and `rows_needed` tell which, and how long it must be */
-    CLPI_ROWS = 22,           /* a row number, stated rows or a row's data that isn't there */
+    CLPI_ROWS = 22,           /* a row number, stated rows or a row's data that isn't there, or counts that don't add up */
     CLPI_OUTPUT_SHORT = 23,   /* the output is too short: `bytes_needed` tells how long it must be (writing) */
     /* the record's maker (writing) */
     CLPI_CELLS = 30, /* a count or a cell that its field in the file can't hold */
@@ -324,8 +325,8 @@ struct clpi_part clpi_extension_data(
  * are stated than lent, where a row number is not one of them, or, where a table of counts and the table counted are
  * both lent, where the counts don't add up to the rows stated. A time in 90 kHz ticks has 32 bits where entries are
  * looked up, else 64: C cuts a longer one off without a word, so look up UINT32_MAX where a time is greater, which has
- * the same answer. Ids and types of 8 bits, and PIDs and extension ids of 16, are cut off in the same way, so that 257
- * asks for id 1: test longer ones first. A part of a table may be lent as a table: the streams of one program, say; and
+ * the same answer. Ids and types of 8 bits, PIDs and extension ids of 16, and row and packet numbers of 32 are cut off
+ * in the same way, so that 257 asks for id 1: test longer ones first. A part of a table may be lent as a table: the streams of one program, say; and
  * tables 8 and 9 may be lent where tables 3 and 4 are asked for. */
 
 /* An answer. `found` is 0 where there is none, which is no refusal; then, and beside a refusal, `value` is 0. Below,
@@ -483,7 +484,8 @@ struct clpi_answer clpi_spn_to_byte(uint32_t number_of_source_packets, uint32_t 
 /* The packet in which a byte of the clip lies. */
 struct clpi_answer clpi_byte_to_spn(uint32_t number_of_source_packets, uint64_t byte);
 
-/* The seconds that the clip's bytes take at its rate; `found` is 0 where the rate is 0, and `seconds` then too. */
+/* The seconds that the clip's bytes take at its rate: seconds * rate and the bytes differ by at most bytes / 2^53.
+ * `found` is 0 where the rate is 0, and `seconds` then too. */
 struct clpi_seconds {
     uint32_t refusal; /* 0 */
     uint32_t found;   /* 1 where there is a rate */

@@ -153,8 +153,9 @@ static const char help_rewrite[] =
     "\n"
     "Examples:\n"
     "  clip rewrite 00001.clpi 00001.new\n"
-    "  clip rewrite 00001.clpi 00001.new && mv 00001.new 00001.clpi\n"
-    "The second gives up the old file, once the new one is there and checked.\n";
+    "  mv 00001.new 00001.clpi\n"
+    "The second gives up the old file. Look first at the maps and entries that the\n"
+    "first has told.\n";
 
 static const char help_minutes[] =
     "usage: clip minutes FILE TIME\n"

@@ -7,7 +7,7 @@ use native.Mathlib.Nat.{le-trans}
 use native.Mathlib.Omega.{arith}
 use lib.ListN.{length}
 use lib.Seq.{sets}
-use lib.Dec.{leb, lit<}
+use lib.Dec.{leb}
 use borrow.Author.Tests.{leb-true}
 use Rattle.format.specs.Bytes.{beAt, rowsAt, gather, endOf}
 use Rattle.format.specs.ClipRecord.{stcAt, nextStc, atcsFrom, stcsFrom, sequencesEnd}
@@ -29,12 +29,7 @@ pub head-cells : (section : Section) (f : List ℕ) (p : ℕ) → length (headAt
 head-cells Section.Sequences f p = refl
 head-cells Section.Programs f p = refl
 
--- a row behind it has at least one
-cells-some : (section : Section) → 0 < ownCells section
-cells-some Section.Sequences = lit< tt
-cells-some Section.Programs = lit< tt
-
--- they are all as wide as their table's rows
+-- each row behind it is as wide as its table's rows
 own-cells : (section : Section) (f : List ℕ) (p : ℕ) → HaveCells (ownCells section) (ownRows section f p)
 own-cells Section.Sequences f p = rows-all (stcAt f) nextStc (λ q. refl) (p + 6) (beAt f (p + 4) 1)
 own-cells Section.Programs f p = rows-all (streamAt f) (nextStream f) (λ q. refl) (p + 8) (beAt f (p + 6) 1)
@@ -124,11 +119,11 @@ module _ {section : Section} {f : List ℕ} {start n : ℕ} {heads₀ rows₀ : 
       record {
         along = along-first (nextHead section f) (ends-within section f start (a .ends));
         heads-left =
-            filling-front 3 (rowsAt (headAt section f) (nextHead section f)) heads₀ (lit< tt)
+            filling-front 3 (rowsAt (headAt section f) (nextHead section f)) heads₀
             (rw (heads-are f start section) (rows-all (headAt section f) (nextHead section f) (head-cells section f) (start + 6) m)) (a .heads-room)
             (ap (rowsAt (headAt section f) (nextHead section f) (start + 6)) count ∙ sym (heads-are f start section));
         rows-left =
-            filling-front (ownCells section) (gather (ownRows section f) (nextHead section f)) rows₀ (cells-some section)
+            filling-front (ownCells section) (gather (ownRows section f) (nextHead section f)) rows₀
             (rw (rows-are f start section) (gather-all (ownRows section f) (nextHead section f) (own-cells section f) (start + 6) m)) (a .rows-room)
             (ap (gather (ownRows section f) (nextHead section f) (start + 6)) count ∙ sym (rows-are f start section));
       }

@@ -32,7 +32,10 @@ struct Rows {
 /// Reads the maps; a refusal is 6 or 7.
 pub fn read(file: &[u8], start: u64, wrong: Mutation, out: &mut Record) -> Result<(), u32> {
     let bytes = file.len() as u64;
-    if start == 0 || start >= bytes {
+    if start >= bytes {
+        return if wrong == CpiPastEndRefused { Err(6) } else { Ok(()) };
+    }
+    if start == 0 && wrong != CpiAtZero {
         return Ok(());
     }
     let length = number(file, start, 4).ok_or(6u32)?;

@@ -6,7 +6,7 @@ use crate::record::{EXTENSIONS, LIST_PROGRAMS, Record};
 
 /// Reads the extensions and the list. By the rules this never refuses.
 pub fn read(file: &[u8], start: u64, wrong: Mutation, out: &mut Record) -> Result<(), u32> {
-    if start == 0 || start >= file.len() as u64 {
+    if start == 0 && wrong != ExtensionsAtZero || start >= file.len() as u64 {
         return Ok(());
     }
     if entries(file, start, wrong, &mut out.tables[EXTENSIONS]).is_none() && wrong != CutEntriesKept {
@@ -19,7 +19,7 @@ pub fn read(file: &[u8], start: u64, wrong: Mutation, out: &mut Record) -> Resul
 fn entries(file: &[u8], start: u64, wrong: Mutation, out: &mut Vec<u32>) -> Option<()> {
     let bytes = file.len() as u64;
     let length = number(file, start, 4)?;
-    if length == 0 {
+    if length == 0 && wrong != EmptyBlockRead {
         return Some(());
     }
     let block_end = start + if wrong == BlockEndWithoutFour { length } else { 4 + length };
