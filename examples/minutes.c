@@ -21,7 +21,7 @@ int main(int argc, char **argv)
     }
     if (!(file = load(argv[1], &bytes))) {
         perror(argv[1]);
-        return 2;
+        return 3;
     }
     r = read_clip(file, bytes, &t);
     if (r.refusal) {
@@ -34,7 +34,7 @@ int main(int argc, char **argv)
     free(file);
     if (fflush(stdout) != 0 || ferror(stdout)) {
         perror("standard output");
-        return 2;
+        return 3;
     }
     return r.refusal != 0;
 }

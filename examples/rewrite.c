@@ -44,7 +44,7 @@ int main(int argc, char **argv)
     }
     if (!(old = load(argv[1], &bytes))) {
         perror(argv[1]);
-        return 2;
+        return 3;
     }
     length = clpi_rewritten_length(old, bytes);
     if (length.refusal) {

@@ -34,7 +34,7 @@ int main(int argc, char **argv)
     }
     if (!(file = load(argv[1], &bytes))) {
         perror(argv[1]);
-        return 2;
+        return 3;
     }
     r = read_clip(file, bytes, &t);
     w = write_clip(&r, &t, &output);
@@ -46,5 +46,5 @@ int main(int argc, char **argv)
     free(output);
     free_tables(&t);
     free(file);
-    return done ? 0 : w.refusal ? 1 : 2;
+    return done ? 0 : w.refusal ? 1 : 3;
 }

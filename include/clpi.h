@@ -53,6 +53,43 @@ enum clpi_refusal {
     CLPI_RUNS = 31   /* a map with over 65,535 runs */
 };
 
+/* A refusal in words, for messages; an empty string for 0 and for what is no refusal. */
+static inline const char *clpi_refusal_words(uint32_t refusal)
+{
+    switch (refusal) {
+    case CLPI_HEADER_SHORT:
+        return "the file is too short for the header of a clip file";
+    case CLPI_LETTERS:
+        return "the file is no clip file: it begins neither with HDMV nor with CLPI";
+    case CLPI_CLIP_INFO:
+        return "the clip information passes the file's end";
+    case CLPI_SEQUENCES:
+        return "the sequences pass the file's end";
+    case CLPI_PROGRAMS:
+        return "the programs pass the file's end";
+    case CLPI_CPI:
+        return "the length or the map headers of the entry index pass the file's end";
+    case CLPI_EP_MAP:
+        return "the address, the fine address or the rows of an entry map pass their end";
+    case CLPI_MARKS:
+        return "the marks pass the file's end";
+    case CLPI_FILE_TOO_LONG:
+        return "the file is longer than 536870912 bytes";
+    case CLPI_TABLE_SHORT:
+        return "a table is too short for the file's rows";
+    case CLPI_ROWS:
+        return "rows are stated that are not there";
+    case CLPI_OUTPUT_SHORT:
+        return "the output is too short for the new file";
+    case CLPI_CELLS:
+        return "a number is too large for its field in a clip file";
+    case CLPI_RUNS:
+        return "an entry map has over 65535 runs, more than a clip file can hold";
+    default:
+        return "";
+    }
+}
+
 /* the longest file that is read */
 #define CLPI_MOST_BYTES 536870912u
 
@@ -326,8 +363,8 @@ struct clpi_part clpi_extension_data(
  * both lent, where the counts don't add up to the rows stated. A time in 90 kHz ticks has 32 bits where entries are
  * looked up, else 64: C cuts a longer one off without a word, so look up UINT32_MAX where a time is greater, which has
  * the same answer. Ids and types of 8 bits, PIDs and extension ids of 16, and row and packet numbers of 32 are cut off
- * in the same way, so that 257 asks for id 1: test longer ones first. A part of a table may be lent as a table: the streams of one program, say; and
- * tables 8 and 9 may be lent where tables 3 and 4 are asked for. */
+ * in the same way, so that 257 asks for id 1: test longer ones first. A part of a table may be lent as a table: the
+ * streams of one program, say; and tables 8 and 9 may be lent where tables 3 and 4 are asked for. */
 
 /* An answer. `found` is 0 where there is none, which is no refusal; then, and beside a refusal, `value` is 0. Below,
  * "nothing" is `found` 0, and "0" is a value that is found. */

@@ -13,34 +13,17 @@ enum status { DONE = 0, REFUSED = 1, WRONG_USE = 2, FAILED = 3 };
 
 /* ---- refusals */
 
-/* The refusals in plain words. */
-static const struct {
-    uint32_t refusal;
-    const char *words;
-} refusals[] = {
-    {CLPI_HEADER_SHORT, "the file is too short for the header of a clip file"},
-    {CLPI_LETTERS, "the file is no clip file: it begins neither with HDMV nor with CLPI"},
-    {CLPI_CLIP_INFO, "the clip information passes the file's end"},
-    {CLPI_SEQUENCES, "the sequences pass the file's end"},
-    {CLPI_PROGRAMS, "the programs pass the file's end"},
-    {CLPI_CPI, "the length or the map headers of the entry index pass the file's end"},
-    {CLPI_EP_MAP, "the address, the fine address or the rows of an entry map pass their end"},
-    {CLPI_MARKS, "the marks pass the file's end"},
-    {CLPI_FILE_TOO_LONG, "the file is longer than 536870912 bytes"},
-    {CLPI_TABLE_SHORT, "there is no memory for a table as long as the file's rows need"},
-    {CLPI_ROWS, "rows are stated that are not there"},
-    {CLPI_OUTPUT_SHORT, "there is no room for the new file"},
-    {CLPI_CELLS, "a number is too large for its field in a clip file"},
-    {CLPI_RUNS, "an entry map has over 65535 runs, more than a clip file can hold"},
-};
-
-/* The words for a refusal. */
+/* The words for a refusal: the library's, but that it is the tool that lends the tables and the output. */
 static const char *words_for(uint32_t refusal)
 {
-    for (size_t i = 0; i < sizeof refusals / sizeof *refusals; i++)
-        if (refusals[i].refusal == refusal)
-            return refusals[i].words;
-    return "";
+    switch (refusal) {
+    case CLPI_TABLE_SHORT:
+        return "there is no memory for a table as long as the file's rows need";
+    case CLPI_OUTPUT_SHORT:
+        return "there is no room for the new file";
+    default:
+        return clpi_refusal_words(refusal);
+    }
 }
 
 /* Says that a file is refused, and why. */
@@ -178,8 +161,9 @@ static const char help_minutes[] =
 static int help_refusals(void)
 {
     printf("A file is refused by one of these numbers, and then nothing is written:\n\n");
-    for (size_t i = 0; i < sizeof refusals / sizeof *refusals; i++)
-        printf("  %2" PRIu32 "  %s\n", refusals[i].refusal, refusals[i].words);
+    for (uint32_t refusal = CLPI_HEADER_SHORT; refusal <= CLPI_RUNS; refusal++)
+        if (*words_for(refusal))
+            printf("  %2" PRIu32 "  %s\n", refusal, words_for(refusal));
     printf("\n1 to 8 are faults of the file. An entry index or marks that start at 0, or at or\n"
            "past the file's end, are no fault: the file has none. 'clip list' has lower limits\n"
            "for 20 and 21: see 'clip help list'. 22, 23 and 30 come from the library alone, to\n"
