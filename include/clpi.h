@@ -78,11 +78,11 @@ static inline const char *clpi_refusal_words(uint32_t refusal)
     case CLPI_TABLE_SHORT:
         return "a table is too short for the file's rows";
     case CLPI_ROWS:
-        return "rows are stated that are not there";
+        return "a row number, stated rows or a row's data that isn't there, or counts that don't add up";
     case CLPI_OUTPUT_SHORT:
         return "the output is too short for the new file";
     case CLPI_CELLS:
-        return "a number is too large for its field in a clip file";
+        return "a count or a number that its field in a clip file can't hold";
     case CLPI_RUNS:
         return "an entry map has over 65535 runs, more than a clip file can hold";
     default:
