@@ -21,6 +21,7 @@ use Rattle.extension.specs.Block.{foundIn}
 use Rattle.extension.specs.declared.ListData.{ListData}
 use Rattle.section_heads.specs.declared.Section.{Section}
 use Rattle.info_sections.specs.Sections.{Fillable}
+use Rattle.ep_entries.specs.Body.{Section as CpiSection}
 use Rattle.cpi_fill.specs.Fill as Maps
 use Rattle.clip_information.specs.Fill.{SectionsFit, ListFits, MarksThere}
 use Rattle.clip_sections.proofs.Laws.{both-pass}
@@ -54,9 +55,14 @@ module _ (f : List ℕ) where
       }
 
 -- the maps counted are those that the section says
-pub maps-counted : (f : List ℕ) {count : ℕ} → count ≡ length (clipOf f .maps) → count ≡ mapCount f (cpiStart f)
+maps-counted : (f : List ℕ) {count : ℕ} → count ≡ length (clipOf f .maps) → count ≡ mapCount f (cpiStart f)
 unfolding clipOf mapsFrom
 maps-counted f h = h ∙ rows-length (mapAt f) nextMap (cpiStart f + 8) (mapCount f (cpiStart f))
+
+-- the CPI section of an accepted file is in it
+pub cpi-section : (f : List ℕ) {start count : ℕ} → refusalOf f ≡ 0 → start ≡ cpiStart f → count ≡ length (clipOf f .maps) → CpiSection f start count
+cpi-section f e here is =
+    rw here (record { small = accepted-bounds f e .0; counted = maps-counted f is; head-in = sound f e .cpi-in; maps-in = sound f e .maps-in })
 
 module _ (f : List ℕ) {count : ℕ} {atcs stcs programs streams maps entries : List ℕ} (fits : SectionsFit f count atcs stcs programs streams maps entries) where
   -- tables 1 and 2 can be filled
@@ -81,10 +87,7 @@ module _ (f : List ℕ) {count : ℕ} {atcs stcs programs streams maps entries :
   pub maps-fillable : {start : ℕ} → start ≡ cpiStart f → Maps.Fill f start count maps entries
   unfolding clipOf
   maps-fillable e = record {
-    small = accepted-bounds f (fits .accepts) .0;
-    counted = rw e (maps-counted f (fits .counted));
-    head-in = rw e (sound f (fits .accepts) .cpi-in);
-    maps-in = rw e (sound f (fits .accepts) .maps-in);
+    section = cpi-section f (fits .accepts) e (fits .counted);
     maps-room = rw e (fits .maps-room);
     entries-room = rw e (fits .entries-room);
   }

@@ -6,33 +6,19 @@ use mathlib.Core.Bool.{Bool, true, false}
 use native.Mathlib.Omega.{arith}
 use lib.ListN.{length}
 use borrow.Author.Tests.{le-leb, lt-leb, lt-ltb, le-ltb, leb-true}
-use Rattle.format.specs.Bytes.{pick, both, every, beAt, unpacked, rowsAt, total}
+use Rattle.format.specs.Bytes.{pick, both, every, beAt, rowsAt, total}
 use Rattle.format.specs.ClipRecord.{entryCount, present}
-use Rattle.format.specs.EntryPoints.{headerWidths, mapTypeAt, coarseCountAt, fineCountAt, mapAt, nextMap, bodyAt, fineStart, entriesOf, cpiEnd, hasMaps, mapCount, mapsFrom, entriesFrom, cpiLengthIn, mapHeadersIn, cpiIn, mapIn, mapsIn}
+use Rattle.format.specs.EntryPoints.{coarseCountAt, fineCountAt, mapAt, nextMap, bodyAt, fineStart, entriesOf, cpiEnd, hasMaps, mapCount, mapsFrom, entriesFrom, cpiLengthIn, mapHeadersIn, cpiIn, mapIn, mapsIn}
 use Rattle.format.proofs.Tests.{both-true}
 use Rattle.format.proofs.Rows.{rows-length, gather-adds}
 use Rattle.format.proofs.Cpi.{count-by}
 use Rattle.format.proofs.Read.{own-length}
 use Rattle.format.proofs.Loops.{one-left, none-left}
-use Rattle.ep_rows.specs.Rows.{headerOf}
-use Rattle.ep_rows.specs.declared.MapHeader.{MapHeader}
+use Rattle.ep_rows.proofs.Headers.{counts-small}
 use Rattle.cpi.specs.Maps.{headOf, mapRows, mapsMeasured, measured, HeadersIn}
 use Rattle.cpi.specs.declared.maps.Head.{Head}
 use Rattle.cpi.specs.declared.maps.MapRows.{MapRows}
 use Rattle.cpi.specs.declared.maps.Measured.{Measured}
-
--- ---- a map header that was read
-
-pub header-read : (f : List ℕ) (p w : ℕ) (h : MapHeader) → w ≡ beAt f (p + 2) 6 → h ≡ headerOf (unpacked headerWidths w)
-    → (h .«ep_stream_type» ≡ mapTypeAt f p) × (h .«num_coarse» ≡ coarseCountAt f p) × (h .«num_fine» ≡ fineCountAt f p)
-header-read f p w h e r = (rw (r, e), rw (r, e), rw (r, e))
-
-pub counts-small : (f : List ℕ) (p : ℕ) → (coarseCountAt f p ≤ 65535) × (fineCountAt f p ≤ 262143)
-counts-small f p = (omega arith, omega arith)
-
--- the fine rows start at the body's first word
-pub fine-is : (f : List ℕ) (c p body r : ℕ) → body ≡ bodyAt f c p → r ≡ beAt f body 4 → body + r ≡ fineStart f c p
-fine-is f c p body r e h = rw (h, e)
 
 -- ---- one map, test by test
 

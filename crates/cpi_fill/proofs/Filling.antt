@@ -1,45 +1,21 @@
 -- Both tables filled map by map: a turn, and the end.
-use Prim.Native.Nat.{ℕ, suc, _+_, _*_, _-_, _<_, _≤_}
+use Prim.Native.Nat.{ℕ, suc, _+_, _*_, _<_, _≤_}
 use mathlib.Core.Path.{_≡_, refl, sym, ap, _∙_}
 use mathlib.Core.List.{List, [], _∷_}
-use mathlib.Core.Bool.{Bool, true, false}
 use native.Mathlib.Omega.{arith}
 use lib.ListN.{length}
 use lib.Seq.{sets}
-use borrow.Author.Tests.{leb-true, ltb-true}
-use Rattle.format.specs.Bytes.{pick, every, beAt, rowsAt, gather}
-use Rattle.format.specs.ClipRecord.{Row, present}
-use Rattle.format.specs.EntryPoints.{coarseAt, fineAt, nextCoarse, nextFine, mapTypeAt, coarseCountAt, fineCountAt, mapAt, nextMap, bodyAt, fineStart, entriesFor, entriesOf, cpiEnd, hasMaps, mapCount, mapsFrom, entriesFrom, cpiLengthIn, cpiIn, mapIn, mapsIn}
+use Rattle.format.specs.Bytes.{beAt, rowsAt, gather}
+use Rattle.format.specs.ClipRecord.{Row}
+use Rattle.format.specs.EntryPoints.{coarseAt, fineAt, nextCoarse, nextFine, mapTypeAt, coarseCountAt, fineCountAt, mapAt, nextMap, bodyAt, fineStart, entriesFor, entriesOf, mapCount, mapsFrom, entriesFrom}
 use Rattle.format.specs.Tables.{rowBytes, tableBytes, overwritten}
-use Rattle.format.proofs.Tests.{both-true}
 use Rattle.format.proofs.Lists.{none, more}
 use Rattle.format.proofs.Rows.{rows-all, gather-all}
 use Rattle.format.proofs.Read.{own-length}
-use Rattle.format.proofs.Loops.{one-left}
 use Rattle.format.proofs.Sweep as Sweep
 use Rattle.format.proofs.Sweep.{HaveCells, table-bytes, filling-front, filled, row-room, row-put, group-room, group-put}
+use Rattle.ep_entries.proofs.Bodies.{Left, left-first, left-next}
 use Rattle.cpi_fill.specs.Fill.{Fill}
-
--- ---- one map's body
-
--- the four tests, as facts
-pub record BodyIn (f : List ℕ) (c p : ℕ) : Type 0 where
-  pub address : bodyAt f c p < cpiEnd f c
-  pub coarse : bodyAt f c p + 4 + 8 * coarseCountAt f p ≤ length f
-  pub fine-address : fineStart f c p ≤ cpiEnd f c
-  pub fine : fineStart f c p + 4 * fineCountAt f p ≤ length f
-
-pub body-in : (f : List ℕ) (c p : ℕ) → mapIn f c p ≡ true → BodyIn f c p
-body-in f c p h =
-    let a = both-true h in
-    let b = both-true (a .1) in
-    let d = both-true (b .1) in
-    record {
-      address = ltb-true (bodyAt f c p) (cpiEnd f c) (a .0);
-      coarse = leb-true (bodyAt f c p + 4 + 8 * coarseCountAt f p) (length f) (b .0);
-      fine-address = leb-true (fineStart f c p) (cpiEnd f c) (d .0);
-      fine = leb-true (fineStart f c p + 4 * fineCountAt f p) (length f) (d .1);
-    }
 
 -- ---- how many bytes rows take
 
@@ -57,63 +33,33 @@ own-cells f c p =
 pub own-bytes : (f : List ℕ) (c p : ℕ) → length (tableBytes (entriesOf f c p)) ≡ 20 * fineCountAt f p
 own-bytes f c p = table-bytes 5 (own-cells f c p) ∙ ap (λ (n : ℕ). 20 * n) (own-length f c p)
 
--- ---- one map's row, and one map's entries
+-- ---- one map's row
 
 pub map-stored : (f t : List ℕ) (p at pid type n : ℕ) {t′ : List ℕ} → pid ≡ beAt f p 2 → type ≡ mapTypeAt f p → n ≡ fineCountAt f p
     → t′ ≡ sets t at (rowBytes (pid ∷ type ∷ n ∷ [])) → t′ ≡ sets t at (rowBytes (mapAt f p))
 map-stored f t p at pid type n a b d e = e ∙ rw (a, b, d)
 
-pub own-stored : (f t : List ℕ) (c p at body nc fine n type : ℕ) {t′ : List ℕ} → body ≡ bodyAt f c p → fine ≡ fineStart f c p
-    → type ≡ mapTypeAt f p → nc ≡ coarseCountAt f p → n ≡ fineCountAt f p
-    → t′ ≡ sets t at (tableBytes (entriesFor type (rowsAt (coarseAt f) nextCoarse (body + 4) nc) 0 (rowsAt (fineAt f) nextFine fine n)))
-    → t′ ≡ sets t at (tableBytes (entriesOf f c p))
-own-stored f t c p at body nc fine n type a b d e g h = h ∙ rw (a, b, d, e, g)
-
--- ---- where the section's maps stand
-
--- with maps to fill, the section is there, and its headers are in the file
-pub record There (f : List ℕ) (c count : ℕ) : Type 0 where
-  pub headers : c + 8 + 12 * count ≤ length f
-  pub end-in : cpiEnd f c ≤ length f
-
-some-maps : (f : List ℕ) (c : ℕ) → 0 < mapCount f c → (hasMaps f c ≡ true) × (present f c ≡ true)
-unfolding mapCount hasMaps
-some-maps f c h = go (hasMaps f c) refl h
-  where
-    go : (m : Bool) → hasMaps f c ≡ m → 0 < pick m (beAt f (c + 7) 1) 0 → (hasMaps f c ≡ true) × (present f c ≡ true)
-    go true q h = (q, both-true q .0)
-    go false q h = absurd (omega arith)
-
-pub there : (f : List ℕ) (c count : ℕ) → count ≡ mapCount f c → cpiIn f c ≡ true → 0 < count → There f c count
-unfolding cpiIn
-there f c count e h some =
-    let t = some-maps f c (rw e at some) in
-    let b = both-true {a = cpiLengthIn f c} h in
-    let l : cpiEnd f c ≤ length f = leb-true (cpiEnd f c) (length f) (rw (t .1) at (b .0)) in
-    let m : c + 8 + 12 * mapCount f c ≤ length f = leb-true (c + 8 + 12 * mapCount f c) (length f) (rw (t .0) at (b .1)) in
-    record { headers = rw e m; end-in = l }
-
 -- ---- the loop
 
--- what holds before each turn: the maps that are left are good, and both tables are filled up to here
+-- what holds before each turn: the maps that are left are in the file, and both tables are filled up to here
 pub record Filling (f : List ℕ) (c count : ℕ) (maps₀ entries₀ maps entries : List ℕ) (at k : ℕ) : Type 0 where
-  pub good : every (λ b. b) (rowsAt (mapIn f c) nextMap (c + 8 + 12 * k) (count - k)) ≡ true
+  pub left : Left f c count k
   pub maps-left : Sweep.Filling (rowsAt (mapAt f) nextMap) maps₀ (overwritten (tableBytes (mapsFrom f c)) maps₀) maps (12 * k) (c + 8 + 12 * k) count k
   pub entries-left : Sweep.Filling (gather (entriesOf f c) nextMap) entries₀ (overwritten (tableBytes (entriesFrom f c)) entries₀) entries at (c + 8 + 12 * k) count k
 
 -- before the first turn
 pub filling-first : (f : List ℕ) (c count : ℕ) (maps₀ entries₀ : List ℕ) → Fill f c count maps₀ entries₀
     → Filling f c count maps₀ entries₀ maps₀ entries₀ 0 0
-unfolding mapsIn mapsFrom entriesFrom
+unfolding mapsFrom entriesFrom
 filling-first f c count maps₀ entries₀ fill =
     let p : c + 8 + 12 * 0 ≡ c + 8 = omega arith in
-    let n : count - 0 ≡ mapCount f c = omega (arith, fill .counted) in
+    let counted = fill .section .counted in
     let have = rows-all (mapAt f) nextMap (λ q. refl) (c + 8) (mapCount f c) in
     let own = gather-all (entriesOf f c) nextMap (own-cells f c) (c + 8) (mapCount f c) in
     record {
-      good = rw (p, n) (fill .maps-in);
-      maps-left = rw p (filling-front 3 (rowsAt (mapAt f) nextMap) maps₀ have (fill .maps-room) (ap (rowsAt (mapAt f) nextMap (c + 8)) (fill .counted)));
-      entries-left = rw p (filling-front 5 (gather (entriesOf f c) nextMap) entries₀ own (fill .entries-room) (ap (gather (entriesOf f c) nextMap (c + 8)) (fill .counted)));
+      left = left-first f c count (fill .section);
+      maps-left = rw p (filling-front 3 (rowsAt (mapAt f) nextMap) maps₀ have (fill .maps-room) (ap (rowsAt (mapAt f) nextMap (c + 8)) counted));
+      entries-left = rw p (filling-front 5 (gather (entriesOf f c) nextMap) entries₀ own (fill .entries-room) (ap (gather (entriesOf f c) nextMap (c + 8)) counted));
     }
 
 module _ {f : List ℕ} {c count : ℕ} {maps₀ entries₀ maps entries : List ℕ} {at k : ℕ} (i : Filling f c count maps₀ entries₀ maps entries at k) where
@@ -124,14 +70,6 @@ module _ {f : List ℕ} {c count : ℕ} {maps₀ entries₀ maps entries : List 
   next-at = omega arith
 
   module _ (h : k < count) where
-    -- the map of this turn and the later ones are good
-    goods : (mapIn f c q ≡ true) × (every (λ b. b) (rowsAt (mapIn f c) nextMap (nextMap q) (count - (k + 1))) ≡ true)
-    goods = both-true (rw (one-left count k h) at (i .good))
-
-    -- the map of this turn
-    pub filling-map : mapIn f c q ≡ true
-    filling-map = goods .0
-
     -- there is room for its row
     pub map-room : 12 * k + 12 ≤ length maps
     map-room = row-room (mapAt f) nextMap (i .maps-left) h
@@ -148,7 +86,7 @@ module _ {f : List ℕ} {c count : ℕ} {maps₀ entries₀ maps entries : List 
         let a : 12 * (k + 1) ≡ 12 * k + 12 = omega arith in
         let w : length (tableBytes (entriesOf f c q)) ≡ 20 * n = own-bytes f c q ∙ ap (λ (x : ℕ). 20 * x) (sym e) in
         record {
-          good = rw next-at at (goods .1);
+          left = left-next f c count k h (i .left);
           maps-left = rw a (row-put (mapAt f) nextMap (i .maps-left) h em (omega arith));
           entries-left = group-put (entriesOf f c) nextMap (i .entries-left) h w ee (sym next-at);
         }

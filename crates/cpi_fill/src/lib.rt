@@ -7,10 +7,10 @@ ghost use Rattle.format.specs.EntryPoints.{mapAt, entriesOf, fineCountAt, mapsF
 ghost use Rattle.format.specs.Tables.{rowBytes, tableBytes, overwritten};
 ghost use Rattle.cpi_fill.specs.Fill.{OneMap, Fill};
 use cells::put_row3;
+use ep_entries::body::map_body;
 use ep_entries::entries::put_entries;
 use ep_rows::map_header;
 use numbers::u16_at;
-use numbers::u32_at;
 use numbers::u48_at;
 
 // One map's row: PID, type, entry count.
@@ -29,22 +29,9 @@ fn put_map_entries(file: &[u8], start: usize, q: usize, table: &mut [u8], at: us
     ensures { λ r. ⌜ r ≡ fineCountAt (now (file .entry)) q ⌝ }
     ensures { λ _. ⌜ now (table .exit) ≡ sets (now (table .entry)) at (tableBytes (entriesOf (now (file .entry)) start q)) ⌝ }
 {
-    let header = map_header(u48_at(file, q + 2));
-    let num_coarse = header.num_coarse as usize;
-    let num_fine = header.num_fine as usize;
-    let place = start + 6 + u32_at(file, q + 8) as usize;
-    let fine = place + u32_at(file, place) as usize;
-    put_entries(
-        file,
-        place + 4,
-        num_coarse,
-        fine,
-        num_fine,
-        header.ep_stream_type,
-        table,
-        at,
-    );
-    num_fine
+    let m = map_body(file, start, q);
+    put_entries(file, m, table, at);
+    m.num_fine
 }
 
 // Puts the rows of the `count` maps and of all their entries into both tables.

@@ -1,70 +1,75 @@
--- The loop that joins coarse and fine rows: a turn, and the end.
+-- The entries of a map, met one by one: a turn, and the end of the loop that joins coarse and fine rows.
 use Prim.Native.Nat.{ℕ, zero, suc, _+_, _*_, _-_, _^_, _<_, _≤_, min}
 use mathlib.Core.Path.{_≡_, refl, sym, ap, ap₂, _∙_}
-use mathlib.Core.List.{List, _++_, append-assoc}
+use mathlib.Core.List.{List, [], _∷_, _++_, append-assoc}
+use native.Mathlib.Numerals.{add-one}
 use native.Mathlib.Omega.{arith}
 use lib.Seq.{sets}
 use Rattle.format.specs.Bytes.{beAt, unpacked, rowsAt}
 use Rattle.format.specs.ClipRecord.{Row}
-use Rattle.format.specs.EntryPoints.{fineWidths, fineAt, nextFine, joinTime, joinPacket, coarseFor, entryOf, entriesFor}
+use Rattle.format.specs.EntryPoints.{fineWidths, fineAt, nextFine, joinTime, joinPacket}
 use Rattle.format.specs.Tables.{rowBytes, tableBytes}
 use Rattle.format.proofs.Loops.{one-left, none-left, put-more}
+use Rattle.format.proofs.Rows as Rows
 use Rattle.format.proofs.Sweep.{row-bytes, rows-bytes}
 use Rattle.ep_rows.specs.Rows.{fineOf}
 use Rattle.ep_rows.specs.declared.FineRow.{FineRow}
+use Rattle.ep_entries.specs.Body.{coarseIn, entriesIn, entriesLeft, entryIn}
 use Rattle.ep_entries.specs.Entries.{joined, rowOf, entryBy, runBytes}
 use Rattle.ep_entries.specs.Walks.{IsWalk}
 use Rattle.ep_entries.proofs.Walks.{walk-stop, walk-later}
+use Rattle.ep_entries.specs.declared.body.MapBody.{MapBody}
 use Rattle.ep_entries.specs.declared.entries.Entry.{Entry}
 use Rattle.ep_entries.specs.declared.walk.Walk.{Walk}
 
--- the bytes of the entries that are left, from fine row k on
-abbrev pub leftFrom : List ℕ → ℕ → List Row → ℕ → ℕ → ℕ → List ℕ
-leftFrom f type coarse fine n k = tableBytes (entriesFor type coarse k (rowsAt (fineAt f) nextFine (fine + 4 * k) (n - k)))
+-- ---- the entries of a map from fine row k on
 
--- before the first turn all are left
-pub all-left : (f : List ℕ) (type : ℕ) (coarse : List Row) (fine n : ℕ)
-    → leftFrom f type coarse fine n 0 ≡ tableBytes (entriesFor type coarse 0 (rowsAt (fineAt f) nextFine fine n))
-all-left f type coarse fine n =
-    let p : fine + 4 * 0 ≡ fine = omega arith in
-    let m : n - 0 ≡ n = omega arith in
-    rw (p, m)
+module _ (f : List ℕ) (m : MapBody) where
+  -- before the first turn all are left
+  pub left-all : entriesLeft f m 0 ≡ entriesIn f m
+  left-all = rw (Rows.left-all (fineAt f) 4 (m .fine) (m .«num_fine»))
 
--- the entries that are left, where the walk is right and its next row is not reached before `end`: a run under its coarse row, and those behind it
-module _ (f : List ℕ) (type : ℕ) (coarse : List Row) (fine n : ℕ) (w : Walk) where
-  abbrev row : ℕ → Row
-  row q = entryBy type (w .time) (w .packet) (fineAt f q)
+  -- with a turn to go, row k and those behind it
+  pub left-turn : (k : ℕ) → k < m .«num_fine» → entriesLeft f m k ≡ entryIn f m k ∷ entriesLeft f m (k + 1)
+  left-turn k h = rw (Rows.left-turn (fineAt f) 4 (m .fine) (m .«num_fine») k h, add-one k)
 
-  run-left : (d k : ℕ) → k + d ≤ n → k + d ≤ w .next → IsWalk f coarse k w
-      → leftFrom f type coarse fine n k ≡ tableBytes (rowsAt row nextFine (fine + 4 * k) d) ++ leftFrom f type coarse fine n (k + d)
-  run-left zero k h g i = let e : k + 0 ≡ k = omega arith in rw e
-  run-left (suc d) k h g i =
-      let q = fine + 4 * k in
-      let at = walk-stop f coarse k w i (omega arith) in
-      let here : entryOf type (coarseFor coarse k) (fineAt f q) ≡ row q = rw (at .0, at .1) in
-      let a : k + 1 ≡ suc k = omega arith in
-      let first : leftFrom f type coarse fine n k ≡ rowBytes (entryOf type (coarseFor coarse k) (fineAt f q)) ++ tableBytes (entriesFor type coarse (k + 1) (rowsAt (fineAt f) nextFine (q + 4) (n - (k + 1)))) = rw (one-left n k (omega arith), a) in
-      let b : fine + 4 * (k + 1) ≡ q + 4 = omega arith in
-      let e : k + 1 + d ≡ k + suc d = omega arith in
-      let later = rw (b, e) at (run-left d (k + 1) (omega arith) (omega arith) (walk-later f coarse k (k + 1) w (omega arith) i)) in
-      first ∙ ap₂ (λ (x y : List ℕ). x ++ y) (ap (λ (r : Row). rowBytes r) here) later
-      ∙ sym (append-assoc (rowBytes (row q)) (tableBytes (rowsAt row nextFine (q + 4) d)) (leftFrom f type coarse fine n (k + suc d)))
+  -- at the end none
+  pub left-done : (k : ℕ) → m .«num_fine» ≤ k → entriesLeft f m k ≡ []
+  left-done k h = rw (Rows.left-done (fineAt f) 4 (m .fine) (m .«num_fine») k h)
 
-  -- a turn stores a run; what is left goes behind it
-  pub run-put : (k end : ℕ) (t : List ℕ) (at : ℕ) {t′ whole : List ℕ} → k ≤ end → end ≡ min (w .next) n → IsWalk f coarse k w
-      → t′ ≡ sets t (at + 20 * k) (runBytes f type (w .time) (w .packet) fine k end)
-      → sets t (at + 20 * k) (leftFrom f type coarse fine n k) ≡ whole → sets t′ (at + 20 * end) (leftFrom f type coarse fine n end) ≡ whole
-  run-put k end t at h e i p whole =
-      let back : k + (end - k) ≡ end = omega arith in
-      let split = rw back at (run-left (end - k) k (omega arith) (omega arith) i) in
-      let place : at + 20 * k + 20 * (end - k) ≡ at + 20 * end = omega arith in
-      let size = rows-bytes 5 row nextFine (λ q. refl) (fine + 4 * k) (end - k) in
-      rw place at (put-more t (at + 20 * k) (20 * (end - k)) (runBytes f type (w .time) (w .packet) fine k end) (leftFrom f type coarse fine n end) size p (rw split at whole))
+  module _ (w : Walk) where
+    -- an entry under the walk's coarse row
+    abbrev row : ℕ → Row
+    row q = entryBy (m .kind) (w .time) (w .packet) (fineAt f q)
 
--- with no row left all is stored
-pub entries-done : (f : List ℕ) (type : ℕ) (coarse : List Row) (fine n k : ℕ) (t : List ℕ) (at : ℕ) {whole : List ℕ} → n ≤ k
-    → sets t at (leftFrom f type coarse fine n k) ≡ whole → t ≡ whole
-entries-done f type coarse fine n k t at h i = rw (none-left n k h) at i
+    -- where the walk is right and its next row is not reached before `end`: a run under its coarse row, and those behind it
+    run-left : (d k : ℕ) → k + d ≤ m .«num_fine» → k + d ≤ w .next → IsWalk f (coarseIn f m) k w
+        → tableBytes (entriesLeft f m k) ≡ tableBytes (rowsAt row nextFine (m .fine + 4 * k) d) ++ tableBytes (entriesLeft f m (k + d))
+    run-left zero k h g i = let e : k + 0 ≡ k = omega arith in rw e
+    run-left (suc d) k h g i =
+        let q = m .fine + 4 * k in
+        let at = walk-stop f (coarseIn f m) k w i (omega arith) in
+        let here : entryIn f m k ≡ row q = rw (at .0, at .1) in
+        let b : m .fine + 4 * (k + 1) ≡ q + 4 = omega arith in
+        let e : k + 1 + d ≡ k + suc d = omega arith in
+        let later = rw (b, e) at (run-left d (k + 1) (omega arith) (omega arith) (walk-later f (coarseIn f m) k (k + 1) w (omega arith) i)) in
+        rw b at (ap tableBytes (left-turn k (omega arith))) ∙ ap₂ (λ (x y : List ℕ). x ++ y) (ap (λ (r : Row). rowBytes r) here) later
+        ∙ sym (append-assoc (rowBytes (row q)) (tableBytes (rowsAt row nextFine (q + 4) d)) (tableBytes (entriesLeft f m (k + suc d))))
+
+    -- a turn stores a run; what is left goes behind it
+    pub run-put : (k end : ℕ) (t : List ℕ) (at : ℕ) {t′ whole : List ℕ} → k ≤ end → end ≡ min (w .next) (m .«num_fine») → IsWalk f (coarseIn f m) k w
+        → t′ ≡ sets t (at + 20 * k) (runBytes f (m .kind) (w .time) (w .packet) (m .fine) k end)
+        → sets t (at + 20 * k) (tableBytes (entriesLeft f m k)) ≡ whole → sets t′ (at + 20 * end) (tableBytes (entriesLeft f m end)) ≡ whole
+    run-put k end t at h e i p whole =
+        let back : k + (end - k) ≡ end = omega arith in
+        let split = rw back at (run-left (end - k) k (omega arith) (omega arith) i) in
+        let place : at + 20 * k + 20 * (end - k) ≡ at + 20 * end = omega arith in
+        let size = rows-bytes 5 row nextFine (λ q. refl) (m .fine + 4 * k) (end - k) in
+        rw place at (put-more t (at + 20 * k) (20 * (end - k)) (runBytes f (m .kind) (w .time) (w .packet) (m .fine) k end) (tableBytes (entriesLeft f m end)) size p (rw split at whole))
+
+  -- with no row left all is stored
+  pub entries-done : (k : ℕ) (t : List ℕ) (at : ℕ) {whole : List ℕ} → m .«num_fine» ≤ k → sets t at (tableBytes (entriesLeft f m k)) ≡ whole → t ≡ whole
+  entries-done k t at h i = rw (left-done k h) at i
 
 -- ---- one run
 

@@ -1,3 +1,4 @@
 -- What the functions of this crate promise.
 pub mod Walks
+pub mod Body
 pub mod Entries

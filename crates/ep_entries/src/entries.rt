@@ -3,10 +3,12 @@ ghost use mathlib.Core.Path.{_≡_};
 ghost use Prim.Native.Nat.{_+_, _*_, _≤_, min};
 ghost use lib.ListN.{length};
 ghost use lib.Seq.{sets};
-ghost use Rattle.format.specs.Bytes.{unpacked, rowsAt};
-ghost use Rattle.format.specs.EntryPoints.{fineWidths, coarseAt, fineAt, nextCoarse, nextFine, entriesFor};
+ghost use Rattle.format.specs.Bytes.{unpacked};
+ghost use Rattle.format.specs.EntryPoints.{fineWidths};
 ghost use Rattle.format.specs.Tables.{rowBytes, tableBytes};
+ghost use Rattle.ep_entries.specs.Body.{entriesIn};
 ghost use Rattle.ep_entries.specs.Entries.{joined, entryBy, runBytes, Run, Fill};
+use crate::body::MapBody;
 use crate::walk::Walk;
 use crate::walk::reach;
 use crate::walk::start;
@@ -49,22 +51,13 @@ fn put_entry(word: u32, w: Walk, kind: u32, table: &mut [u8], at: usize)
 }
 
 // The entries of the fine rows from number `from` up to `end`, all under the walk's coarse row; the table's row for fine row 0 is at `at`.
-fn put_run(
-    file: &[u8],
-    fine: usize,
-    from: usize,
-    end: usize,
-    w: Walk,
-    kind: u32,
-    table: &mut [u8],
-    at: usize,
-)
-    requires { ⌜ Run (length (now file)) fine from end (length (now table)) at ⌝ }
-    ensures { λ _. ⌜ now (table .exit) ≡ sets (now (table .entry)) (at + 20 * from) (runBytes (now (file .entry)) kind (w .time) (w .packet) fine from end) ⌝ }
+fn put_run(file: &[u8], m: MapBody, from: usize, end: usize, w: Walk, table: &mut [u8], at: usize)
+    requires { ⌜ Run (length (now file)) (m .fine) from end (length (now table)) at ⌝ }
+    ensures { λ _. ⌜ now (table .exit) ≡ sets (now (table .entry)) (at + 20 * from) (runBytes (now (file .entry)) (m .kind) (w .time) (w .packet) (m .fine) from end) ⌝ }
 {
     let mut k = from;
     while k < end {
-        put_entry(u32_at(file, fine + 4 * k), w, kind, table, at + 20 * k);
+        put_entry(u32_at(file, m.fine + 4 * k), w, m.kind, table, at + 20 * k);
         k += 1;
     }
 }
@@ -80,26 +73,17 @@ fn run_end(next: u32, num_fine: usize) -> usize
     }
 }
 
-// The entries of num_fine fine rows at `fine`, under num_coarse coarse rows at `coarse`, into the table from `at`.
-pub fn put_entries(
-    file: &[u8],
-    coarse: usize,
-    num_coarse: usize,
-    fine: usize,
-    num_fine: usize,
-    kind: u32,
-    table: &mut [u8],
-    at: usize,
-)
-    requires { ⌜ Fill (now file) coarse «num_coarse» fine «num_fine» (length (now table)) at ⌝ }
-    ensures { λ _. ⌜ now (table .exit) ≡ sets (now (table .entry)) at (tableBytes (entriesFor kind (rowsAt (coarseAt (now (file .entry))) nextCoarse coarse «num_coarse») 0 (rowsAt (fineAt (now (file .entry))) nextFine fine «num_fine»))) ⌝ }
+// The entries of a map's fine rows, under its coarse rows, into the table from `at`.
+pub fn put_entries(file: &[u8], m: MapBody, table: &mut [u8], at: usize)
+    requires { ⌜ Fill (now file) m (length (now table)) at ⌝ }
+    ensures { λ _. ⌜ now (table .exit) ≡ sets (now (table .entry)) at (tableBytes (entriesIn (now (file .entry)) m)) ⌝ }
 {
-    let mut w = start(file, coarse, num_coarse);
+    let mut w = start(file, m.coarse, m.num_coarse);
     let mut k: usize = 0;
-    while k < num_fine {
+    while k < m.num_fine {
         w = reach(file, k as u32, w);
-        let end = run_end(w.next, num_fine);
-        put_run(file, fine, k, end, w, kind, table, at);
+        let end = run_end(w.next, m.num_fine);
+        put_run(file, m, k, end, w, table, at);
         k = end;
     }
 }

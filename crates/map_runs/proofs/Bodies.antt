@@ -1,5 +1,5 @@
 -- The loops that store the coarse rows and the fine rows of a map from the file.
-use Prim.Native.Nat.{ℕ, _+_, _*_, _-_, _<_, _≤_}
+use Prim.Native.Nat.{ℕ, _+_, _*_, _<_, _≤_}
 use mathlib.Core.Path.{_≡_, refl, ap, _∙_}
 use mathlib.Core.List.{List, [], _∷_}
 use native.Mathlib.Omega.{arith}
@@ -11,17 +11,19 @@ use Rattle.format.specs.EntryPoints.{coarseWidths, fineWidths}
 use Rattle.format.specs.Rewriting.{coarseRow, coarseRows, runs, coarseBytes, fineRow, fineBytes}
 use Rattle.format.proofs.Loops.{put-more}
 use Rattle.format.proofs.Numbers.{bytes-length}
+use Rattle.ep_entries.specs.Body.{coarseIn, entriesIn, entriesLeft, entryIn}
 use Rattle.ep_entries.specs.Entries.{rowOf}
 use Rattle.ep_entries.specs.Walks.{IsWalk}
+use Rattle.ep_entries.specs.declared.body.MapBody.{MapBody}
 use Rattle.ep_entries.specs.declared.walk.Walk.{Walk}
+use Rattle.ep_entries.proofs.Joined.{left-all, left-turn, left-done}
 use Rattle.runs.specs.Runs.{keyed, endFrom, coarseFrom}
 use Rattle.runs.proofs.Runs.{coarse-all}
 use Rattle.encode_map.proofs.Bodies.{Narrow}
-use Rattle.map_runs.specs.Entries.{coarseIn, entriesIn, entriesLeft, entryIn, IsMet, IsEnd}
-use Rattle.map_runs.specs.declared.walked.MapBody.{MapBody}
+use Rattle.map_runs.specs.Entries.{IsMet, IsEnd}
 use Rattle.map_runs.specs.declared.walked.Met.{Met}
 use Rattle.map_runs.specs.declared.walked.RunEnd.{RunEnd}
-use Rattle.map_runs.proofs.Entries.{left-all, left-turn, left-done, next-run}
+use Rattle.map_runs.proofs.Entries.{next-run}
 use Rattle.map_runs.proofs.Turns.{later}
 
 -- angle and I-end of a fine row that was read are as narrow as one that is stored wants them

@@ -1,8 +1,7 @@
--- The entries of a map from row k on: a turn, the end, and the run that begins there.
+-- The entries of a map from row k on: how many, and the run that begins there.
 use Prim.Native.Nat.{ℕ, zero, suc, _+_, _*_, _-_, _<_, _≤_}
 use mathlib.Core.Path.{_≡_, ap, _∙_}
-use mathlib.Core.List.{List, [], _∷_}
-use native.Mathlib.Numerals.{add-one}
+use mathlib.Core.List.{List, _∷_}
 use native.Mathlib.Omega.{arith}
 use lib.ListN.{length, drop}
 use Rattle.format.specs.Bytes.{rowsAt}
@@ -11,30 +10,18 @@ use Rattle.format.specs.EntryPoints.{fineAt, nextFine}
 use Rattle.format.specs.Rewriting.{coarseRow, coarseAfter, runs, bodyBytes}
 use Rattle.format.proofs.Cpi.{body-length}
 use Rattle.format.proofs.Read.{entries-length}
-use Rattle.format.proofs.Rows as Rows
 use Rattle.format.proofs.Rows.{rows-length}
 use Rattle.runs.specs.Runs.{runEnd, endFrom, coarseFrom}
 use Rattle.format.proofs.Read.{runs-few}
 use Rattle.runs.proofs.Runs.{run-ends, after-run}
-use Rattle.map_runs.specs.Entries.{coarseIn, entriesIn, entriesLeft, entryIn}
-use Rattle.map_runs.specs.declared.walked.MapBody.{MapBody}
+use Rattle.ep_entries.specs.Body.{coarseIn, entriesIn, entriesLeft, entryIn}
+use Rattle.ep_entries.specs.declared.body.MapBody.{MapBody}
+use Rattle.ep_entries.proofs.Joined.{left-turn}
 
 module _ (f : List ℕ) (m : MapBody) where
   -- how many fine rows there are
   abbrev n : ℕ
   n = m .«num_fine»
-
-  -- before the first turn all are left
-  pub left-all : entriesLeft f m 0 ≡ entriesIn f m
-  left-all = rw (Rows.left-all (fineAt f) 4 (m .fine) n)
-
-  -- with a turn to go, row k and those behind it
-  pub left-turn : (k : ℕ) → k < n → entriesLeft f m k ≡ entryIn f m k ∷ entriesLeft f m (k + 1)
-  left-turn k h = rw (Rows.left-turn (fineAt f) 4 (m .fine) n k h, add-one k)
-
-  -- at the end none
-  pub left-done : (k : ℕ) → n ≤ k → entriesLeft f m k ≡ []
-  left-done k h = rw (Rows.left-done (fineAt f) 4 (m .fine) n k h)
 
   -- how many they are
   pub left-length : (k : ℕ) → length (entriesLeft f m k) ≡ n - k
@@ -61,7 +48,7 @@ module _ (f : List ℕ) (m : MapBody) where
   drop-left zero k h = let e : k + 0 ≡ k = omega arith in rw e
   drop-left (suc d) k h =
       let e : k + 1 + d ≡ k + suc d = omega arith in
-      rw (left-turn k (omega arith), ← e) (drop-left d (k + 1) (omega arith))
+      rw (left-turn f m k (omega arith), ← e) (drop-left d (k + 1) (omega arith))
 
   -- those from row r on
   pub left-drop : (k r : ℕ) → k ≤ r → r ≤ n → drop (r - k) (entriesLeft f m k) ≡ entriesLeft f m r
@@ -78,7 +65,7 @@ module _ (f : List ℕ) (m : MapBody) where
   next-run k r h e =
       let x = entryIn f m k in
       let xs = entriesLeft f m (k + 1) in
-      let is : r ≡ runEnd x (suc k) xs = rw (left-turn k h) at e in
+      let is : r ≡ runEnd x (suc k) xs = rw (left-turn f m k h) at e in
       let ends = run-ends x (suc k) xs in
       let size = left-length (k + 1) in
       let past : k < r = omega (arith, is, ends .past) in
@@ -86,4 +73,4 @@ module _ (f : List ℕ) (m : MapBody) where
       let left : r - suc k ≡ r - (k + 1) = omega arith in
       let behind : coarseAfter x (suc k) xs ≡ coarseFrom r (entriesLeft f m r) =
       after-run x (suc k) xs ∙ rw (← is, left, left-drop (k + 1) r (omega arith) within) in
-      record { past = past; within = within; rows = rw (left-turn k h) (ap (λ (l : List Row). coarseRow k x ∷ l) behind) }
+      record { past = past; within = within; rows = rw (left-turn f m k h) (ap (λ (l : List Row). coarseRow k x ∷ l) behind) }

@@ -1,5 +1,5 @@
 -- Entries met one by one: what a turn shows, up to the end of a run and from run to run.
-use Prim.Native.Nat.{ℕ, _+_, _*_, _-_, _<_, _≤_}
+use Prim.Native.Nat.{ℕ, _+_, _*_, _<_, _≤_}
 use mathlib.Core.Path.{_≡_, sym, ap₂, _∙_}
 use mathlib.Core.List.{List}
 use mathlib.Core.Bool.{Bool, true, false, not}
@@ -10,18 +10,20 @@ use lib.ListN.{length}
 use Rattle.format.specs.Bytes.{beAt, unpacked}
 use Rattle.format.specs.EntryPoints.{fineWidths}
 use Rattle.format.specs.Rewriting.{sameRun, runs}
+use Rattle.ep_entries.specs.Body.{coarseIn, entriesIn, entriesLeft, entryIn}
 use Rattle.ep_entries.specs.Entries.{joined}
 use Rattle.ep_entries.specs.Walks.{IsWalk, Reached}
+use Rattle.ep_entries.specs.declared.body.MapBody.{MapBody}
 use Rattle.ep_entries.specs.declared.entries.Entry.{Entry}
 use Rattle.ep_entries.specs.declared.walk.Walk.{Walk}
 use Rattle.ep_entries.proofs.Walks.{walk-stop, walk-later}
+use Rattle.ep_entries.proofs.Joined.{left-all, left-turn, left-done}
 use Rattle.runs.specs.Runs.{keyed, runEnd, endFrom, coarseFrom}
 use Rattle.runs.proofs.Runs.{coarse-all}
-use Rattle.map_runs.specs.Entries.{coarseIn, entriesIn, entriesLeft, entryIn, AtRow, IsMet, IsEnd}
-use Rattle.map_runs.specs.declared.walked.MapBody.{MapBody}
+use Rattle.map_runs.specs.Entries.{AtRow, IsMet, IsEnd}
 use Rattle.map_runs.specs.declared.walked.Met.{Met}
 use Rattle.map_runs.specs.declared.walked.RunEnd.{RunEnd}
-use Rattle.map_runs.proofs.Entries.{left-all, left-turn, left-done, next-run}
+use Rattle.map_runs.proofs.Entries.{next-run}
 
 module _ (f : List ℕ) (m : MapBody) where
   -- the walk reached row k, and its word was joined there

@@ -1,43 +1,19 @@
--- The entries of one map in a file, and what is wanted and known of them where they are met one by one.
-use Prim.Native.Nat.{ℕ, _+_, _*_, _-_, _≤_, _<_}
+-- What is wanted and known of a map's entries in a file, where they are met one by one.
+use Prim.Native.Nat.{ℕ, _+_, _*_, _≤_, _<_}
 use mathlib.Core.Path.{_≡_}
 use mathlib.Core.List.{List}
 use lib.ListN.{length}
-use Rattle.format.specs.Bytes.{rowsAt}
-use Rattle.format.specs.ClipRecord.{Row}
-use Rattle.format.specs.EntryPoints.{coarseAt, fineAt, nextCoarse, nextFine, coarseFor, entryOf, entriesFor}
 use Rattle.format.specs.Rewriting.{runs, bodyBytes}
+use Rattle.ep_entries.specs.Body.{coarseIn, entriesIn, entriesLeft, entryIn, RowsIn}
 use Rattle.ep_entries.specs.Entries.{rowOf}
 use Rattle.ep_entries.specs.Walks.{IsWalk}
+use Rattle.ep_entries.specs.declared.body.MapBody.{MapBody}
 use Rattle.ep_entries.specs.declared.walk.Walk.{Walk}
 use Rattle.runs.specs.Runs.{endFrom}
-use Rattle.map_runs.specs.declared.walked.MapBody.{MapBody}
 use Rattle.map_runs.specs.declared.walked.Met.{Met}
 use Rattle.map_runs.specs.declared.walked.RunEnd.{RunEnd}
 
--- a map's coarse rows
-abbrev pub coarseIn : List ℕ → MapBody → List Row
-coarseIn f m = rowsAt (coarseAt f) nextCoarse (m .coarse) (m .«num_coarse»)
-
--- its entries
-abbrev pub entriesIn : List ℕ → MapBody → List Row
-entriesIn f m = entriesFor (m .kind) (coarseIn f m) 0 (rowsAt (fineAt f) nextFine (m .fine) (m .«num_fine»))
-
--- those from row k on
-abbrev pub entriesLeft : List ℕ → MapBody → ℕ → List Row
-entriesLeft f m k = entriesFor (m .kind) (coarseIn f m) k (rowsAt (fineAt f) nextFine (m .fine + 4 * k) (m .«num_fine» - k))
-
--- the one of row k
-abbrev pub entryIn : List ℕ → MapBody → ℕ → Row
-entryIn f m k = entryOf (m .kind) (coarseFor (coarseIn f m) k) (fineAt f (m .fine + 4 * k))
-
--- coarse rows and fine rows are in the file, and the fine rows are not more than a header can say
-pub record RowsIn (f : List ℕ) (m : MapBody) : Type 0 where
-  pub coarse-in : m .coarse + 8 * m .«num_coarse» ≤ length f
-  pub fine-in : m .fine + 4 * m .«num_fine» ≤ length f
-  pub few : m .«num_fine» ≤ 262143
-
--- row k is one of them, and the walk is right for it
+-- row k is one of a map that is in the file, and the walk is right for it
 pub record AtRow (f : List ℕ) (m : MapBody) (k : ℕ) (w : Walk) : Type 0 where
   pub rows : RowsIn f m
   pub there : k < m .«num_fine»

@@ -2,7 +2,9 @@
 ghost use mathlib.Core.Path.{_≡_};
 ghost use Prim.Native.Nat.{_<_};
 ghost use Rattle.format.specs.Rewriting.{runs};
-ghost use Rattle.map_runs.specs.Entries.{entriesIn, RowsIn, AtRow, IsMet, IsEnd};
+ghost use Rattle.ep_entries.specs.Body.{entriesIn, RowsIn};
+ghost use Rattle.map_runs.specs.Entries.{AtRow, IsMet, IsEnd};
+use ep_entries::body::MapBody;
 use ep_entries::entries::Entry;
 use ep_entries::entries::join;
 use ep_entries::walk::Walk;
@@ -10,15 +12,6 @@ use ep_entries::walk::reach;
 use ep_entries::walk::start;
 use numbers::u32_at;
 use runs::same_run;
-
-// Where the rows of a map stand in the file: the map's type, its coarse rows and how many, its fine rows and how many.
-pub struct MapBody {
-    pub kind: u32,
-    pub coarse: usize,
-    pub num_coarse: usize,
-    pub fine: usize,
-    pub num_fine: usize,
-}
 
 // A fine row's entry, and the walk that reached its coarse row.
 pub struct Met {

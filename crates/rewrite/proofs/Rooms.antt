@@ -10,22 +10,16 @@ use Rattle.format.specs.EntryPoints.{mapsFrom, entriesFrom}
 use Rattle.format.specs.Reading.{clipOf}
 use Rattle.format.specs.Rewriting.{sequencesBytes, programsBytes, cpiBytes, cpiBytesBy}
 use Rattle.format.specs.Refusals.{refusalOf, runsFit}
-use Rattle.clip_sections.proofs.Laws.{accepted-bounds}
-use Rattle.clip_information.proofs.FillLaws.{sound, maps-counted}
+use Rattle.clip_information.proofs.FillLaws.{sound, cpi-section}
 use Rattle.rewrite_sections.specs.Sections.{newSequences, newPrograms, SequencesRoom, ProgramsRoom}
 use Rattle.rewrite_sections.proofs.Groups.{sequences-of, programs-of}
 use Rattle.rewrite_sections.proofs.Lengths.{sequences-long}
-use Rattle.rewrite_cpi.specs.Cpi.{Section, CpiRoom}
+use Rattle.rewrite_cpi.specs.Cpi.{CpiRoom}
 use Rattle.encode_measure.proofs.Parts.{place-programs, place-cpi, place-marks, InOrder, placed-order}
 use Rattle.rewrite.specs.Rewrite.{Ready}
 use Rattle.rewrite.proofs.Refusals.{passed, marks-short}
 
 module _ (f : List ℕ) where
-  -- the CPI section of an accepted file
-  pub cpi-section : {start count : ℕ} → refusalOf f ≡ 0 → start ≡ cpiStart f → count ≡ length (clipOf f .maps) → Section f start count
-  cpi-section e here is =
-      rw here (record { small = accepted-bounds f e .0; counted = maps-counted f is; head-in = sound f e .cpi-in; maps-in = sound f e .maps-in })
-
   -- the lengths of the new sections
   pub sequences-size : IsBytes f → refusalOf f ≡ 0 → {atcs stcs : ℕ} → atcs ≡ length (clipOf f .atcs) → stcs ≡ length (clipOf f .stcs)
       → 6 + 6 * atcs + 14 * stcs ≡ length (sequencesBytes (clipOf f))
@@ -72,7 +66,7 @@ module _ (f : List ℕ) where
     cpi-room bytes here same =
         let long : marks - cpi ≡ length (cpiBytes (clipOf f)) = omega (arith, r .placed .cpi-at, r .placed .marks-at, place-marks (clipOf f)) in
         rw here (record {
-          section = cpi-section accepted refl (r .maps-are);
+          section = cpi-section f accepted refl (r .maps-are);
           runs-few = passed f (r .rewritable) .1;
           long = long;
           room = omega (arith, same, in-order);

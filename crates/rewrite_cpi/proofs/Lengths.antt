@@ -7,20 +7,20 @@ use native.Mathlib.Omega.{arith}
 use borrow.Author.Tests.{le-leb, lt-leb}
 use lib.ListN.{length, length-append}
 use Rattle.format.specs.ClipRecord.{Row}
-use Rattle.format.specs.EntryPoints.{fineCountAt, entriesOf, mapsFrom, entriesFrom}
+use Rattle.format.specs.EntryPoints.{entriesOf, mapsFrom, entriesFrom}
 use Rattle.format.specs.Refusals.{everyMap}
 use Rattle.format.specs.Rewriting.{runs, bodyBytes, bodies, cpiBytesBy}
 use Rattle.format.proofs.Cpi.{body-length}
 use Rattle.format.proofs.Numbers.{bytes-length}
 use Rattle.format.proofs.Read.{own-length}
-use Rattle.cpi.proofs.Sections.{counts-small}
+use Rattle.ep_rows.proofs.Headers.{counts-small}
+use Rattle.ep_entries.specs.Body.{Section, bodyOf, entriesIn}
+use Rattle.ep_entries.specs.declared.body.MapBody.{MapBody}
+use Rattle.ep_entries.proofs.Bodies.{own-count, Left, left-first, left-next}
 use Rattle.encode_cpi.specs.Cpi.{fewRuns, cpiLengthOf}
 use Rattle.encode_cpi.specs.declared.Length.{Length}
 use Rattle.encode_cpi.proofs.Lengths.{cpi-size}
-use Rattle.map_runs.specs.Entries.{entriesIn}
-use Rattle.map_runs.specs.declared.walked.MapBody.{MapBody}
-use Rattle.rewrite_cpi.specs.Cpi.{Section, bodyOf}
-use Rattle.rewrite_cpi.proofs.Maps.{headAt, mapsLeft, entriesLeft, maps-all, entries-all, maps-count, maps-done, Left, left-first, left-next, every-turn, bodies-turn}
+use Rattle.rewrite_cpi.proofs.Maps.{headAt, mapsLeft, entriesLeft, maps-all, entries-all, maps-count, maps-done, every-turn, bodies-turn}
 
 -- ---- one map, of which the runs were counted
 
@@ -29,13 +29,9 @@ module _ (f : List ℕ) (c p : ℕ) {r : ℕ} (m : MapBody) (e : m ≡ bodyOf f 
   pub own-runs : r ≡ runs (entriesOf f c p)
   own-runs = is ∙ ap (λ (x : MapBody). runs (entriesIn f x)) e
 
-  -- how many fine rows it has
-  pub own-count : m .«num_fine» ≡ fineCountAt f p
-  own-count = ap (λ (x : MapBody). x .«num_fine») e
-
   -- how long its body is
   pub own-size : length (bodyBytes (entriesOf f c p)) ≡ 4 + 8 * r + 4 * m .«num_fine»
-  own-size = omega (arith, body-length (entriesOf f c p), own-length f c p, own-runs, own-count)
+  own-size = omega (arith, body-length (entriesOf f c p), own-length f c p, own-runs, own-count f c p m e)
 
 -- without maps the section has four bytes
 pub none-size : (ms es : List Row) → length ms ≡ 0 → length (cpiBytesBy ms es) ≡ 4
@@ -75,7 +71,7 @@ module _ (f : List ℕ) (c count : ℕ) where
         let sizes = ap length (bodies-turn f c count k h) ∙ length-append (bodyBytes own) later in
         record {
           left = left-next f c count k h (i .left);
-          small = omega (arith, i .small, few, own-count f c (headAt f c count k) m e is, counts-small f (headAt f c count k) .1);
+          small = omega (arith, i .small, few, own-count f c (headAt f c count k) m e, counts-small f (headAt f c count k) .1);
           fits = rw (every-turn f c count k h fewRuns, passes) at (i .fits);
           rest = omega (arith, i .rest, sizes, own-size f c (headAt f c count k) m e is);
         }

@@ -2,44 +2,18 @@
 use Prim.Native.Nat.{ℕ, _+_, _*_, _-_, _<_, _≤_}
 use mathlib.Core.Path.{_≡_, sym, ap₂, _∙_}
 use mathlib.Core.List.{List, [], _∷_, _++_}
-use mathlib.Core.Bool.{Bool, true}
+use mathlib.Core.Bool.{Bool}
 use native.Mathlib.Omega.{arith}
 use lib.ListN.{length, take, drop}
 use lib.Seq.{take-at, drop-at}
-use Rattle.format.specs.Bytes.{both, every, beAt, unpacked, rowsAt, gather}
+use Rattle.format.specs.Bytes.{both, rowsAt, gather}
 use Rattle.format.specs.ClipRecord.{Row}
-use Rattle.format.specs.EntryPoints.{headerWidths, fineCountAt, mapAt, nextMap, bodyAt, entriesOf, mapCount, mapsFrom, entriesFrom, mapIn, mapsIn}
+use Rattle.format.specs.EntryPoints.{fineCountAt, mapAt, nextMap, entriesOf, mapCount, mapsFrom, entriesFrom}
 use Rattle.format.specs.Refusals.{everyMap}
 use Rattle.format.specs.Rewriting.{bodyBytes, bodies, headerBytes, headers}
 use Rattle.format.proofs.Loops.{one-left}
 use Rattle.format.proofs.Read.{own-length}
 use Rattle.format.proofs.Rows.{rows-length, left-turn, left-done}
-use Rattle.format.proofs.Tests.{both-true}
-use Rattle.ep_rows.specs.Rows.{headerOf}
-use Rattle.ep_rows.specs.declared.MapHeader.{MapHeader}
-use Rattle.cpi_fill.proofs.Filling.{body-in, there}
-use Rattle.cpi.proofs.Sections.{header-read, counts-small, fine-is}
-use Rattle.map_runs.specs.Entries.{RowsIn}
-use Rattle.map_runs.specs.declared.walked.MapBody.{MapBody}
-use Rattle.rewrite_cpi.specs.Cpi.{Section, MapAt, bodyOf}
-
--- ---- one map
-
--- its header was read, and its fine address
-pub body-is : (f : List ℕ) (c p word place r : ℕ) (h : MapHeader) → word ≡ beAt f (p + 2) 6 → h ≡ headerOf (unpacked headerWidths word)
-    → place ≡ bodyAt f c p → r ≡ beAt f place 4
-    → record { kind = h .«ep_stream_type»; coarse = place + 4; «num_coarse» = h .«num_coarse»; fine = place + r; «num_fine» = h .«num_fine» } ≡ bodyOf f c p
-body-is f c p word place r h w e b d =
-    let n = header-read f p word h w e in
-    rw (n .0, n .1, n .2, fine-is f c p place r b d, b)
-
--- a map that is in the file has its rows there
-pub rows-in : (f : List ℕ) (c p : ℕ) (m : MapBody) → m ≡ bodyOf f c p → MapAt f c p → RowsIn f m
-rows-in f c p m e i =
-    let b = body-in f c p (i .body) in
-    rw e (record { coarse-in = b .coarse; fine-in = b .fine; few = counts-small f p .1 })
-
--- ---- the maps that are left
 
 module _ (f : List ℕ) (c count : ℕ) where
   -- where map k's header stands
@@ -53,10 +27,6 @@ module _ (f : List ℕ) (c count : ℕ) where
   -- their entries
   abbrev pub entriesLeft : ℕ → List Row
   entriesLeft k = gather (entriesOf f c) nextMap (headAt k) (count - k)
-
-  -- where there are maps, their headers are in the file
-  pub headers-in : Section f c count → (count ≡ 0 → ⊥) → headAt count ≤ length f
-  headers-in s some = there f c count (s .counted) (s .head-in) (omega arith) .headers
 
   -- before the first turn
   module _ (counted : count ≡ mapCount f c) where
@@ -91,19 +61,6 @@ module _ (f : List ℕ) (c count : ℕ) where
   pub left-count : (k : ℕ) → length (mapsLeft k) ≡ count - k
   left-count k = rows-length (mapAt f) nextMap (headAt k) (count - k)
 
-  -- they are in the file
-  pub record Left (k : ℕ) : Type 0 where
-    pub within : k ≤ count
-    pub good : every (λ b. b) (rowsAt (mapIn f c) nextMap (headAt k) (count - k)) ≡ true
-
-  -- all maps of a section that is in the file are
-  pub left-first : Section f c count → Left 0
-  unfolding mapsIn
-  left-first s =
-      let p : headAt 0 ≡ c + 8 = omega arith in
-      let n : count - 0 ≡ mapCount f c = omega (arith, s .counted) in
-      record { within = omega arith; good = rw (p, n) (s .maps-in) }
-
   module _ (k : ℕ) (h : k < count) where
     -- this map and those behind it
     maps-turn : mapsLeft k ≡ mapAt f (headAt k) ∷ mapsLeft (k + 1)
@@ -114,20 +71,6 @@ module _ (f : List ℕ) (c count : ℕ) where
     entries-turn =
         let next : headAt (k + 1) ≡ headAt k + 12 = omega arith in
         rw (one-left count k h, next)
-
-    -- this map is in the file, and those behind it are
-    goods : Left k → (mapIn f c (headAt k) ≡ true) × (every (λ b. b) (rowsAt (mapIn f c) nextMap (headAt (k + 1)) (count - (k + 1))) ≡ true)
-    goods i = both-true (rw (left-turn (mapIn f c) 12 (c + 8) count k h) at (i .good))
-
-    -- so its header and body are
-    pub left-map : Section f c count → Left k → MapAt f c (headAt k)
-    left-map s i =
-        let t = there f c count (s .counted) (s .head-in) (omega arith) in
-        record { small = s .small; end-in = t .end-in; header = omega (arith, t .headers); body = goods i .0 }
-
-    -- those behind it are left
-    pub left-next : Left k → Left (k + 1)
-    left-next i = record { within = omega arith; good = goods i .1 }
 
     -- its own entries
     abbrev own : List Row

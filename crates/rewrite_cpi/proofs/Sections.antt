@@ -17,18 +17,19 @@ use Rattle.format.proofs.Lists.{All}
 use Rattle.format.proofs.Read.{own-length}
 use Rattle.format.proofs.Rows.{rows-all}
 use Rattle.format.proofs.Tests.{both-true}
-use Rattle.cpi_fill.proofs.Filling.{there}
-use Rattle.cpi.proofs.Sections.{counts-small}
 use Rattle.format.proofs.Stores.{part-then}
+use Rattle.ep_rows.proofs.Headers.{counts-small}
+use Rattle.ep_entries.specs.Body.{MapAt, bodyOf, entriesIn}
+use Rattle.ep_entries.specs.declared.body.MapBody.{MapBody}
+use Rattle.ep_entries.proofs.Bodies.{rows-in, own-count, there, Left, left-first, left-map, left-next}
 use Rattle.encode_cpi.specs.Cpi.{fewRuns}
 use Rattle.encode_cpi.proofs.Maps.{FewEntries, bodies-most}
 use Rattle.encode_cpi.proofs.Lengths.{topBytes, top-length, cpi-parts, cpi-size}
 use Rattle.encode_cpi.proofs.Section.{pair-more}
-use Rattle.map_runs.specs.Entries.{entriesIn, BodyRoom}
-use Rattle.map_runs.specs.declared.walked.MapBody.{MapBody}
-use Rattle.rewrite_cpi.specs.Cpi.{MapAt, MapsRoom, MapRoom, CpiRoom, bodyOf}
-use Rattle.rewrite_cpi.proofs.Maps.{rows-in, headAt, mapsLeft, entriesLeft, maps-all, entries-all, maps-count, maps-done, left-count, Left, left-first, left-map, left-next, every-turn, bodies-turn, headers-turn}
-use Rattle.rewrite_cpi.proofs.Lengths.{own-runs, own-count, own-size, none-size}
+use Rattle.map_runs.specs.Entries.{BodyRoom}
+use Rattle.rewrite_cpi.specs.Cpi.{MapsRoom, MapRoom, CpiRoom}
+use Rattle.rewrite_cpi.proofs.Maps.{headAt, mapsLeft, entriesLeft, maps-all, entries-all, maps-count, maps-done, left-count, every-turn, bodies-turn, headers-turn}
+use Rattle.rewrite_cpi.proofs.Lengths.{own-runs, own-size, none-size}
 
 -- ---- one map
 
@@ -43,7 +44,7 @@ module _ (f : List ℕ) (c p : ℕ) {r : ℕ} (m : MapBody) (e : m ≡ bodyOf f 
 
   -- so does the number of its fine rows
   pub count-fits : m .«num_fine» < 2 ^ 18
-  count-fits = omega (arith, own-count f c p m e is, counts-small f p .1)
+  count-fits = omega (arith, own-count f c p m e, counts-small f p .1)
 
   -- the place behind the body
   pub place-is : (body : ℕ) → body + 4 + 8 * r + 4 * m .«num_fine» ≡ body + length (bodyBytes (entriesOf f c p))
@@ -56,7 +57,7 @@ module _ (f : List ℕ) (c p : ℕ) {r : ℕ} (m : MapBody) (e : m ≡ bodyOf f 
   map-put o body head address pid {o₁} w b h =
       let own = entriesOf f c p in
       let kind : m .kind ≡ mapTypeAt f p = ap (λ (x : MapBody). x .kind) e in
-      let count : m .«num_fine» ≡ length own = own-count f c p m e is ∙ sym (own-length f c p) in
+      let count : m .«num_fine» ≡ length own = own-count f c p m e ∙ sym (own-length f c p) in
       let fields : 0 ∷ m .kind ∷ r ∷ m .«num_fine» ∷ [] ≡ 0 ∷ mapTypeAt f p ∷ runs own ∷ length own ∷ [] =
       ap (λ (x : ℕ). 0 ∷ x ∷ r ∷ m .«num_fine» ∷ []) kind ∙ ap₂ (λ (x y : ℕ). 0 ∷ mapTypeAt f p ∷ x ∷ y ∷ []) (own-runs f c p m e is) count in
       let head-is : fieldBytes (2 ∷ 6 ∷ 4 ∷ []) (pid ∷ packed headerWidths (0 ∷ m .kind ∷ r ∷ m .«num_fine» ∷ []) ∷ address ∷ []) ≡ headerBytes (mapAt f p) own address =
@@ -211,7 +212,7 @@ module _ (f : List ℕ) (c count len : ℕ) (o₀ : List ℕ) (at : ℕ) (room :
   module _ (some : count ≡ 0 → ⊥) where
     -- the byte is there
     pub byte-in : c + 8 ≤ length f
-    byte-in = omega (arith, there f c count (room .section .counted) (room .section .head-in) (omega arith) .headers)
+    byte-in = omega (arith, there f c count (room .section) (omega arith) .headers)
 
     -- it says how many
     pub byte-is : {n : ℕ} → n ≡ beAt f (c + 7) 1 → n ≡ count

@@ -4,35 +4,11 @@ use mathlib.Core.Path.{_≡_}
 use mathlib.Core.List.{List}
 use mathlib.Core.Bool.{true}
 use lib.ListN.{length}
-use Rattle.format.specs.EntryPoints.{mapTypeAt, coarseCountAt, fineCountAt, bodyAt, fineStart, entriesOf, cpiEnd, mapCount, cpiIn, mapIn, mapsIn, mapsFrom, entriesFrom}
+use Rattle.format.specs.EntryPoints.{entriesOf, mapsFrom, entriesFrom}
 use Rattle.format.specs.Refusals.{everyMap}
 use Rattle.format.specs.Rewriting.{runs, bodyBytes, bodies, cpiBytesBy}
 use Rattle.encode_cpi.specs.Cpi.{fewRuns}
-use Rattle.map_runs.specs.declared.walked.MapBody.{MapBody}
-
--- the section that starts at c is in the file, with all its maps
-pub record Section (f : List ℕ) (c count : ℕ) : Type 0 where
-  pub small : length f ≤ 536870912
-  pub counted : count ≡ mapCount f c
-  pub head-in : cpiIn f c ≡ true
-  pub maps-in : mapsIn f c ≡ true
-
--- so is the map whose header is at p
-pub record MapAt (f : List ℕ) (c p : ℕ) : Type 0 where
-  pub small : length f ≤ 536870912
-  pub end-in : cpiEnd f c ≤ length f
-  pub header : p + 12 ≤ length f
-  pub body : mapIn f c p ≡ true
-
--- where its rows stand
-abbrev pub bodyOf : List ℕ → ℕ → ℕ → MapBody
-bodyOf f c p = record {
-  kind = mapTypeAt f p;
-  coarse = bodyAt f c p + 4;
-  «num_coarse» = coarseCountAt f p;
-  fine = fineStart f c p;
-  «num_fine» = fineCountAt f p;
-}
+use Rattle.ep_entries.specs.Body.{Section, MapAt}
 
 -- map k of the section has not too many runs; its header stands in row k of the new section at `at`, its body at `body`, counted from six bytes on
 pub record MapRoom (f : List ℕ) (c k size at body : ℕ) : Type 0 where

@@ -7,42 +7,23 @@ ghost use lib.Seq.{sets};
 ghost use Rattle.format.specs.EntryPoints.{mapAt, entriesOf, mapsFrom, entriesFrom};
 ghost use Rattle.format.specs.Rewriting.{bodyBytes, bodies, headerBytes, headers, cpiBytesBy};
 ghost use Rattle.encode_cpi.specs.Cpi.{cpiLengthOf};
-ghost use Rattle.rewrite_cpi.specs.Cpi.{Section, MapAt, MapRoom, MapsRoom, CpiRoom, bodyOf};
+ghost use Rattle.ep_entries.specs.Body.{Section};
+ghost use Rattle.rewrite_cpi.specs.Cpi.{MapRoom, MapsRoom, CpiRoom};
 use encode_cpi::Length;
 use encode_cpi::put_top;
-use ep_rows::map_header;
+use ep_entries::body::map_body;
 use map_rows::put_header;
 use map_runs::body::put_body;
-use map_runs::walked::MapBody;
 use map_runs::walked::count_runs;
 use numbers::put_u32;
 use numbers::u8_at;
 use numbers::u16_at;
-use numbers::u32_at;
-use numbers::u48_at;
 
 // The bytes of a map's header.
 const MAP: usize = 12;
 
 // The most coarse rows that a map can count.
 const MOST_RUNS: usize = 65535;
-
-// Where the rows of the map stand whose header is at q.
-fn map_body(file: &[u8], start: usize, q: usize) -> MapBody
-    requires { ⌜ MapAt (now file) start q ⌝ }
-    ensures { λ r. ⌜ r ≡ bodyOf (now (file .entry)) start q ⌝ }
-{
-    let header = map_header(u48_at(file, q + 2));
-    let place = start + 6 + u32_at(file, q + 8) as usize;
-    let fine = place + u32_at(file, place) as usize;
-    MapBody {
-        kind: header.ep_stream_type,
-        coarse: place + 4,
-        num_coarse: header.num_coarse as usize,
-        fine,
-        num_fine: header.num_fine as usize,
-    }
-}
 
 // The length of the new section of a file whose section starts at `start` and has `count` maps.
 pub fn cpi_length(file: &[u8], start: usize, count: usize) -> Length

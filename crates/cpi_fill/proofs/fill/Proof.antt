@@ -6,12 +6,14 @@ use Rattle.format.specs.EntryPoints.{fineCountAt}
 use native.Mathlib.Omega.{arith}
 use denote.Ref.{now}
 use borrow.Author.Needs.{needs}
-use Rattle.cpi_fill.proofs.Filling.{Filling, There, there, filling-first, filling-map, map-room, entries-room, filling-next, filling-done}
+use Rattle.ep_entries.specs.Body.{Section}
+use Rattle.ep_entries.proofs.Bodies.{there, left-map}
+use Rattle.cpi_fill.proofs.Filling.{Filling, filling-first, map-room, entries-room, filling-next, filling-done}
 use Rattle.cpi_fill.proofs.fill.Statement.{statement}
 use Rattle.cpi_fill.proofs.fill.Tie as tie
 
 abbrev Inv-loop : tie.InvT-loop
-Inv-loop file start count maps₀ entries₀ k₀ at₀ maps entries k at = (k ≤ count) × Filling file start count maps₀ entries₀ maps entries at k
+Inv-loop file start count maps₀ entries₀ k₀ at₀ maps entries k at = Filling file start count maps₀ entries₀ maps entries at k
 
 abbrev μ-loop : tie.MeasureT-loop
 μ-loop file start count maps₀ entries₀ k₀ at₀ maps entries k at = count - k
@@ -20,9 +22,9 @@ loop-holds : tie.Need-loop-holds Inv-loop μ-loop
 loop-holds c =
     let s = c .before .before .before in
     let a = s .args in
-    (omega arith, filling-first (now (a .file)) (a .start) (a .count) (now (a .maps)) (now (a .entries)) (s .pre))
+    filling-first (now (a .file)) (a .start) (a .count) (now (a .maps)) (now (a .entries)) (s .pre)
 
--- within the loop: the headers are in the file, and this turn's map is good
+-- within the loop: the headers are in the file, and there is room for this turn's entries
 module _ (c : tie.In-loop Inv-loop μ-loop) where
   abbrev F : List ℕ
   F = now (c .before .before .before .before .before .args .file)
@@ -33,15 +35,15 @@ module _ (c : tie.In-loop Inv-loop μ-loop) where
   abbrev N : ℕ
   N = c .before .before .before .before .before .args .count
 
-  headers : There F C N
-  headers = there F C N (c .before .before .before .before .before .pre .counted) (c .before .before .before .before .before .pre .head-in) (omega (arith, c .loop-test .taken))
+  abbrev S : Section F C N
+  S = c .before .before .before .before .before .pre .section
 
   bounds : (C + 8 + 12 * N ≤ length F) × (length F ≤ 536870912) × (c .before .loop .k < N)
-  bounds = (headers .headers, c .before .before .before .before .before .pre .small, c .loop-test .taken)
+  bounds = (there F C N S (omega (arith, c .loop-test .taken)) .headers, S .small, c .loop-test .taken)
 
   -- there is room for its entries
   room : c .before .loop .at + 20 * fineCountAt F (C + 8 + 12 * c .before .loop .k) ≤ length (c .before .loop .entries)
-  room = entries-room (c .before .loop .inv .1) (c .loop-test .taken)
+  room = entries-room (c .before .loop .inv) (c .loop-test .taken)
 
 add-q : tie.Need-add-q Inv-loop μ-loop
 add-q c = omega (arith, bounds c)
@@ -56,18 +58,12 @@ mul-put-map : tie.Need-mul-put-map Inv-loop μ-loop
 mul-put-map c = omega (arith, bounds (c .before))
 
 put-map-requires : tie.Need-put-map-requires Inv-loop μ-loop
-put-map-requires c κs = (omega (arith, bounds (c .before)), map-room (c .before .before .loop .inv .1) (c .before .loop-test .taken))
+put-map-requires c κs = (omega (arith, bounds (c .before)), map-room (c .before .before .loop .inv) (c .before .loop-test .taken))
 
 put-map-entries-requires : tie.Need-put-map-entries-requires Inv-loop μ-loop
 put-map-entries-requires c κs =
     let i = c .before .before .before .before .before in
-    record {
-      small = bounds i .1;
-      end-in = headers i .end-in;
-      header = omega (arith, bounds i);
-      body = filling-map (i .before .loop .inv .1) (i .loop-test .taken);
-      fits = room i;
-    }
+    record { map-in = left-map (F i) (C i) (N i) (i .before .loop .k) (i .loop-test .taken) (S i) (i .before .loop .inv .left); fits = room i }
 
 mul-at : tie.Need-mul-at Inv-loop μ-loop
 mul-at c =
@@ -90,19 +86,17 @@ loop-again c =
     let i = c .before .before .before .before .before .before .before .before in
     let l = i .before .loop in
     let pm = c .before .before .before .before .before .before .put-map in
-    let pe = c .before .before .put-map-entries in (
-      omega (arith, bounds i),
-      filling-next (l .inv .1) (i .loop-test .taken) (pe .result) (pe .ensures .0) (pm .ensures) (pe .ensures .1),
-    )
+    let pe = c .before .before .put-map-entries in
+    filling-next (l .inv) (i .loop-test .taken) (pe .result) (pe .ensures .0) (pm .ensures) (pe .ensures .1)
 
 same-length : tie.Need-same-length Inv-loop μ-loop
-same-length c = c .before .loop .inv .1 .maps-left .long
+same-length c = c .before .loop .inv .maps-left .long
 
 same-length-2 : tie.Need-same-length-2 Inv-loop μ-loop
-same-length-2 c = c .before .loop .inv .1 .entries-left .long
+same-length-2 c = c .before .loop .inv .entries-left .long
 
 returns : tie.Need-returns Inv-loop μ-loop
-returns c = filling-done (c .before .loop .inv .1) (c .loop-test .left)
+returns c = filling-done (c .before .loop .inv) (c .loop-test .left)
 
 pub fill-spec : {M : Type 1} → statement M
 fill-spec =

@@ -1,6 +1,6 @@
 -- The header's fields are the map's row.
 use denote.Ref.{now}
-use Rattle.cpi.proofs.Sections.{header-read}
+use Rattle.ep_rows.proofs.Headers.{header-read}
 use Rattle.cpi_fill.proofs.Filling.{map-stored}
 use borrow.Author.Needs.{needs}
 use Rattle.cpi_fill.proofs.put_map.Statement.{statement}

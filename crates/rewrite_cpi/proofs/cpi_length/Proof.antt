@@ -2,8 +2,8 @@
 use Prim.Native.Nat.{_+_, _*_, _-_, _≤_}
 use native.Mathlib.Omega.{arith}
 use denote.Ref.{now}
-use Rattle.map_runs.specs.Entries.{RowsIn}
-use Rattle.rewrite_cpi.proofs.Maps.{rows-in, headers-in, left-map}
+use Rattle.ep_entries.specs.Body.{RowsIn}
+use Rattle.ep_entries.proofs.Bodies.{rows-in, there, left-map}
 use Rattle.rewrite_cpi.proofs.Lengths.{Measured, measured-first, measured-turn, measured-refused, measured-done, measured-none}
 use Rattle.rewrite_cpi.proofs.cpi_length.Statement.{statement}
 use Rattle.rewrite_cpi.proofs.cpi_length.Tie as tie
@@ -23,7 +23,7 @@ returns c =
 bound : (c : tie.Else1 Inv-loop μ-loop) → c .before .before .args .start + 8 + 12 * c .before .before .args .count ≤ 536870912
 bound c =
     let s = c .before .before in
-    omega (arith, headers-in (now (s .args .file)) (s .args .start) (s .args .count) (s .pre) (c .if1 .left), s .pre .small)
+    omega (arith, there (now (s .args .file)) (s .args .start) (s .args .count) (s .pre) (omega (arith, c .if1 .left)) .headers, s .pre .small)
 
 mul-len : tie.Need-mul-len Inv-loop μ-loop
 mul-len c = omega (arith, bound c)

@@ -7,7 +7,8 @@ use denote.Ref.{now}
 use lib.ListN.{length}
 use Rattle.format.specs.EntryPoints.{mapTypeAt, coarseCountAt, fineCountAt, bodyAt, fineStart, cpiEnd}
 use Rattle.cpi.specs.declared.maps.MapRows.{MapRows}
-use Rattle.cpi.proofs.Sections.{header-read, fine-is, address-past, coarse-past, fine-address-past, fine-past, map-fits}
+use Rattle.ep_rows.proofs.Headers.{header-read, fine-is}
+use Rattle.cpi.proofs.Sections.{address-past, coarse-past, fine-address-past, fine-past, map-fits}
 use borrow.Author.Needs.{needs}
 use Rattle.cpi.proofs.maps.map_rows.Statement.{statement}
 use Rattle.cpi.proofs.maps.map_rows.Tie as tie

@@ -4,7 +4,8 @@ use mathlib.Core.Path.{sym, _∙_}
 use native.Mathlib.Omega.{arith}
 use denote.Ref.{now}
 use borrow.Author.Needs.{needs}
-use Rattle.cpi.proofs.Sections.{map-said, counts-small, Counting, counting-first, counting-next, counting-bad, counting-done}
+use Rattle.ep_rows.proofs.Headers.{counts-small}
+use Rattle.cpi.proofs.Sections.{map-said, Counting, counting-first, counting-next, counting-bad, counting-done}
 use Rattle.cpi.proofs.maps.measure_maps.Statement.{statement}
 use Rattle.cpi.proofs.maps.measure_maps.Tie as tie
 

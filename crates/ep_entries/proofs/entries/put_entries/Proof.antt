@@ -6,25 +6,23 @@ use native.Mathlib.Omega.{arith}
 use denote.Ref.{now}
 use lib.ListN.{length}
 use lib.Seq.{sets}
-use Rattle.format.specs.Bytes.{rowsAt}
-use Rattle.format.specs.EntryPoints.{coarseAt, fineAt, nextCoarse, nextFine, entriesFor}
 use Rattle.format.specs.Tables.{tableBytes}
+use Rattle.ep_entries.specs.Body.{coarseIn, entriesIn, entriesLeft}
 use Rattle.ep_entries.specs.Walks.{IsWalk}
 use Rattle.ep_entries.proofs.Walks.{walk-later}
-use Rattle.ep_entries.proofs.Joined.{leftFrom, all-left, run-put, entries-done}
+use Rattle.ep_entries.proofs.Joined.{left-all, run-put, entries-done}
 use Rattle.ep_entries.proofs.entries.put_entries.Statement.{statement}
 use Rattle.ep_entries.proofs.entries.put_entries.Tie as tie
 
 abbrev Inv-loop : tie.InvT-loop
-Inv-loop file coarse num-coarse fine num-fine kind table₀ at w₀ k₀ table w k =
-    (k ≤ num-fine)
-    × IsWalk file (rowsAt (coarseAt file) nextCoarse coarse num-coarse) k w
+Inv-loop file m table₀ at w₀ k₀ table w k =
+    (k ≤ m .«num_fine»)
+    × IsWalk file (coarseIn file m) k w
     × (length table ≡ length table₀)
-    × (sets table (at + 20 * k) (leftFrom file kind (rowsAt (coarseAt file) nextCoarse coarse num-coarse) fine num-fine k)
-    ≡ sets table₀ at (tableBytes (entriesFor kind (rowsAt (coarseAt file) nextCoarse coarse num-coarse) 0 (rowsAt (fineAt file) nextFine fine num-fine))))
+    × (sets table (at + 20 * k) (tableBytes (entriesLeft file m k)) ≡ sets table₀ at (tableBytes (entriesIn file m)))
 
 abbrev μ-loop : tie.MeasureT-loop
-μ-loop file coarse num-coarse fine num-fine kind table₀ at w₀ k₀ table w k = num-fine - k
+μ-loop file m table₀ at w₀ k₀ table w k = m .«num_fine» - k
 
 start-requires : tie.Need-start-requires Inv-loop μ-loop
 start-requires c κs = search needs
@@ -34,7 +32,7 @@ loop-holds c =
     let a = c .before .before .before .args in
     let f = now (a .file) in
     let z : a .at + 20 * 0 ≡ a .at = omega arith in
-    (omega arith, c .start .ensures, refl, rw (z, all-left f (a .kind) (rowsAt (coarseAt f) nextCoarse (a .coarse) (a .num-coarse)) (a .fine) (a .num-fine)))
+    (omega arith, c .start .ensures, refl, rw (z, left-all f (a .m)))
 
 cast-reach : tie.Need-cast-reach Inv-loop μ-loop
 cast-reach c = search needs
@@ -47,12 +45,12 @@ run-end-requires c κs = search needs
 
 put-run-requires : tie.Need-put-run-requires Inv-loop μ-loop
 put-run-requires c κs =
-    let s = c .before .before .before .before .before .before .before .before in
-    let l = c .before .before .before .before .loop in
+    let s = c .before .before .before .before .before .before .before .before .before in
+    let l = c .before .before .before .before .before .loop in
     let end = c .before .run-end .ensures in
     record {
       turns = omega (arith, end, c .before .before .reach .ensures .beyond);
-      fine-in = omega (arith, end, s .pre .fine-in);
+      fine-in = omega (arith, end, s .pre .rows .fine-in);
       fits = omega (arith, end, s .pre .fits, l .inv .2);
     }
 
@@ -61,10 +59,10 @@ loop-less c = omega (arith, c .before .before .before .before .run-end .ensures,
 
 loop-again : tie.Need-loop-again Inv-loop μ-loop
 loop-again c =
-    let a = c .before .before .before .before .before .before .before .before .before .before .before .args in
+    let a = c .before .before .before .before .before .before .before .before .before .before .before .before .args in
     let f = now (a .file) in
-    let cs = rowsAt (coarseAt f) nextCoarse (a .coarse) (a .num-coarse) in
-    let l = c .before .before .before .before .before .before .before .loop in
+    let cs = coarseIn f (a .m) in
+    let l = c .before .before .before .before .before .before .before .before .loop in
     let w = c .before .before .before .before .before .reach in
     let end = c .before .before .before .before .run-end in
     let put = c .before .before .put-run in
@@ -72,8 +70,8 @@ loop-again c =
     let on : l .k ≤ end .result = omega (arith, end .ensures, w .ensures .beyond) in (
       omega (arith, end .ensures),
       walk-later f cs (l .k) (end .result) (w .result) on walk,
-      put .kept .1 .1 .1 .1 .1 .1 .0 ∙ l .inv .2,
-      run-put f (a .kind) cs (a .fine) (a .num-fine) (w .result) (l .k) (end .result) (l .table) (a .at) on (end .ensures) walk (put .ensures) (l .inv .3),
+      put .kept .1 .1 .1 .1 .1 .0 ∙ l .inv .2,
+      run-put f (a .m) (w .result) (l .k) (end .result) (l .table) (a .at) on (end .ensures) walk (put .ensures) (l .inv .3),
     )
 
 same-length : tie.Need-same-length Inv-loop μ-loop
@@ -81,10 +79,10 @@ same-length c = search needs
 
 returns : tie.Need-returns Inv-loop μ-loop
 returns c =
-    let a = c .before .before .before .before .before .args in
+    let a = c .before .before .before .before .before .before .args in
     let f = now (a .file) in
-    let l = c .before .loop in
-    entries-done f (a .kind) (rowsAt (coarseAt f) nextCoarse (a .coarse) (a .num-coarse)) (a .fine) (a .num-fine) (l .k) (l .table) (a .at + 20 * l .k) (c .loop-test .left) (l .inv .3)
+    let l = c .before .before .loop in
+    entries-done f (a .m) (l .k) (l .table) (a .at + 20 * l .k) (c .if1 .left) (l .inv .3)
 
 pub put-entries-spec : {M : Type 1} → statement M
 put-entries-spec =

@@ -3,7 +3,7 @@ use mathlib.Core.Path.{refl}
 use native.Mathlib.Omega.{arith}
 use denote.Ref.{now}
 use Rattle.encode_map.proofs.Bodies.{body-stored}
-use Rattle.map_runs.specs.Entries.{entriesIn}
+use Rattle.ep_entries.specs.Body.{entriesIn}
 use Rattle.map_runs.proofs.Entries.{runs-within, body-size}
 use borrow.Author.Needs.{needs}
 use Rattle.map_runs.proofs.body.put_body.Statement.{statement}

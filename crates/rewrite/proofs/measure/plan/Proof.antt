@@ -14,10 +14,10 @@ use mathlib.Core.Bool.{true}
 use Rattle.encode_measure.specs.Places.{marksPlace}
 use Rattle.rewrite.specs.Rewrite.{rewriteRefusal}
 use Rattle.clip_sections.proofs.Laws.{SectionsAre, sections-are, accepted-bounds}
-use Rattle.clip_information.proofs.FillLaws.{sound}
+use Rattle.clip_information.proofs.FillLaws.{sound, cpi-section}
 use Rattle.encode_measure.proofs.Parts.{place-programs, place-cpi, place-marks}
 use Rattle.rewrite.proofs.Refusals.{reading-refuses, runs-refuse, runs-pass, none, marks-short, planned-by}
-use Rattle.rewrite.proofs.Rooms.{cpi-section, sequences-size, programs-size}
+use Rattle.rewrite.proofs.Rooms.{sequences-size, programs-size}
 use borrow.Author.Needs.{needs}
 use Rattle.rewrite.proofs.measure.plan.Statement.{statement}
 use Rattle.rewrite.proofs.measure.plan.Tie as tie
