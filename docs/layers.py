@@ -94,14 +94,14 @@ def check_stores():
 
 
 def check_ticks():
-    """No other crate makes a time of another time's number, nor one in 90 kHz ticks of an STC's cell, which has 45."""
+    """No other crate makes a time of another's number, nor, where it has times in 45 kHz ticks, one in 90 of any but 0."""
     for source in sorted((HERE.parent / "crates").glob("*/src/**/*.rt")):
         crate = source.relative_to(HERE.parent / "crates").parts[0]
         words = source.read_text()
-        of_time = re.search(r"(?:Ticks45|Ticks90|Pts90)\([^()]*\.0\b", words)
-        of_cell = crate == "sequence_queries" and re.search(r"(?:Ticks90|Pts90)\((?!0\))", words)
-        if crate != "ticks" and (of_time or of_cell):
-            sys.exit(f"layers: {crate} makes a time by hand: {(of_time or of_cell).group()}")
+        of_time = re.search(r"(?:Ticks45|Ticks90|Pts90)\(.*\.0\b", words)
+        of_other = "Ticks45" in words and re.search(r"(?:Ticks90|Pts90)\((?!0\)).*", words)
+        if crate != "ticks" and (of_time or of_other):
+            sys.exit(f"layers: {crate} makes a time by hand: {(of_time or of_other).group()}")
 
 
 def wrapped(names, width):

@@ -61,5 +61,5 @@ int main(int argc, char **argv)
     }
     free(output);
     free(old);
-    return done ? 0 : 2;
+    return done ? 0 : 3;
 }

@@ -1,9 +1,9 @@
 /* clpi.h: Blu-ray clip information (CLPI) files, read into tables that the caller lends, and written from them.
  *
- * For C99 or C++11 and later. Link with libclpi.a (`pkg-config --libs clpi`; x86-64, 64-bit size_t). Every call takes
- * every input, allocates nothing, keeps nothing, calls nothing, and ends; its machine code needs less than 1 KB of
- * stack. What it answers and stores is proved equal to the format's definitions; what is not proved is the figure of
- * stack, which is counted, and the caller's side of this page:
+ * For C99 or C++11 and later. Link with libclpi.a (`pkg-config --libs clpi`; x86-64, 64-bit size_t). Every call of the
+ * library takes every input, allocates nothing, keeps nothing, calls nothing, and ends; its machine code needs less
+ * than 1 KB of stack. What it answers and stores is proved equal to the format's definitions. Not proved are the three
+ * functions that this page defines itself, the figure of stack, which is counted, and the caller's side of this page:
  *
  *  - a pointer points to as many bytes as its length says, at any alignment; with length 0 it may be NULL;
  *  - the tables lent to one call overlap neither one another nor the file, the output overlaps neither the tables
@@ -78,7 +78,7 @@ static inline const char *clpi_refusal_words(uint32_t refusal)
     case CLPI_TABLE_SHORT:
         return "a table is too short for the file's rows";
     case CLPI_ROWS:
-        return "a row number, stated rows or a row's data that isn't there, or counts that don't add up";
+        return "rows, or a row's data, that aren't there, or counts that don't add up";
     case CLPI_OUTPUT_SHORT:
         return "the output is too short for the new file";
     case CLPI_CELLS:

@@ -13,17 +13,11 @@ enum status { DONE = 0, REFUSED = 1, WRONG_USE = 2, FAILED = 3 };
 
 /* ---- refusals */
 
-/* The words for a refusal: the library's, but that it is the tool that lends the tables and the output. */
+/* The words for a refusal: the library's, but that it is the tool that lends the tables, as long as they must be. */
 static const char *words_for(uint32_t refusal)
 {
-    switch (refusal) {
-    case CLPI_TABLE_SHORT:
-        return "there is no memory for a table as long as the file's rows need";
-    case CLPI_OUTPUT_SHORT:
-        return "there is no room for the new file";
-    default:
-        return clpi_refusal_words(refusal);
-    }
+    return refusal == CLPI_TABLE_SHORT ? "there is no memory for a table as long as the file's rows need"
+                                       : clpi_refusal_words(refusal);
 }
 
 /* Says that a file is refused, and why. */

@@ -21,7 +21,7 @@ use Rattle.extension.specs.Block.{foundIn}
 use Rattle.extension.specs.declared.ListData.{ListData}
 use Rattle.section_heads.specs.declared.Section.{Section}
 use Rattle.info_sections.specs.Sections.{Fillable}
-use Rattle.ep_entries.specs.Body.{Section as CpiSection}
+use Rattle.ep_entries.specs.Body.{CpiSection}
 use Rattle.cpi_fill.specs.Fill as Maps
 use Rattle.clip_information.specs.Fill.{SectionsFit, ListFits, MarksThere}
 use Rattle.clip_sections.proofs.Laws.{both-pass}

@@ -1,3 +1,3 @@
--- Laws that the proofs of this crate cite.
+-- Laws that the proofs of this crate, and of its callers, cite.
 pub mod FillLaws
 pub mod ReadLaws

@@ -4,7 +4,7 @@ use mathlib.Core.List.{List}
 use lib.ListN.{length}
 use Rattle.format.specs.EntryPoints.{fineCountAt, mapsFrom, entriesFrom}
 use Rattle.format.specs.Tables.{rowRoom, mapCells, entryCells}
-use Rattle.ep_entries.specs.Body.{Section, MapAt}
+use Rattle.ep_entries.specs.Body.{CpiSection, MapAt}
 
 -- a map's header and body are in the file, and the table has room for its entries
 pub record OneMap (f : List ℕ) (c p room at : ℕ) : Type 0 where
@@ -13,6 +13,6 @@ pub record OneMap (f : List ℕ) (c p room at : ℕ) : Type 0 where
 
 -- the section is in the file, and both tables have room
 pub record Fill (f : List ℕ) (c count : ℕ) (maps entries : List ℕ) : Type 0 where
-  pub section : Section f c count
+  pub section : CpiSection f c count
   pub maps-room : length (mapsFrom f c) ≤ rowRoom mapCells maps
   pub entries-room : length (entriesFrom f c) ≤ rowRoom entryCells entries

@@ -2,19 +2,13 @@
 use Prim.Native.Nat.{ℕ, _+_, _-_, _≤_}
 use mathlib.Core.Path.{_≡_, refl, sym, ap, _∙_}
 use mathlib.Core.List.{List, _++_}
-use mathlib.Core.Bool.{true}
 use native.Mathlib.Omega.{arith}
 use lib.ListN.{length}
-use borrow.Author.Tests.{leb-true, eqb-true}
-use Rattle.format.specs.Bytes.{both, flat, total}
+use Rattle.format.specs.Bytes.{flat, total}
 use Rattle.format.specs.ClipRecord.{Clip}
 use Rattle.format.specs.Rewriting.{sequencesBytes, programsBytes}
-use Rattle.format.specs.Tables.{tableRows, rowRoom, stcCells, streamCells, isStated}
 use Rattle.format.proofs.Tables.{rows-stated}
 use Rattle.format.proofs.Sections.{section-length}
-use Rattle.format.proofs.Tests.{both-true}
-use Rattle.queries.specs.Asked.{stated}
-use Rattle.table_rows.specs.OwnRows.{headCells, cellIn, isCounted}
 use Rattle.section_heads.proofs.Stored.{sectionHead}
 use Rattle.row_values.specs.Kinds.{cellsOf, bytesBy}
 use Rattle.encode_sections.specs.Sections.{headKind, rowKind, countOf, itemsOf, sectionOf, headsIn, ownIn, itemsIn, sectionIn, Counted, Storable}
@@ -48,34 +42,6 @@ module _ {section : Section} {heads : List ℕ} {n : ℕ} {rows : List ℕ} {m :
   -- the rows that the header rows count are those that are stated
   pub items-are : itemsIn section heads n rows ≡ itemsOf section (headsIn section heads n) (ownIn section rows m)
   items-are = ap (λ (k : ℕ). itemsOf section (headsIn section heads n) (ownIn section rows k)) (c .adds)
-
--- ---- tables that were counted: the rows are there, and the counts add up
-
-module _ (cell cells : ℕ) (heads : List ℕ) (n : ℕ) (rows : List ℕ) (m : ℕ) (h : isCounted cell cells (stated heads n) (stated rows m) ≡ true) where
-  -- what the tests say
-  counted-parts : (n ≤ rowRoom headCells heads) × (m ≤ rowRoom cells rows) × (total (cellIn cell) (tableRows headCells heads n) ≡ m)
-  unfolding isCounted
-  counted-parts =
-      let tables = both (isStated headCells (stated heads n)) (both (isStated cells (stated rows m)) true) in
-      let whole = both-true h in
-      let there = both-true (whole .0) in (
-        leb-true n (rowRoom headCells heads) (there .0),
-        leb-true m (rowRoom cells rows) (both-true (there .1) .0),
-        eqb-true (total (cellIn cell) (tableRows headCells heads n)) (length (tableRows cells rows m)) (whole .1) ∙ rows-stated cells rows m,
-      )
-
-module _ (heads : List ℕ) (n : ℕ) (rows : List ℕ) (m : ℕ) where
-  -- ATCs and STCs: the count is in cell 1
-  pub sequences-counted : isCounted 1 stcCells (stated heads n) (stated rows m) ≡ true → Counted Section.Sequences heads n rows m
-  sequences-counted h =
-      let c = counted-parts 1 stcCells heads n rows m h in
-      record { heads-there = c .0; rows-there = c .1; adds = c .2 }
-
-  -- programs and streams: the count is in cell 2
-  pub programs-counted : isCounted 2 streamCells (stated heads n) (stated rows m) ≡ true → Counted Section.Programs heads n rows m
-  programs-counted h =
-      let c = counted-parts 2 streamCells heads n rows m h in
-      record { heads-there = c .0; rows-there = c .1; adds = c .2 }
 
 -- ---- the two parts that are stored
 

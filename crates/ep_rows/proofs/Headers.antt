@@ -17,6 +17,6 @@ header-read f p w h e r = (rw (r, e), rw (r, e), rw (r, e))
 pub counts-small : (f : List ℕ) (p : ℕ) → (coarseCountAt f p ≤ 65535) × (fineCountAt f p ≤ 262143)
 counts-small f p = (omega arith, omega arith)
 
--- the fine rows start at the body's first word
+-- the fine rows start as far behind the body's start as its first word says
 pub fine-is : (f : List ℕ) (c p body r : ℕ) → body ≡ bodyAt f c p → r ≡ beAt f body 4 → body + r ≡ fineStart f c p
 fine-is f c p body r e h = rw (h, e)

@@ -3,8 +3,7 @@ use Prim.Native.Nat.{ℕ, _+_, _*_, _-_, _<_, _≤_}
 use mathlib.Core.Path.{_≡_, refl, ap, ap₂, subst, _∙_}
 use mathlib.Core.List.{List, [], _∷_, _++_}
 use native.Mathlib.Omega.{arith}
-use lib.ListN.{length, getD, take, drop}
-use lib.Seq.{take-at}
+use lib.ListN.{length, getD}
 use lib.Dec.{lit<}
 use Rattle.format.specs.Bytes.{flat, total}
 use Rattle.format.specs.ClipRecord.{Row, Record, entryCount}
@@ -86,10 +85,6 @@ room-4096 n m h g = omega arith
 -- the text in other words
 pub shows-as : {d e : List ℕ} {r : ℕ} {s t : List ℕ} → s ≡ t → Shows d s r e → Shows d t r e
 shows-as {d} {e} {r} q h = subst (λ (x : List ℕ). Shows d x r e) q h
-
--- the first r bytes are the text
-pub shown : {d s e : List ℕ} {r : ℕ} → Shows d s r e → take r e ≡ s
-shown {d} {s} h = rw (h .bytes, h .count) (take-at s (drop (length s) d) (length s) refl)
 
 -- the text is that of the record with these numbers, maps and entries
 pub record-text : (r : Record) {n : Numbers} {ms es : List Row} → n ≡ numbersOf r → ms ≡ r .clip .maps → es ≡ r .clip .entries → recordText n ms es ≡ recordLines r

@@ -1,5 +1,4 @@
 // The listing's text, into an output that the caller lends: the lines of a record, and of a refusal.
-ghost use mathlib.Core.Path.{_≡_};
 ghost use mathlib.Core.List.{[], _∷_};
 ghost use Prim.Native.Nat.{_+_, _*_, _≤_};
 ghost use lib.ListN.{length};

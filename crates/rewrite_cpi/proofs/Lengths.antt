@@ -14,7 +14,7 @@ use Rattle.format.proofs.Cpi.{body-length}
 use Rattle.format.proofs.Numbers.{bytes-length}
 use Rattle.format.proofs.Read.{own-length}
 use Rattle.ep_rows.proofs.Headers.{counts-small}
-use Rattle.ep_entries.specs.Body.{Section, bodyOf, entriesIn}
+use Rattle.ep_entries.specs.Body.{CpiSection, bodyOf, entriesIn}
 use Rattle.ep_entries.specs.declared.body.MapBody.{MapBody}
 use Rattle.ep_entries.proofs.Bodies.{own-count, Left, left-first, left-next}
 use Rattle.encode_cpi.specs.Cpi.{fewRuns, cpiLengthOf}
@@ -49,7 +49,7 @@ module _ (f : List ℕ) (c count : ℕ) where
     pub rest : len + length (bodies (mapsLeft f c count k) (entriesLeft f c count k)) ≡ 8 + 12 * count + length (bodies (mapsFrom f c) (entriesFrom f c))
 
   -- before the first turn
-  pub measured-first : Section f c count → Measured (8 + 12 * count) 0
+  pub measured-first : CpiSection f c count → Measured (8 + 12 * count) 0
   measured-first s = record {
     left = left-first f c count s;
     small = omega arith;
@@ -84,7 +84,7 @@ module _ (f : List ℕ) (c count : ℕ) where
         rw (← i .fits, every-turn f c count k h fewRuns, fails)
 
   -- all are measured
-  pub measured-done : (len k : ℕ) → Section f c count → Measured len k → count ≤ k → (count ≡ 0 → ⊥) → Length.Bytes len ≡ cpiLengthOf (mapsFrom f c) (entriesFrom f c)
+  pub measured-done : (len k : ℕ) → CpiSection f c count → Measured len k → count ≤ k → (count ≡ 0 → ⊥) → Length.Bytes len ≡ cpiLengthOf (mapsFrom f c) (entriesFrom f c)
   unfolding cpiLengthOf
   measured-done len k s i h some =
       let passes : everyMap fewRuns (mapsFrom f c) (entriesFrom f c) ≡ true = sym (i .fits) ∙ rw (maps-done f c count k h) in
@@ -95,7 +95,7 @@ module _ (f : List ℕ) (c count : ℕ) where
       rw (passes, long)
 
   -- without maps there are four bytes
-  pub measured-none : Section f c count → count ≡ 0 → Length.Bytes 4 ≡ cpiLengthOf (mapsFrom f c) (entriesFrom f c)
+  pub measured-none : CpiSection f c count → count ≡ 0 → Length.Bytes 4 ≡ cpiLengthOf (mapsFrom f c) (entriesFrom f c)
   unfolding cpiLengthOf
   measured-none s z =
       let first = measured-first s in

@@ -1,4 +1,4 @@
--- The laws that the functions' proofs, and those of callers, cite.
+-- Laws that the proofs of this crate cite.
 pub mod Maps
 pub mod Lengths
 pub mod Sections

@@ -7,7 +7,7 @@ ghost use lib.Seq.{sets};
 ghost use Rattle.format.specs.EntryPoints.{mapAt, entriesOf, mapsFrom, entriesFrom};
 ghost use Rattle.format.specs.Rewriting.{bodyBytes, bodies, headerBytes, headers, cpiBytesBy};
 ghost use Rattle.encode_cpi.specs.Cpi.{cpiLengthOf};
-ghost use Rattle.ep_entries.specs.Body.{Section};
+ghost use Rattle.ep_entries.specs.Body.{CpiSection};
 ghost use Rattle.rewrite_cpi.specs.Cpi.{MapRoom, MapsRoom, CpiRoom};
 use encode_cpi::Length;
 use encode_cpi::put_top;
@@ -27,7 +27,7 @@ const MOST_RUNS: usize = 65535;
 
 // The length of the new section of a file whose section starts at `start` and has `count` maps.
 pub fn cpi_length(file: &[u8], start: usize, count: usize) -> Length
-    requires { ⌜ Section (now file) start count ⌝ }
+    requires { ⌜ CpiSection (now file) start count ⌝ }
     ensures { λ r. ⌜ r ≡ cpiLengthOf (mapsFrom (now (file .entry)) start) (entriesFrom (now (file .entry)) start) ⌝ }
 {
     if count == 0 {

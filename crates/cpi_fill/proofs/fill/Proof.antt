@@ -6,7 +6,7 @@ use Rattle.format.specs.EntryPoints.{fineCountAt}
 use native.Mathlib.Omega.{arith}
 use denote.Ref.{now}
 use borrow.Author.Needs.{needs}
-use Rattle.ep_entries.specs.Body.{Section}
+use Rattle.ep_entries.specs.Body.{CpiSection}
 use Rattle.ep_entries.proofs.Bodies.{there, left-map}
 use Rattle.cpi_fill.proofs.Filling.{Filling, filling-first, map-room, entries-room, filling-next, filling-done}
 use Rattle.cpi_fill.proofs.fill.Statement.{statement}
@@ -35,7 +35,7 @@ module _ (c : tie.In-loop Inv-loop μ-loop) where
   abbrev N : ℕ
   N = c .before .before .before .before .before .args .count
 
-  abbrev S : Section F C N
+  abbrev S : CpiSection F C N
   S = c .before .before .before .before .before .pre .section
 
   bounds : (C + 8 + 12 * N ≤ length F) × (length F ≤ 536870912) × (c .before .loop .k < N)

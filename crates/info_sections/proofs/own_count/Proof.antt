@@ -1,4 +1,4 @@
--- By the kind of section.
+-- The count is read where a header row of this section has it.
 use native.Mathlib.Omega.{arith}
 use borrow.Author.Needs.{needs}
 use Rattle.info_sections.proofs.own_count.Statement.{statement}

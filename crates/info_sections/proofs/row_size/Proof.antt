@@ -1,4 +1,4 @@
--- By the kind of section.
+-- Four bytes a cell, by the cells of this section's rows.
 use borrow.Author.Needs.{needs}
 use Rattle.info_sections.proofs.row_size.Statement.{statement}
 use Rattle.info_sections.proofs.row_size.Tie as tie

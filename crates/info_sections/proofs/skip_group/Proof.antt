@@ -1,4 +1,4 @@
--- By the kind of section.
+-- Past an ATC with its STCs, or a program with its streams, as the section has them.
 use borrow.Author.Needs.{needs}
 use Rattle.info_sections.proofs.skip_group.Statement.{statement}
 use Rattle.info_sections.proofs.skip_group.Tie as tie

@@ -31,7 +31,6 @@ returns-2 c =
 module _ (f : tie.Else2) where
   narrow : let a = f .before .before .before .args in (ltb (a .angle) 2 ≡ true) × (ltb (a .i-end) 8 ≡ true)
   narrow =
-      let a = f .before .before .before .args in
       let test = f .before .angle-fits in
       both-true (sym (test .ensures) ∙ not-false (test .result) (f .if2 .left))
 

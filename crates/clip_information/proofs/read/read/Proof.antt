@@ -1,10 +1,9 @@
 -- A refusal leaves the tables as they were; once all is ready each table is filled by its own pass.
-use Prim.Native.Nat.{ℕ, _≤_}
+use Prim.Native.Nat.{ℕ}
 use mathlib.Core.Path.{refl, _∙_}
 use mathlib.Core.List.{List}
 use native.Mathlib.Omega.{arith}
 use denote.Ref.{now}
-use lib.ListN.{length}
 use Rattle.format.specs.Extensions.{extensionRows}
 use Rattle.format.specs.Reading.{recordOf}
 use Rattle.format.specs.Refusals.{tablesOf}
