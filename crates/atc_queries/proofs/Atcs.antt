@@ -25,6 +25,7 @@ use Rattle.table_rows.proofs.OwnRows.{own-rows, behindCount, behindTests, tests
 pub below-offset : (id offset count : ℕ) → id < offset → false ≡ both (leb offset id) (ltb (id - offset) count)
 below-offset id offset count h = rw (lt-leb offset id h)
 
+-- an id from the offset on is tested by how far above it lies
 pub from-offset : (id offset count : ℕ) → offset ≤ id → ltb (id - offset) count ≡ both (leb offset id) (ltb (id - offset) count)
 from-offset id offset count h = rw (le-leb offset id h)
 
@@ -42,6 +43,7 @@ module _ (t : List ℕ) (n id : ℕ) where
     pub small : first ≤ 4294967295 * k
     pub rest : stcById (rowsLeft atcCells t n k) id first ≡ stcById (tableRows atcCells t n) id 0
 
+  -- before the first turn no STC is counted and all ATCs are left
   pub ids-first : Ids 0 0
   ids-first = record { small = omega arith; rest = rw (left-all atcCells t n) }
 
@@ -54,6 +56,7 @@ module _ (t : List ℕ) (n id : ℕ) where
     is-offset : offset ≡ offsetId (cellsAt t atcCells (4 * atcCells * k))
     is-offset = row-cell t atcCells (4 * atcCells * k) 2 (lit< tt) (omega arith) (o .same)
 
+    -- an ATC without the id is passed, and its STCs are counted
     pub ids-turn : b ≡ false → Ids (k + 1) (first + count)
     unfolding stcById
     ids-turn f = record {
@@ -61,10 +64,12 @@ module _ (t : List ℕ) (n id : ℕ) where
       rest = rw (left-turn atcCells t n k h, ← is-count, ← is-offset, ← is, f) at (i .rest);
     }
 
+    -- the first ATC that has the id answers: the STCs before it, and the id less its offset
     pub id-found : b ≡ true → number (first + (id - offset)) ≡ stcById (tableRows atcCells t n) id 0
     unfolding stcById
     id-found f = rw (left-turn atcCells t n k h, ← is-count, ← is-offset, ← is, f) at (i .rest)
 
+  -- after the last ATC there is none
   pub id-none : (k first : ℕ) → n ≤ k → Ids k first → none ≡ stcById (tableRows atcCells t n) id 0
   unfolding stcById
   id-none k first h i = rw (left-done atcCells t n k h) at (i .rest)
@@ -82,6 +87,7 @@ module _ (t : List ℕ) (first count spn : ℕ) where
   Spns k found =
       lastWhere (λ y. leb y spn) (first + k) (map stcPacket (rowsFrom stcCells t (first + k) (count - k))) found ≡ stcBySpn (rowsFrom stcCells t first count) spn first
 
+  -- before the first turn nothing is found and all rows are left
   pub spns-first : Spns 0 none
   unfolding stcBySpn
   spns-first =
@@ -89,6 +95,7 @@ module _ (t : List ℕ) (first count spn : ℕ) where
       let c : count - 0 ≡ count = omega arith in
       rw (f, c)
 
+  -- a row whose packet is at most the one given takes the place of what was found
   pub spns-turn : (k : ℕ) (found : Answer) {r : Answer} {v : ℕ} → k < count → CellIs t (16 * (first + k) + 4) v → r ≡ pick (leb v spn) (number (first + k)) found → Spns k found → Spns (k + 1) r
   spns-turn k found h c e i =
       let p : 4 * stcCells * (first + k) + 16 ≡ 4 * stcCells * suc (first + k) = omega arith in
@@ -96,15 +103,18 @@ module _ (t : List ℕ) (first count spn : ℕ) where
       let is = row-cell t stcCells (4 * stcCells * (first + k)) 1 (lit< tt) (omega arith) (c .same) in
       rw (s, e) (rw (one-left count k h, p, ← is) at i)
 
+  -- after the last turn what was found is the answer
   pub spns-done : (k : ℕ) (found : Answer) → count ≤ k → Spns k found → found ≡ stcBySpn (rowsFrom stcCells t first count) spn first
   spns-done k found h i = rw (none-left count k h) at i
 
 module _ (atcs stcs : Table) (atc spn : ℕ) where
+  -- the answer of the ATC's own STCs behind the tests
   spn-by-tests : behindTests 1 stcCells atcs stcs atc (stcBySpn (ownRows atcStcCount (rowsOf atcCells atcs) (rowsOf stcCells stcs) atc) spn (firstRow atcStcCount (rowsOf atcCells atcs) atc))
       ≡ ask (stcSequenceForSpn atc spn) (atcsAndStcs atcs stcs)
   unfolding ask answer clipIn ofAtc
   spn-by-tests = refl
 
+  -- a test that fails is 22
   pub spn-refused : refusal ≡ ownedRows 1 stcCells atcs stcs atc → refused 22 ≡ ask (stcSequenceForSpn atc spn) (atcsAndStcs atcs stcs)
   spn-refused h = tests-fail 1 stcCells atcs stcs atc _ h ∙ spn-by-tests
 
@@ -113,6 +123,7 @@ module _ (atcs stcs : Table) (atc spn : ℕ) where
     pub stcs-inside : 16 * (first + count) ≤ length (stcs .bytes)
     stcs-inside = let o = own-rows 1 stcCells atcs stcs atc h in omega (arith, o .inside, o .room)
 
+    -- where the tests pass, the ATC's rows in the table answer
     pub spn-answered : stcBySpn (rowsFrom stcCells (stcs .bytes) first count) spn first ≡ ask (stcSequenceForSpn atc spn) (atcsAndStcs atcs stcs)
     spn-answered =
         let o = own-rows 1 stcCells atcs stcs atc h in

@@ -126,6 +126,7 @@ module _ (f : List ℕ) (start : ℕ) where
 -- ---- the list
 
 module _ (f : List ℕ) (list : ListData) {has : Bool} {programs streams : List ℕ} (fits : ListFits f list has programs streams) where
+  -- the list's data, where the extensions have it
   abbrev D : Found
   D = listData (extensionsFrom f (extensionsStart f))
 
@@ -149,6 +150,7 @@ module _ (f : List ℕ) (list : ListData) {has : Bool} {programs streams : List 
   no-list h = let e : D ≡ nothing = sym (fits .list-is) ∙ ap (foundIn f) h in left (ap listIn e)
 
   module _ (s n : ℕ) (at : list ≡ ListData.At s n) (there : not has ≡ false) where
+    -- the part of the file that is lent as the list's data
     abbrev P : List ℕ
     P = take (s + n - s) (drop s f)
 

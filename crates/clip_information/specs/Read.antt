@@ -73,6 +73,7 @@ scalarsBy c = record {
   formatId = c .«format_id»;
 }
 
+-- the code's nine counts as those of the definition
 abbrev pub nineBy : Rows → Nine ℕ
 nineBy r = record {
   atcs = r .atcs;
@@ -86,6 +87,7 @@ nineBy r = record {
   listStreams = r .«list_streams»;
 }
 
+-- the code's answer as that of the definition
 abbrev pub answerOf : Answer → ReadAnswer
 answerOf (Answer.Refused n) = refused n
 answerOf (Answer.TooShort k n) = tooShort k n

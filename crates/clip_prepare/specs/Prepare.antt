@@ -74,11 +74,13 @@ pub record ReadyIs (f : List ℕ) (bytes rows : Rows) (list : ListData) (has : B
   pub list-in : listEnd list ≤ length f
   pub has-is : has ≡ recordOf f .hasList
 
+-- what holds where all is ready; beside a refusal or a short table nothing is asked
 abbrev pub Readiness : List ℕ → Rows → Prepared → Type 0
 Readiness f bytes (Prepared.Ready rows list has) = ReadyIs f bytes rows list has
 Readiness f bytes (Prepared.Refused n) = Unit {0}
 Readiness f bytes (Prepared.TooShort k n) = Unit {0}
 
+-- what was prepared gives reading's answer, and what is ready is so
 pub record PreparedIs (f : List ℕ) (bytes : Rows) (r : Prepared) : Type 0 where
   pub answer : preparedAnswer f r ≡ answerFor f bytes
   pub ready : Readiness f bytes r

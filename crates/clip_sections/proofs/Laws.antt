@@ -25,14 +25,17 @@ use Rattle.clip_sections.specs.declared.sections.Sections.{Sections}
 -- ---- marks
 
 module _ (f : List ℕ) (start : ℕ) where
+  -- a start of 0 is no marks, and passes
   pub marks-zero : start ≡ 0 → true ≡ marksIn f start
   unfolding marksIn
   marks-zero h = rw (eq-eqb start 0 h)
 
+  -- so does a start at or past the end
   pub marks-far : (start ≡ 0 → ⊥) → length f ≤ start → true ≡ marksIn f start
   unfolding marksIn
   marks-far n h = rw (ne-eqb start 0 n, le-ltb start (length f) h)
 
+  -- a start within the file passes where six bytes are left from it on
   pub marks-near : (start ≡ 0 → ⊥) → start < length f → leb 6 (length f - start) ≡ marksIn f start
   unfolding marksIn
   marks-near n h = rw (ne-eqb start 0 n, lt-ltb start (length f) h) (rest start 6 (length f) (omega arith))
@@ -40,11 +43,13 @@ module _ (f : List ℕ) (start : ℕ) where
 -- ---- the header and ClipInfo
 
 module _ (f : List ℕ) where
+  -- a file of more than 536,870,912 bytes is 20
   pub too-long : 536870912 < length f → 20 ≡ frontOf f
   unfolding frontOf
   too-long h = rw (lt-leb (length f) 536870912 h)
 
   module _ (most : length f ≤ 536870912) where
+    -- a file without the eight bytes of letters and version is 1
     pub truncated : headerOf f ≡ BdmvHeader.Truncated → 1 ≡ frontOf f
     unfolding frontOf
     truncated h = rw (le-leb (length f) 536870912 most) (go (leb 8 (length f)) (lettersRight f) h)
@@ -55,6 +60,7 @@ module _ (f : List ℕ) where
         go true true h = let z : _≡_ {A = ℕ} 0 1 = cc in absurd (omega arith)
         go true false h = let z : _≡_ {A = ℕ} 0 1 = cc in absurd (omega arith)
 
+    -- letters that are not a clip file's are 2
     pub other-letters : headerOf f ≡ BdmvHeader.OtherLetters → 2 ≡ frontOf f
     unfolding frontOf
     other-letters h = rw (le-leb (length f) 536870912 most) (go (leb 8 (length f)) (lettersRight f) h)
@@ -77,17 +83,21 @@ module _ (f : List ℕ) where
           go true true h = refl
           go true false h = let z : _≡_ {A = ℕ} 0 1 = cc in absurd (omega arith)
 
+      -- a file that ends within the header's 40 bytes is 1
       pub under-40 : length f < 40 → 1 ≡ frontOf f
       under-40 h = rw (front-is, lt-leb 40 (length f) h)
 
+      -- a file of less than 194 bytes, where ClipInfo's last field ends, is 3
       pub under-194 : 40 ≤ length f → length f < 194 → 3 ≡ frontOf f
       unfolding clipInfoIn
       under-194 k h = rw (front-is, le-leb 40 (length f) k, lt-leb 194 (length f) h)
 
+      -- so is a ClipInfo whose length passes the file's end
       pub info-past : 194 ≤ length f → length f < 44 + beAt f 40 4 → 3 ≡ frontOf f
       unfolding clipInfoIn
       info-past k h = rw (front-is, le-leb 40 (length f) (omega arith), le-leb 194 (length f) k, lt-leb (44 + beAt f 40 4) (length f) h)
 
+      -- else the front passes
       pub front-passes : 194 ≤ length f → 44 + beAt f 40 4 ≤ length f → 0 ≡ frontOf f
       unfolding clipInfoIn
       front-passes k h = rw (front-is, le-leb 40 (length f) (omega arith), le-leb 194 (length f) k, le-leb (44 + beAt f 40 4) (length f) h)
@@ -105,6 +115,7 @@ front-facts f h =
 
 -- ---- the sections behind it
 
+-- the refusals behind ClipInfo, in their order
 abbrev pub laterOf : List ℕ → ℕ
 laterOf f =
     unless (leb (sequencesEnd f (sequencesStart f)) (length f)) 4
@@ -113,6 +124,7 @@ laterOf f =
     (unless (mapsIn f (cpiStart f)) 7
     (unless (marksIn f (marksStart f)) 8 0))))
 
+-- the sections are tested only where the front passes
 pub front-then : (f : List ℕ) → refusalOf f ≡ pick (eqb (frontOf f) 0) (laterOf f) (frontOf f)
 unfolding refusalOf frontOf
 front-then f = go (leb (length f) 536870912) (leb 8 (length f)) (lettersRight f) (leb 40 (length f)) (clipInfoIn f) (laterOf f)
@@ -141,6 +153,7 @@ module _ (f : List ℕ) where
   unfolding sectionsOf
   refused n h = rw (h, eqb·suc-zero n)
 
+  -- the refusal of a front that does not pass is the answer
   pub front-refused : (r : ℕ) → r ≡ frontOf f → (r ≡ 0 → ⊥) → Sections.Refused r ≡ sectionsOf f
   unfolding sectionsOf
   front-refused r e h =
@@ -149,28 +162,35 @@ module _ (f : List ℕ) where
       rw (is, ne-eqb r 0 h)
 
   module _ (front : frontOf f ≡ 0) where
+    -- where the front passes, the sections decide
     later : refusalOf f ≡ laterOf f
     later = front-then f ∙ rw front
 
+    -- sequences that pass the file's end are 4
     pub sequences-refused : leb (sequencesEnd f (sequencesStart f)) (length f) ≡ false → Sections.Refused 4 ≡ sectionsOf f
     sequences-refused h = refused 3 (later ∙ rw h)
 
     module _ (seq : leb (sequencesEnd f (sequencesStart f)) (length f) ≡ true) where
+      -- programs that pass it are 5, where the sequences do not
       pub programs-refused : leb (programsEnd f (programsStart f)) (length f) ≡ false → Sections.Refused 5 ≡ sectionsOf f
       programs-refused h = refused 4 (later ∙ rw (seq, h))
 
       module _ (prog : leb (programsEnd f (programsStart f)) (length f) ≡ true) where
+        -- a CPI section that is not in the file is 6, where all tested before it is
         pub cpi-refused : cpiIn f (cpiStart f) ≡ false → Sections.Refused 6 ≡ sectionsOf f
         cpi-refused h = refused 5 (later ∙ rw (seq, prog, h))
 
         module _ (cpi : cpiIn f (cpiStart f) ≡ true) where
+          -- a map that is not where it must be is 7, where all tested before it is
           pub maps-refused : mapsIn f (cpiStart f) ≡ false → Sections.Refused 7 ≡ sectionsOf f
           maps-refused h = refused 6 (later ∙ rw (seq, prog, cpi, h))
 
           module _ (maps : mapsIn f (cpiStart f) ≡ true) where
+            -- marks that pass the file's end are 8, where all tested before them is in it
             pub marks-refused : marksIn f (marksStart f) ≡ false → Sections.Refused 8 ≡ sectionsOf f
             marks-refused h = refused 7 (later ∙ rw (seq, prog, cpi, maps, h))
 
+            -- where no test fails, the rows are counted
             pub all-measured : (a s p t m e : ℕ) → marksIn f (marksStart f) ≡ true → a ≡ length (clipOf f .atcs) → s ≡ length (clipOf f .stcs)
                 → p ≡ length (clipOf f .programs) → t ≡ length (clipOf f .streams) → m ≡ length (clipOf f .maps) → e ≡ length (clipOf f .entries)
                 → Sections.Counts a s p t m e ≡ sectionsOf f
@@ -191,6 +211,7 @@ all-counted f front seq prog cpi maps marks {a} {s} {p} {t} {m} {e} ea es ep et 
 -- ---- what the measure of the entry index says
 
 module _ (f : List ℕ) (c : ℕ) where
+  -- a section that is told to pass the end is not in the file
   pub cpi-past : cpiMeasured f c ≡ CpiMeasured.PastEnd → cpiIn f c ≡ false
   unfolding cpiMeasured mapsMeasured
   cpi-past h = go (cpiIn f c) (mapsIn f c) h
@@ -200,6 +221,7 @@ module _ (f : List ℕ) (c : ℕ) where
       go true true h = let z : _≡_ {A = ℕ} 0 1 = cc in absurd (omega arith)
       go true false h = let z : _≡_ {A = ℕ} 0 1 = cc in absurd (omega arith)
 
+  -- where a map is told to pass it, the section is in the file and not every map is
   pub map-past : cpiMeasured f c ≡ CpiMeasured.MapPastEnd → (cpiIn f c ≡ true) × (mapsIn f c ≡ false)
   unfolding cpiMeasured mapsMeasured
   map-past h = go (cpiIn f c) (mapsIn f c) h
@@ -210,6 +232,7 @@ module _ (f : List ℕ) (c : ℕ) where
       go true true h = let z : _≡_ {A = ℕ} 0 1 = cc in absurd (omega arith)
       go true false h = (refl, refl)
 
+  -- counts are told of a section that is in the file with its maps, and are those of its rows
   pub cpi-counts : (m e : ℕ) → cpiMeasured f c ≡ CpiMeasured.Counts m e → (cpiIn f c ≡ true) × (mapsIn f c ≡ true) × (m ≡ length (mapsFrom f c)) × (e ≡ length (entriesFrom f c))
   unfolding cpiMeasured mapsMeasured
   cpi-counts m e h = go (cpiIn f c) (mapsIn f c) h

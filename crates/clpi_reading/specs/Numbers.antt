@@ -31,6 +31,7 @@ pub record RowsFit (rows : Rows) : Type 0 where
   pub listPrograms : rows .«list_programs» ≤ 66846465
   pub listStreams : rows .«list_streams» ≤ 66846465
 
+-- the counts that an answer tells are so small: the rows needed, or those of all nine tables; a refusal tells none
 abbrev pub CountsFit : Answer → Type 0
 CountsFit (Answer.Refused n) = 0 ≤ 0
 CountsFit (Answer.TooShort k n) = n ≤ 66846465

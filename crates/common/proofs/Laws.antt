@@ -59,6 +59,7 @@ pub record Got (f : List ℕ) (p n v : ℕ) (next : Reader) : Type 0 where
   pub value : v ≡ beAt f p n
   pub behind : next .pos ≡ p + n
 
+-- a read that gives a number gives that of n bytes at p, which are in the file, and the reader stands behind them
 pub got : (f : List ℕ) (p n : ℕ) {v : ℕ} {next : Reader} → Number.Read v next ≡ numberAt f p n → Got f p n v next
 got f p n e =
     let t = picked (leb (p + n) (length f)) (λ e. let z : _≡_ {A = ℕ} 0 1 = cc in omega arith) (sym e) in
@@ -73,6 +74,7 @@ not-got f p n e = leb-false (p + n) (length f) (not-picked (leb (p + n) (length 
 pub reached : (f : List ℕ) {p q : ℕ} → p ≡ q → p ≤ length f → Moved.At (record { pos = p }) ≡ movedTo f q
 reached f {p} e h = rw (← e, le-leb p (length f) h)
 
+-- of a place past the end the answer says so
 pub beyond : (f : List ℕ) (p : ℕ) → length f < p → Moved.PastEnd ≡ movedTo f p
 beyond f p h = rw (lt-leb p (length f) h)
 

@@ -21,9 +21,11 @@ module _ (f : List ℕ) (c : ℕ) where
   unfolding headOf cpiIn hasMaps mapCount
   absent h = rw h
 
+  -- a start of 0 is no section, so there are no maps
   pub head-zero : c ≡ 0 → Head.NoMaps ≡ headOf f c
   head-zero h = absent (rw (eq-eqb c 0 h))
 
+  -- nor is a start at or past the file's end
   pub head-far : length f ≤ c → Head.NoMaps ≡ headOf f c
   head-far h = absent (right-fails (not (eqb c 0)) (le-ltb c (length f) h))
 
@@ -39,19 +41,23 @@ module _ (f : List ℕ) (c : ℕ) where
       unfolding headOf cpiIn
       none h = rw (is-present f c some near, le-leb (cpiEnd f c) (length f) inside, h)
 
+      -- a length below 2 ends before the type does, so there are no maps
       pub head-two : cpiLength f c < 2 → Head.NoMaps ≡ headOf f c
       unfolding hasMaps
       head-two h = none (rw (is-present f c some near, lt-leb 2 (cpiLength f c) h))
 
+      -- a section of another type than 1 has no maps
       pub head-type : 2 ≤ cpiLength f c → (cpiType f c ≡ 1 → ⊥) → Head.NoMaps ≡ headOf f c
       unfolding hasMaps
       head-type h t = none (rw (is-present f c some near, le-leb 2 (cpiLength f c) h, ne-eqb (cpiType f c) 1 t))
 
+      -- a length below 4 ends before the count of maps, so there are none
       pub head-four : 2 ≤ cpiLength f c → cpiType f c ≡ 1 → cpiLength f c < 4 → Head.NoMaps ≡ headOf f c
       unfolding hasMaps
       head-four h t l = none (rw (is-present f c some near, le-leb 2 (cpiLength f c) h, eq-eqb (cpiType f c) 1 t, lt-leb 4 (cpiLength f c) l))
 
       module _ (one : cpiType f c ≡ 1) (four : 4 ≤ cpiLength f c) where
+        -- a section of type 1 whose length is at least 4 has a count of maps
         pub has-maps : hasMaps f c ≡ true
         unfolding hasMaps
         has-maps = rw (is-present f c some near, le-leb 2 (cpiLength f c) (omega arith), eq-eqb (cpiType f c) 1 one, le-leb 4 (cpiLength f c) four)
@@ -62,6 +68,7 @@ module _ (f : List ℕ) (c : ℕ) where
         head-headers h =
             rw (is-present f c some near, le-leb (cpiEnd f c) (length f) inside, has-maps, lt-leb (c + 8 + 12 * beAt f (c + 7) 1) (length f) h)
 
+        -- of headers within the file the count is told, and where the section ends
         pub head-maps : c + 8 + 12 * beAt f (c + 7) 1 ≤ length f → Head.Maps (beAt f (c + 7) 1) (cpiEnd f c) ≡ headOf f c
         unfolding headOf cpiIn mapCount
         head-maps h =

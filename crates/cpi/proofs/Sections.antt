@@ -23,22 +23,26 @@ use Rattle.cpi.specs.declared.maps.Measured.{Measured}
 -- ---- one map, test by test
 
 module _ (f : List ℕ) (c p : ℕ) where
+  -- a map whose body begins at the section's end or behind it is past the end
   pub address-past : cpiEnd f c ≤ bodyAt f c p → MapRows.PastEnd ≡ mapRows f c p
   unfolding mapRows
   address-past h = rw (le-ltb (bodyAt f c p) (cpiEnd f c) h)
 
   module _ (address : bodyAt f c p < cpiEnd f c) where
+    -- so is one whose coarse rows pass the file's end
     pub coarse-past : length f < bodyAt f c p + 4 + 8 * coarseCountAt f p → MapRows.PastEnd ≡ mapRows f c p
     unfolding mapRows
     coarse-past h = rw (lt-ltb (bodyAt f c p) (cpiEnd f c) address, lt-leb (bodyAt f c p + 4 + 8 * coarseCountAt f p) (length f) h)
 
     module _ (coarse : bodyAt f c p + 4 + 8 * coarseCountAt f p ≤ length f) where
+      -- so is one whose fine rows begin behind the section's end
       pub fine-address-past : cpiEnd f c < fineStart f c p → MapRows.PastEnd ≡ mapRows f c p
       unfolding mapRows
       fine-address-past h =
           rw (lt-ltb (bodyAt f c p) (cpiEnd f c) address, le-leb (bodyAt f c p + 4 + 8 * coarseCountAt f p) (length f) coarse, lt-leb (fineStart f c p) (cpiEnd f c) h)
 
       module _ (fine : fineStart f c p ≤ cpiEnd f c) where
+        -- so is one whose fine rows pass the file's end
         pub fine-past : length f < fineStart f c p + 4 * fineCountAt f p → MapRows.PastEnd ≡ mapRows f c p
         unfolding mapRows
         fine-past h =
@@ -49,6 +53,7 @@ module _ (f : List ℕ) (c p : ℕ) where
               lt-leb (fineStart f c p + 4 * fineCountAt f p) (length f) h,
             )
 
+        -- else it has an entry for each fine row
         pub map-fits : fineStart f c p + 4 * fineCountAt f p ≤ length f → MapRows.Entries (fineCountAt f p) ≡ mapRows f c p
         unfolding mapRows
         map-fits h =
@@ -68,6 +73,7 @@ map-said f c p n e = go (mapIn f c p) e
     go true e = (refl, cc)
     go false e = let z : _≡_ {A = ℕ} 0 1 = cc in absurd (omega arith)
 
+-- a map that is told to be past the end is not where it must be
 pub map-refused : (f : List ℕ) (c p : ℕ) → mapRows f c p ≡ MapRows.PastEnd → mapIn f c p ≡ false
 unfolding mapRows
 map-refused f c p e = go (mapIn f c p) e
@@ -85,6 +91,7 @@ pub record Counting (f : List ℕ) (c count entries k : ℕ) : Type 0 where
   pub still : entries + total entryCount (rowsAt (mapAt f) nextMap (c + 8 + 12 * k) (count - k)) ≡ length (entriesFrom f c)
 
 module _ (f : List ℕ) (c count : ℕ) (counted : count ≡ mapCount f c) where
+  -- before the first turn all maps are left and no entry is counted
   pub counting-first : Counting f c count 0 0
   unfolding mapsIn entriesFrom
   counting-first =
@@ -94,9 +101,11 @@ module _ (f : List ℕ) (c count : ℕ) (counted : count ≡ mapCount f c) where
       record { few = omega arith; decide = rw (p, n); still = rw (p, n) (omega (arith, adds)) }
 
   module _ (entries k : ℕ) (i : Counting f c count entries k) where
+    -- the next header stands 12 bytes on
     next-at : c + 8 + 12 * k + 12 ≡ c + 8 + 12 * (k + 1)
     next-at = omega arith
 
+    -- a turn: the entries of a map that is in the file are counted
     pub counting-next : (n : ℕ) → k < count → mapRows f c (c + 8 + 12 * k) ≡ MapRows.Entries n → Counting f c count (entries + n) (k + 1)
     counting-next n h e =
         let m = map-said f c (c + 8 + 12 * k) n e in
@@ -107,12 +116,14 @@ module _ (f : List ℕ) (c count : ℕ) (counted : count ≡ mapCount f c) where
         let is = m .1 in
         record { few = omega arith; decide = d; still = omega arith }
 
+    -- a turn: one map past the end decides for all
     pub counting-bad : k < count → mapRows f c (c + 8 + 12 * k) ≡ MapRows.PastEnd → Measured.MapPastEnd ≡ mapsMeasured f c
     unfolding mapsMeasured
     counting-bad h e =
         let d = rw (one-left count k h, map-refused f c (c + 8 + 12 * k) e) at (i .decide) in
         rw (← d)
 
+    -- after the last turn every map is in the file and every entry is counted
     pub counting-done : count ≤ k → Measured.Counts count entries ≡ mapsMeasured f c
     unfolding mapsMeasured mapsFrom
     counting-done h =
@@ -125,10 +136,12 @@ module _ (f : List ℕ) (c count : ℕ) (counted : count ≡ mapCount f c) where
 -- ---- the section
 
 module _ (f : List ℕ) (c : ℕ) where
+  -- where there are maps, there is a section
   present-of : hasMaps f c ≡ true → present f c ≡ true
   unfolding hasMaps
   present-of q = both-true q .0
 
+  -- without maps both counts are 0
   no-maps : hasMaps f c ≡ false → Measured.Counts 0 0 ≡ mapsMeasured f c
   unfolding mapsMeasured mapsIn mapsFrom entriesFrom mapCount
   no-maps h = rw h
@@ -153,6 +166,7 @@ module _ (f : List ℕ) (c : ℕ) where
           let m : c + 8 + 12 * mapCount f c ≤ length f = leb-true (c + 8 + 12 * mapCount f c) (length f) (rw q at r) in
           (refl, record { small = small; counted = is-n ∙ sym count; end-is = is-e; end-in = omega arith; headers = omega arith })
 
+  -- where the head tells of no maps, both counts of the section are 0
   pub head-none : headOf f c ≡ Head.NoMaps → Measured.Counts 0 0 ≡ measured f c
   unfolding headOf measured
   head-none h = go (cpiIn f c) (hasMaps f c) refl h
@@ -163,6 +177,7 @@ module _ (f : List ℕ) (c : ℕ) where
       go true true q h = let z : _≡_ {A = ℕ} 0 1 = cc in absurd (omega arith)
       go false m q h = let z : _≡_ {A = ℕ} 0 1 = cc in absurd (omega arith)
 
+  -- where the head is past the end, so is the section
   pub head-refused : headOf f c ≡ Head.PastEnd → Measured.PastEnd ≡ measured f c
   unfolding headOf measured
   head-refused h = go (cpiIn f c) (hasMaps f c) h
@@ -173,6 +188,7 @@ module _ (f : List ℕ) (c : ℕ) where
       go true false h = let z : _≡_ {A = ℕ} 0 1 = cc in absurd (omega arith)
       go false m h = refl
 
+  -- of a section that is in the file the maps decide
   pub maps-then : {r : Measured} → cpiIn f c ≡ true → r ≡ mapsMeasured f c → r ≡ measured f c
   unfolding measured
   maps-then h e = e ∙ rw h

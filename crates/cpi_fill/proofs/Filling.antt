@@ -35,6 +35,7 @@ own-bytes f c p = table-bytes 5 (own-cells f c p) ∙ ap (λ (n : ℕ). 20 * n) 
 
 -- ---- one map's row
 
+-- a row stored from the numbers that were read is the map's
 pub map-stored : (f t : List ℕ) (p at pid type n : ℕ) {t′ : List ℕ} → pid ≡ beAt f p 2 → type ≡ mapTypeAt f p → n ≡ fineCountAt f p
     → t′ ≡ sets t at (rowBytes (pid ∷ type ∷ n ∷ [])) → t′ ≡ sets t at (rowBytes (mapAt f p))
 map-stored f t p at pid type n a b d e = e ∙ rw (a, b, d)
@@ -63,9 +64,11 @@ filling-first f c count maps₀ entries₀ fill =
     }
 
 module _ {f : List ℕ} {c count : ℕ} {maps₀ entries₀ maps entries : List ℕ} {at k : ℕ} (i : Filling f c count maps₀ entries₀ maps entries at k) where
+  -- where the header of map k stands
   abbrev q : ℕ
   q = c + 8 + 12 * k
 
+  -- the next one stands 12 bytes on
   next-at : q + 12 ≡ c + 8 + 12 * (k + 1)
   next-at = omega arith
 

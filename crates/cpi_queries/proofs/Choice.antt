@@ -39,6 +39,7 @@ kind-asked t kind =
     row-answers (epMapByKind kind) (onlyMaps t) of.maps mapCells 1 0 (Test.Kind (kind % 16)) t refl refl
     (through (λ y. y % 16) (λ y. eqb y (kind % 16)) mapType 0 (rowsOf mapCells t))
 
+-- the search of a video type from a row on is the question for the next video map
 pub video-asked : (t : Table) (from : ℕ) → askRow mapCells 1 from Test.VideoMap t ≡ ask (nextVideoEpMap from) (onlyMaps t)
 unfolding answer clipIn
 video-asked t from =
@@ -52,6 +53,7 @@ pub data Least : Best → ℕ → ℕ → Type 0 where
   no-row : Least nothing 0 far
   a-row : (k x : ℕ) → x < far → Least (best k x) k x
 
+-- of two PIDs the lesser one is better
 abbrev less : ℕ → ℕ → Bool
 less y z = ltb y z
 
@@ -82,9 +84,11 @@ module _ (t : List ℕ) (n : ℕ) where
     pub says : Least so-far (s .row) (s .distance)
     pub rest : bestOf (λ y. true) less k (map mapPid (rowsLeft mapCells t n k)) so-far ≡ bestOf (λ y. true) less 0 (map mapPid (tableRows mapCells t n)) nothing
 
+  -- before the first turn nothing is least and all rows are left
   pub pids-first : {s : Nearest} → s ≡ noneYet → Pids 0 s
   pids-first e = rw e (record { so-far = nothing; says = Least.no-row; rest = rw (left-all mapCells t n) })
 
+  -- a row with a lesser PID takes over, so among equals the earliest stays
   pub pids-turn : (k : ℕ) (s : Nearest) {x : ℕ} {r : Nearest} → k < n → CellIs t (12 * k) x → r ≡ pick (ltb x (s .distance)) (record { row = k; distance = x }) s → Pids k s → Pids (k + 1) r
   pids-turn k s {x} h c chose i =
       let is : x ≡ mapPid (cellsAt t mapCells (4 * mapCells * k)) = row-cell t mapCells (4 * mapCells * k) 0 (lit< tt) (omega arith) (c .same) in
@@ -99,6 +103,7 @@ module _ (t : List ℕ) (n : ℕ) where
   least-or Least.no-row h = refl
   least-or (Least.a-row k x xb) h = absurd (omega arith)
 
+  -- a number that is not far is that of a row
   least-row : {b : Best} {row d : ℕ} → Least b row d → (d ≡ far → ⊥) → number row ≡ rowOr none b
   least-row Least.no-row h = absurd (h refl)
   least-row (Least.a-row k x xb) h = refl
@@ -108,9 +113,11 @@ module _ (t : List ℕ) (n : ℕ) where
     done : i .so-far ≡ bestOf (λ y. true) less 0 (map mapPid (tableRows mapCells t n)) nothing
     done = rw (left-done mapCells t n k h) at (i .rest)
 
+    -- where nothing was found, there is none
     pub no-pid : s .distance ≡ far → none ≡ leastPid (map mapPid (tableRows mapCells t n))
     no-pid e = least-or (i .says) e ∙ ap (rowOr none) done
 
+    -- else the row that was found has the least PID
     pub pid-is : (s .distance ≡ far → ⊥) → number (s .row) ≡ leastPid (map mapPid (tableRows mapCells t n))
     pid-is e = least-row (i .says) e ∙ ap (rowOr none) done
 
@@ -120,6 +127,7 @@ module _ (t : List ℕ) (n : ℕ) where
 pub else-found : {a : Answer} {k : ℕ} (later : Answer) → number k ≡ a → number k ≡ orElse a later
 else-found later e = rw (← e)
 
+-- a refusal stands too
 pub else-refused : {a : Answer} {n : ℕ} (later : Answer) → refused n ≡ a → refused n ≡ orElse a later
 else-refused later e = rw (← e)
 
@@ -138,11 +146,12 @@ choice t = go (isStated mapCells t)
     go true = refl
     go false = refl
 
--- where none of type 8 is found, the rows are there
+-- what answers none behind the test of 22 has passed it
 none-through : (b : Bool) (x : Answer) → none ≡ unless22 b x → b ≡ true
 none-through true x h = refl
 none-through false x h = let z : _≡_ {A = ℕ} 0 1 = cc in absurd (omega arith)
 
+-- an answer of none has passed the test of 22, so the stated maps are in their table
 pub maps-there : (t : Table) → none ≡ ask (epMapByKind 8) (onlyMaps t) → t .rows ≤ rowRoom mapCells (t .bytes)
 unfolding ask
 maps-there t h =
@@ -172,6 +181,7 @@ module _ (side : Bool) (at : ℕ) (maps entries : Table) where
       go true = refl
       go false = refl
 
+  -- a refusal of the choice is one of the packet's question too
   pub not-there : {n : ℕ} → refused n ≡ ask primaryVideoEpMap (onlyMaps maps) → refused n ≡ ask (primarySeekQuestion side at) (mapsAndEntries maps entries)
   unfolding ask answer clipIn
   not-there {n} h =
@@ -181,6 +191,7 @@ module _ (side : Bool) (at : ℕ) (maps entries : Table) where
   -- ---- without maps
 
   module _ (h : none ≡ ask primaryVideoEpMap (onlyMaps maps)) where
+    -- none behind a test: the test passes, and the answer behind it is none
     none-of : (b : Bool) (x : Answer) → none ≡ unless22 (both b true) x → (b ≡ true) × (x ≡ none)
     none-of true x e = (refl, sym e)
     none-of false x e = let z : _≡_ {A = ℕ} 0 1 = cc in absurd (omega arith)
@@ -197,6 +208,7 @@ module _ (side : Bool) (at : ℕ) (maps entries : Table) where
     unfolding tableRows
     entry-rows = rows-length (cellsAt (entries .bytes) entryCells) (λ p. p + 4 * entryCells) 0 (entries .rows)
 
+    -- 22 behind a test is 22 whether or not the test passes
     refused-too : (b : Bool) → refused 22 ≡ unless22 (both b true) (refused 22)
     refused-too true = refl
     refused-too false = refl
@@ -224,6 +236,7 @@ module _ (side : Bool) (at : ℕ) (maps entries : Table) where
         let t = through-test (both (isStated mapCells maps) true) (primaryMap (rowsOf mapCells maps)) h in
         (both-true (t .0) .0, t .1)
 
+    -- its number is below that of the rows stated
     pub map-below : k < maps .rows
     unfolding tableRows
     map-below =
@@ -235,6 +248,7 @@ module _ (side : Bool) (at : ℕ) (maps entries : Table) where
     unfolding ask
     seek-by-tests = let a = seek-asks maps entries k side at in rw (a .two, a .asks)
 
+    -- a test beside one that always passes is that test
     both-alone : (b : Bool) → both b true ≡ b
     both-alone true = refl
     both-alone false = refl

@@ -46,6 +46,7 @@ module _ (refusal : ℕ) (c : Clip) (out : List ℕ) where
 
 -- ---- the length that is told
 
+-- the length that is told has 32 bits: it is the one needed, or 0 beside a refusal
 narrow-by : (b d : Bool) (refusal needed : ℕ) → (b ≡ true → needed < 2 ^ 32) → bytesIn (pick b (pick d (written needed) (tooShort needed)) (refused refusal)) < 2 ^ 32
 narrow-by false d refusal needed h = omega arith
 narrow-by true true refusal needed h = h refl

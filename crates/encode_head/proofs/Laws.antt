@@ -33,6 +33,7 @@ zeros-turn at n k l h e f =
     let all : bytesOf (n - k) 0 ≡ bytesOf 1 0 ++ bytesOf (n - (k + 1)) 0 = ap (λ (m : ℕ). bytesOf m 0) (one-left n k h) ∙ zeros-more (n - (k + 1)) in
     rw (← add-assoc at k 1) (put-more l (at + k) 1 (bytesOf 1 0) (bytesOf (n - (k + 1)) 0) (bytes-length 1 0) e (rw all at f))
 
+-- after the last turn none is left
 pub zeros-done : (at n k : ℕ) (l : List ℕ) {whole : List ℕ} → n ≤ k → sets l (at + k) (bytesOf (n - k) 0) ≡ whole → l ≡ whole
 unfolding bytesOf
 zeros-done at n k l h f =

@@ -7,6 +7,7 @@ use Rattle.format.specs.ClipRecord.{clpi, Scalars}
 abbrev pub headerWidths : List ℕ
 headerWidths = 4 ∷ 4 ∷ 4 ∷ 4 ∷ 4 ∷ 4 ∷ 4 ∷ 12 ∷ []
 
+-- what stands in these fields: the sequences are at 220, and there are no extensions
 abbrev pub headerNumbers : (version programs cpi marks : ℕ) → List ℕ
 headerNumbers version programs cpi marks = clpi ∷ version ∷ 220 ∷ programs ∷ cpi ∷ marks ∷ 0 ∷ 0 ∷ []
 
@@ -14,6 +15,7 @@ headerNumbers version programs cpi marks = clpi ∷ version ∷ 220 ∷ programs
 abbrev pub formatWidths : List ℕ
 formatWidths = 1 ∷ 1 ∷ 4 ∷ 26 ∷ []
 
+-- what stands in these fields, with zeros in the spare bytes
 abbrev pub formatNumbers : Scalars → List ℕ
 formatNumbers s = s .validityFlags ∷ 0 ∷ s .formatId ∷ 0 ∷ []
 
@@ -21,6 +23,7 @@ formatNumbers s = s .validityFlags ∷ 0 ∷ s .formatId ∷ 0 ∷ []
 abbrev pub infoWidths : List ℕ
 infoWidths = 4 ∷ 2 ∷ 1 ∷ 1 ∷ 4 ∷ 4 ∷ 4 ∷ 128 ∷ formatWidths
 
+-- what stands in these fields, with zeros where the record holds nothing
 abbrev pub infoNumbers : Scalars → List ℕ
 infoNumbers s =
     176 ∷ 0 ∷ s .streamType ∷ s .applicationType ∷ 0 ∷ s .rate ∷ s .packets ∷ 0 ∷ formatNumbers s

@@ -212,6 +212,7 @@ module _ (t : List ℕ) (p n : ℕ) (o₀ : List ℕ) (fine : ℕ) where
   -- ---- the first entry, which begins a run
 
   module _ (some : 0 < n) (o : List ℕ) (to k pair : ℕ) (i : Turning o to k pair) (last : k ≡ 0) where
+    -- the rows behind the first entry are stored
     one-left : Stored o to 1
     one-left = subst (λ (x : ℕ). Stored o to (suc x)) last (i .stored)
 

@@ -24,10 +24,12 @@ pub place-programs : (c : Clip) → programsPlace c ≡ 220 + length (sequencesB
 unfolding programsPlace
 place-programs c = refl
 
+-- the CPI stands behind the programs
 pub place-cpi : (c : Clip) → cpiPlace c ≡ programsPlace c + length (programsBytes c)
 unfolding cpiPlace
 place-cpi c = refl
 
+-- the marks stand behind the CPI
 pub place-marks : (c : Clip) → marksPlace c ≡ cpiPlace c + length (cpiBytes c)
 unfolding marksPlace
 place-marks c = refl
@@ -81,6 +83,7 @@ pub record InOrder (programs cpi marks bytes : ℕ) : Type 0 where
   pub narrow : marks < 2 ^ 32
   pub room : marks + 6 ≤ bytes
 
+-- the places of a short file are in order
 pub placed-order : (c : Clip) {programs cpi marks bytes : ℕ} → marksPlace c + 6 ≤ 402515706 → Placed c programs cpi marks bytes → InOrder programs cpi marks bytes
 placed-order c short at = record {
   head = omega (arith, at .programs-at, place-programs c);

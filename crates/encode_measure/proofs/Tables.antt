@@ -37,6 +37,7 @@ pub record Passed (l : ClipTables) : Type 0 where
   pub fit : cellsFit (clipIn l) ≡ true
   pub runs-fit : runsFit (clipIn l) ≡ true
 
+-- a record that is not refused has passed them
 pub all-passed : (l : ClipTables) → refusalIn l ≡ 0 → Passed l
 all-passed l h =
     let p0 = passed (pairsCounted l) 21 (unless (cellsFit (clipIn l)) 30 (unless (runsFit (clipIn l)) 31 0)) (sym (refusal-is l) ∙ h) in
@@ -44,6 +45,7 @@ all-passed l h =
     let p2 = passed (runsFit (clipIn l)) 30 0 (p1 .1) in
     record { counted = p0 .0; fit = p1 .0; runs-fit = p2 .0 }
 
+-- a record that passes them is not refused
 pub none-refused : (l : ClipTables) → Passed l → refusalIn l ≡ 0
 none-refused l p = refusal-is l ∙ rw (p .counted, p .fit, p .runs-fit)
 
@@ -152,31 +154,37 @@ module _ (l : ClipTables) where
       let third = counts 2 entryCells (l .maps) (l .entries) (pairs h .1 .1) in
       ((first .heads-there, first .rows-there), ((second .heads-there, second .rows-there), third .heads-there))
 
+  -- the ATCs and STCs are there, and the counts add up
   pub sequences-counted : pairsCounted l ≡ true → sections.Counted Section.Sequences (l .atcs .bytes) (l .atcs .rows) (l .stcs .bytes) (l .stcs .rows)
   sequences-counted h =
       let is = counts 1 stcCells (l .atcs) (l .stcs) (pairs h .0) in
       record { heads-there = is .heads-there; rows-there = is .rows-there; adds = is .adds }
 
+  -- the programs and streams are there, and the counts add up
   pub programs-counted : pairsCounted l ≡ true → sections.Counted Section.Programs (l .programs .bytes) (l .programs .rows) (l .streams .bytes) (l .streams .rows)
   programs-counted h =
       let is = counts 2 streamCells (l .programs) (l .streams) (pairs h .1 .0) in
       record { heads-there = is .heads-there; rows-there = is .rows-there; adds = is .adds }
 
+  -- a length measured from the tables of ATCs and STCs is that of the record's sequences
   pub sequences-long : {n : ℕ} → n ≡ length (sections.sectionIn Section.Sequences (l .atcs .bytes) (l .atcs .rows) (l .stcs .bytes) (l .stcs .rows))
       → n ≡ length (sequencesBytes (clipIn l))
   unfolding clipIn
   sequences-long is = is ∙ ap length (sym (sequences-are (clipIn l)))
 
+  -- a length measured from the tables of programs and streams is that of the record's programs
   pub programs-long : {n : ℕ} → n ≡ length (sections.sectionIn Section.Programs (l .programs .bytes) (l .programs .rows) (l .streams .bytes) (l .streams .rows))
       → n ≡ length (programsBytes (clipIn l))
   unfolding clipIn
   programs-long is = is ∙ ap length (sym (programs-are (clipIn l)))
 
+  -- the maps and entries are there
   pub cpi-there : pairsCounted l ≡ true → cpi.BothThere (l .maps .bytes) (l .maps .rows) (l .entries .bytes) (l .entries .rows)
   cpi-there h =
       let is = counts 2 entryCells (l .maps) (l .entries) (pairs h .1 .1) in
       record { maps-there = is .heads-there; entries-there = is .rows-there }
 
+  -- the maps count as many entries as there are, and are few enough and fit their fields
   pub cpi-counted : pairsCounted l ≡ true → fieldsOf ≡ true → cpi.Counted (cpi.mapRows (l .maps .bytes) (l .maps .rows)) (cpi.entryRows (l .entries .bytes) (l .entries .rows))
   unfolding isCounted
   cpi-counted h fields =
@@ -186,6 +194,7 @@ module _ (l : ClipTables) where
       let counted = both-true {a = stated} (pairs h .1 .1) in
       record { add = counted .1; few = maps .0; fit = maps .1 }
 
+  -- maps and entries that pass all tests can be written
   pub cpi-writable : Passed l → cpi.Writable (cpi.mapRows (l .maps .bytes) (l .maps .rows)) (cpi.entryRows (l .entries .bytes) (l .entries .rows))
   unfolding clipIn runsFit
   cpi-writable p =
@@ -194,6 +203,7 @@ module _ (l : ClipTables) where
 
   -- ---- what storing each section asks, in an output of so many bytes
 
+  -- the sequences can be stored from 220 up to the programs
   pub sequences-storable : (at : Places) (out : List ℕ) → Ready l at (length out)
       → sections.Storable Section.Sequences (l .atcs .bytes) (l .atcs .rows) (l .stcs .bytes) (l .stcs .rows) (at .programs - 220) out 220
   sequences-storable at out r =
@@ -207,6 +217,7 @@ module _ (l : ClipTables) where
         room = omega (arith, told .programs-at, told .room, told .marks-at, place-programs c, place-cpi c, place-marks c);
       }
 
+  -- the programs can be stored from their place up to the CPI
   pub programs-storable : (at : Places) (out : List ℕ) → Ready l at (length out)
       → sections.Storable Section.Programs (l .programs .bytes) (l .programs .rows) (l .streams .bytes) (l .streams .rows) (at .cpi - at .programs) out (at .programs)
   programs-storable at out r =
@@ -220,6 +231,7 @@ module _ (l : ClipTables) where
         room = omega (arith, told .programs-at, told .cpi-at, told .room, told .marks-at, place-programs c, place-cpi c, place-marks c);
       }
 
+  -- the CPI can be stored from its place up to the marks
   pub cpi-storable : (at : Places) (bytes : ℕ) → Ready l at bytes
       → cpi.CpiRoom (l .maps .bytes) (l .maps .rows) (l .entries .bytes) (l .entries .rows) (at .marks - at .cpi) bytes (at .cpi)
   unfolding clipIn cpiBytes
@@ -237,14 +249,17 @@ module _ (l : ClipTables) where
 
   -- ---- the sections as parts of the file
 
+  -- the section made of the tables of ATCs and STCs is the record's
   pub sequences-in : sections.sectionIn Section.Sequences (l .atcs .bytes) (l .atcs .rows) (l .stcs .bytes) (l .stcs .rows) ≡ sequencesBytes (clipIn l)
   unfolding clipIn
   sequences-in = sym (sequences-are (clipIn l))
 
+  -- so is that made of the tables of programs and streams
   pub programs-in : sections.sectionIn Section.Programs (l .programs .bytes) (l .programs .rows) (l .streams .bytes) (l .streams .rows) ≡ programsBytes (clipIn l)
   unfolding clipIn
   programs-in = sym (programs-are (clipIn l))
 
+  -- so is that made of the tables of maps and entries
   pub cpi-in : cpiBytesBy (cpi.mapRows (l .maps .bytes) (l .maps .rows)) (cpi.entryRows (l .entries .bytes) (l .entries .rows)) ≡ cpiBytes (clipIn l)
   unfolding clipIn cpiBytes
   cpi-in = refl

@@ -44,18 +44,22 @@ places-by refusal c e p q m = rw (e, p, q, m)
 told-refused : (b : Bool) (at : Places) (r : ℕ) {n : ℕ} → pick b (Measured.Places at) (Measured.Refused r) ≡ Measured.Refused n → (b ≡ false) × (r ≡ n)
 told-refused b at r h = let p = not-picked b (λ e. let z : _≡_ {A = ℕ} 0 1 = cc in omega arith) h in (p .0, cc (p .1))
 
+-- places that are told are those that were given
 told-placed : (b : Bool) (at : Places) (r : ℕ) {at′ : Places} → pick b (Measured.Places at) (Measured.Refused r) ≡ Measured.Places at′ → (b ≡ true) × (at′ ≡ at)
 told-placed b at r h = let p = picked b (λ e. let z : _≡_ {A = ℕ} 0 1 = cc in omega arith) h in (p .0, cc (p .1))
 
 module _ (refusal : ℕ) (c : Clip) {m : Measured} (is : m ≡ measuredBy refusal c) where
+  -- a refusal that is told is the record's, and is not 0
   pub refused-told : {n : ℕ} → m ≡ Measured.Refused n → (eqb refusal 0 ≡ false) × (refusal ≡ n)
   unfolding measuredBy
   refused-told told = told-refused (eqb refusal 0) (placesOf c) refusal (sym is ∙ told)
 
+  -- where places are told, there is no refusal
   pub none-told : {at : Places} → m ≡ Measured.Places at → refusal ≡ 0
   unfolding measuredBy
   none-told told = eqb-true refusal 0 (told-placed (eqb refusal 0) (placesOf c) refusal (sym is ∙ told) .0)
 
+  -- they are the places of the record's sections, where the output has room
   pub placed-told : {at : Places} (bytes : ℕ) → m ≡ Measured.Places at → at .marks + 6 ≤ bytes → Placed c (at .programs) (at .cpi) (at .marks) bytes
   unfolding measuredBy
   placed-told bytes told h =

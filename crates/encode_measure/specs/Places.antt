@@ -26,12 +26,15 @@ pairsCounted l =
 unfoldable pub programsPlace : Clip → ℕ
 programsPlace c = 220 + length (sequencesBytes c)
 
+-- the CPI is behind the programs
 unfoldable pub cpiPlace : Clip → ℕ
 cpiPlace c = programsPlace c + length (programsBytes c)
 
+-- the marks are behind the CPI
 unfoldable pub marksPlace : Clip → ℕ
 marksPlace c = cpiPlace c + length (cpiBytes c)
 
+-- the three places as the code holds them
 abbrev pub placesOf : Clip → Places
 placesOf c = record { programs = programsPlace c; cpi = cpiPlace c; marks = marksPlace c }
 

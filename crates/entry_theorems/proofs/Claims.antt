@@ -9,6 +9,7 @@ use ghost.Atoms.{Atoms}
 use contract.Monad.{Fun}
 use Rattle.entry_theorems.specs.Claims.{Claimed}
 
+-- each contract, written out, is the claim that the specification has for it
 pub claimed : {M : Type 1} (𝓤 : URA M) (H : Heap 𝓤) (A : Atoms 𝓤) (mem : Memory → SProp 𝓤) (run : Routine → Fun 𝓤) → Claimed 𝓤 H A mem run
 claimed 𝓤 H A mem run = record {
   entry_point_at_or_before = λ κs s t g r. (refl, refl);

@@ -18,6 +18,7 @@ back ns = record { refusal = getD ns 0 0; found = getD ns 1 0; value = getD ns 2
 same-result : {a b : Answer} {x y : ClpiAnswer} → Tells x a → a ≡ b → Tells y b → x ≡ y
 same-result hx e hy = ap back (hx ∙ ap (λ (z : Answer). answerNumbers z) e ∙ sym hy)
 
+-- the answers of tables and records are equal by `forms-alike`, so the results are too
 pub same-results : SameResults
 same-results = record {
   entry_point_at_or_before = λ x es r h told. let b = behind (behind (x .arguments)) in same-result (x .allowed) (forms-alike (tableOf (x .arguments)) (tableOf (behind (x .arguments))) (b .0) es h .at-or-before-is (b .1 .0)) told;

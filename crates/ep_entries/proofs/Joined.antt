@@ -99,6 +99,7 @@ module _ (f : List ℕ) (type time packet fine end k : ℕ) where
 pub fine-time-below : (word : ℕ) (r : FineRow) → r ≡ fineOf (unpacked fineWidths word) → r .time < 2 ^ 11
 fine-time-below word r e = rw e (omega arith)
 
+-- a fine row's packet field is of 17 bits
 pub fine-packet-below : (word : ℕ) (r : FineRow) → r ≡ fineOf (unpacked fineWidths word) → r .packet < 2 ^ 17
 fine-packet-below word r e = rw e (omega arith)
 

@@ -18,6 +18,7 @@ pub next-some : (f : List ℕ) (p n : ℕ) → (n ≡ 0 → ⊥) → firstFine (
 unfolding nextFirst
 next-some f p n h = rw (ne-eqb n 0 h)
 
+-- with no row left the number is 262144, more than any fine row has
 pub next-none : (f : List ℕ) (p n : ℕ) → n ≡ 0 → 262144 ≡ nextFirst f p n
 unfolding nextFirst
 next-none f p n h = rw (eq-eqb n 0 h)
@@ -27,6 +28,7 @@ some-left : (f : List ℕ) (p n k : ℕ) → nextFirst f p n ≤ k → k < 26214
 some-left f p zero k h b = let e = next-none f p 0 refl in absurd (omega arith)
 some-left f p (suc n) k h b = omega arith
 
+-- rows, where there are some, are one and the rest behind it
 one-more : (n : ℕ) → 0 < n → n ≡ suc (n - 1)
 one-more n h = omega arith
 
@@ -112,9 +114,11 @@ walk-none f p n w z r e =
 
 -- ---- a coarse row that was read
 
+-- fields unpacked from the eight bytes at p are those of the coarse row there
 pub coarse-read : (f : List ℕ) (p w : ℕ) (r : CoarseRow) → w ≡ beAt f p 8 → r ≡ coarseOf (unpacked coarseWidths w) → r ≡ coarseOf (coarseAt f p)
 coarse-read f p w r e h = h ∙ rw e
 
+-- its time and packet, and the first fine row of the next one, make the walk at that row
 pub walk-is : (f : List ℕ) (p n nx : ℕ) (r : CoarseRow) → r ≡ coarseOf (coarseAt f p) → nx ≡ nextFirst f (p + 8) (n - 1)
     → record { time = r .time; packet = r .packet; behind = p + 8; left = n - 1; next = nx } ≡ walkAt f p n
 unfolding walkAt
@@ -127,9 +131,11 @@ pub record Walking (f : List ℕ) (k : ℕ) (from w : Walk) : Type 0 where
   pub steps : Steps f w
   pub still : (coarse : List Row) → IsWalk f coarse k from → IsWalk f coarse k w
 
+-- before the first turn the walk is the one that the loop starts from
 pub walking-first : (f : List ℕ) (k : ℕ) (w : Walk) → Steps f w → Walking f k w w
 walking-first f k w s = record { steps = s; still = λ coarse i. i }
 
+-- a step to a row that is reached keeps what holds
 pub walking-on : (f : List ℕ) (k : ℕ) (from w : Walk) {w′ : Walk} → Walking f k from w → w .next ≤ k → k < 262144
     → w′ ≡ walkAt f (w .behind) (w .left) → Walking f k from w′
 walking-on f k from w g h b e =
@@ -141,5 +147,6 @@ pub walking-less : (f : List ℕ) (k : ℕ) (w : Walk) {w′ : Walk} → Steps f
 unfolding walkAt
 walking-less f k w s h b e = let on = steps-on f k w s h b in rw e (omega arith)
 
+-- where the next row is not reached yet the walk is right for fine row k, and the loop is done
 pub walking-done : (f : List ℕ) (k : ℕ) (from w : Walk) → Walking f k from w → k < w .next → Reached f k from w
 walking-done f k from w g h = record { reached = g .still; beyond = h }

@@ -45,6 +45,7 @@ use Rattle.ep_entry_queries.proofs.look_up as look-up
 use Rattle.ep_entry_queries.proofs.look_up.Symbol.{name as #look-up}
 use Rattle.ep_entry_queries.proofs.entry_point_at_or_before as one
 
+-- the type of the result
 abbrev FR : RattleType
 FR = F.the-row
 
@@ -52,6 +53,7 @@ FR = F.the-row
 abbrev ended : Ended
 ended = one.ended
 
+-- at the end both parameters are still owned, as they were passed
 abbrev stayed : Stays (ended .signature .params) (ended .kept)
 stayed = (stay-none-slice (0 ∷ []) tt (plain (λ _. R)) yes, (stay-none (λ _. u32) yes, tt))
 
@@ -85,6 +87,7 @@ module _ {M : Type 1} (𝓤 : URA M) where
   }
 
 module _ {M : Type 1} (𝓤 : URA M) (H : Heap 𝓤) (A : Atoms 𝓤) (W : Given 𝓤 H A) (mem : Memory → SProp 𝓤) (run : Routine → Fun 𝓤) (side isPacket : Bool) (κ : Lft) (q : Share) (s : RefT (List EpEntry)) (t : ℕ) where
+  -- the lent row as a machine value, the arguments and their machine values, and what a walk from them must end in
   abbrev v : Val
   v = sliceVal (s .ptr) (length (s .now))
 
@@ -104,6 +107,7 @@ module _ {M : Type 1} (𝓤 : URA M) (H : Heap 𝓤) (A : Atoms 𝓤) (W : Given
   abbrev alive : Item 𝓤
   alive = ‵ (flft κ q) ⊛ ‵ ftrue
 
+  -- what the result is to tell
   abbrev Told : ClpiAnswer → Type 0
   Told r = foundNumbers r ≡ answerNumbers (lookUp side isPacket (asRows (s .now)) t)
 
@@ -111,12 +115,15 @@ module _ {M : Type 1} (𝓤 : URA M) (H : Heap 𝓤) (A : Atoms 𝓤) (W : Given
   abbrev passed : Vals look-up.signature (κ, tt)
   passed = (v ∷ [], (vbool side ∷ [], (vbool isPacket ∷ [], (vint w32 t ∷ [], tt))))
 
+  -- the contract of `look_up` at these arguments
   abbrev to : LookUp 𝓤 H A mem run .Ghost
   to = (((κ, tt), (q, tt), tt, (s, (side, (isPacket, (t, tt)))), passed), tt)
 
+  -- the token and what the arguments own are all that `look_up` requires
   asked : ent 𝓤 (⋆ 𝓤 H A (alive ∷ ‵ (owns (ShrSlice (named 0) κ R ∷ bool ∷ bool ∷ u32 ∷ []) (s, (side, (isPacket, (t, tt)))) passed) ∷ [])) (LookUp 𝓤 H A mem run .pre to)
   asked = qed W (alive ∷ ‵ (owns (ShrSlice (named 0) κ R ∷ bool ∷ bool ∷ u32 ∷ []) (s, (side, (isPacket, (t, tt)))) passed) ∷ []) ∵ join ! $ frame ! $ done !
 
+  -- these are made of the token and of the lent row, which can be copied and so is still there
   goes : t < 2 ^ 32 → ent 𝓤 (⋆ 𝓤 H A (‵ (flft κ q) ∷ Rows ∷ [])) (⋆ 𝓤 H A (raw (LookUp 𝓤 H A mem run .pre to) ∷ Rows ∷ []))
   goes gt =
       qed W (‵ (flft κ q) ∷ Rows ∷ []) ∵ move ! (1 ∷ []) $ use1 W (Rows ⊛ Rows) (shr-slice-copy 𝓤 H A W (named 0) κ R .twice s (v ∷ [])) $ split ! $
@@ -125,23 +132,28 @@ module _ {M : Type 1} (𝓤 : URA M) (H : Heap 𝓤) (A : Atoms 𝓤) (W : Given
       -- [what the parameters own; what the row owns; the token]
       nothing ! $ move ! (3 ∷ 0 ∷ []) $ join ! $ use2 W (raw (LookUp 𝓤 H A mem run .pre to)) asked $ frame ! $ done !
 
+  -- all that `look_up` ensures of a result
   abbrev Ensured : ClpiAnswer → SProp 𝓤
   Ensured r = ensured 𝓤 H A look-up.ended (look-up.clauses 𝓤 H A mem run) (κ, tt) (s, (side, (isPacket, (t, tt)))) tt r
 
+  -- of which the clause alone is used
   said : (r : ClpiAnswer) → ent 𝓤 (Ensured r) (fact 𝓤 (Told r))
   said r = exE 𝓤 _ (λ ws. snd∗ 𝓤 (sem 𝓤 H A (lasts look-up.ended (κ, tt) (s, (side, (isPacket, (t, tt)))) ws)) (fact 𝓤 (Told r)))
 
+  -- with such a result, the token and the row, the walk may end: the result is passed on as it is
   exits : t < 2 ^ 32 → (r : ClpiAnswer) (w : Val) → Told r → ent 𝓤 (⋆ 𝓤 H A (‵ (FR .own r (w ∷ [])) ∷ alive ∷ Rows ∷ [])) (Post w)
   exits gt r w e =
       qed W (‵ (FR .own r (w ∷ [])) ∷ alive ∷ Rows ∷ []) ∵
       suffices ! _ (ends-at 𝓤 H A ended stayed (asks 𝓤 side isPacket) W (((κ, tt), (q, tt), tt, x, at), tt) w r (tt, (tt, tt)) (tt, (tt, tt))) $ says ! e $
       nothing ! $ owned ! u32 (Is u32) (uint-makes 𝓤 H A W w32) t _ (refl, gt) $ fjoin ! $ move ! (3 ∷ 0 ∷ []) $ fjoin ! $ move ! (2 ∷ 0 ∷ []) $ frame ! $ frame ! $ done !
 
+  -- a constant in the code is read as the truth value it stands for
   reads : (c : Bool) {Γ : List (Item 𝓤)} {E : Env 𝓤 H} → Reads-opd Go W Γ E (constant c) (vbool c)
   reads true = true-lit !
   reads false = false-lit !
 
   module _ (C : Calls 𝓤 H) (Λ : Loops 𝓤 H) (fm : FmC 𝓤 H (W .laws) C) (known : Triple 𝓤 (C #look-up) (LookUp 𝓤 H A mem run)) where
+    -- from entry to return: the locals are allocated, `look_up` is called, its result is returned
     walk : Room R (length (s .now)) → t < 2 ^ 32 → ent 𝓤 (onEntry 𝓤 H A (ended .signature) (κ, tt) (q, tt) x at) (WpFn 𝓤 H C Λ (asking side isPacket) (v ∷ vint w32 t ∷ []) Post)
     walk g gt =
         qed W (alive ∷ ‵ (owns (ShrSlice (named 0) κ R ∷ u32 ∷ []) x at) ∷ []) ∵ enter ! C Λ (asking side isPacket) (v ∷ vint w32 t ∷ []) _ $

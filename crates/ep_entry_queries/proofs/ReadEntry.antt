@@ -30,6 +30,7 @@ use Rattle.ep_entry_queries.proofs.Shared.{R}
 use Rattle.ep_entry_queries.proofs.entry_at as entry
 
 module _ {M : Type 1} (𝓤 : URA M) (H : Heap 𝓤) (A : Atoms 𝓤) (mem : Memory → SProp 𝓤) (run : Routine → Fun 𝓤) where
+  -- the contract that the walks cite
   abbrev pub EntryAt : Contract 𝓤
   EntryAt = tripleOf 𝓤 H A entry.signature (entry.spec 𝓤 H A mem run)
 
@@ -38,12 +39,15 @@ module _ {M : Type 1} (𝓤 : URA M) (H : Heap 𝓤) (A : Atoms 𝓤) (W : Given
   abbrev pub Rows : Fml
   Rows = ShrSlice (named 0) κ R .own s (sliceVal (s .ptr) (length (s .now)) ∷ [])
 
+  -- the contract at the lent row and place k
   abbrev pub to-entry : ℕ → EntryAt 𝓤 H A mem run .Ghost
   to-entry k = (((κ, tt), (q, tt), tt, (s, (k, tt)), (sliceVal (s .ptr) (length (s .now)) ∷ [], (vint w64 k ∷ [], tt))), tt)
 
+  -- the token and what the two arguments own are all that it requires
   asked : (k : ℕ) → ent 𝓤 (⋆ 𝓤 H A ((‵ (flft κ q) ⊛ ‵ ftrue) ∷ ‵ (owns (ShrSlice (named 0) κ R ∷ usize ∷ []) (s, (k, tt)) (sliceVal (s .ptr) (length (s .now)) ∷ [], (vint w64 k ∷ [], tt))) ∷ [])) (EntryAt 𝓤 H A mem run .pre (to-entry k))
   asked k = qed W ((‵ (flft κ q) ⊛ ‵ ftrue) ∷ ‵ (owns (ShrSlice (named 0) κ R ∷ usize ∷ []) (s, (k, tt)) (sliceVal (s .ptr) (length (s .now)) ∷ [], (vint w64 k ∷ [], tt))) ∷ []) ∵ join ! $ frame ! $ done !
 
+  -- these are made of the token and of the lent row, which can be copied and so is still there
   pub goes-entry : (k : ℕ) → k < 2 ^ 64 → ent 𝓤 (⋆ 𝓤 H A (‵ (flft κ q) ∷ ‵ Rows ∷ [])) (sep 𝓤 (EntryAt 𝓤 H A mem run .pre (to-entry k)) (sem 𝓤 H A Rows))
   goes-entry k gk =
       qed W (‵ (flft κ q) ∷ ‵ Rows ∷ []) ∵ move ! (1 ∷ []) $ use1 W (‵ Rows ⊛ ‵ Rows) (shr-slice-copy 𝓤 H A W (named 0) κ R .twice s (sliceVal (s .ptr) (length (s .now)) ∷ [])) $ split ! $
@@ -51,9 +55,10 @@ module _ {M : Type 1} (𝓤 : URA M) (H : Heap 𝓤) (A : Atoms 𝓤) (W : Given
       -- [what the parameters own; what the row owns; the token]
       nothing ! $ move ! (3 ∷ 0 ∷ []) $ join ! $ use2 W (raw (EntryAt 𝓤 H A mem run .pre (to-entry k))) (asked k) $ frame ! $ done !
 
-  -- of what it ensures, the clause alone
+  -- what it ensures of row k and an entry
   abbrev pub Ensured : ℕ → EpEntry → SProp 𝓤
   Ensured k r = ensured 𝓤 H A entry.ended (entry.clauses 𝓤 H A mem run) (κ, tt) (s, (k, tt)) tt r
 
+  -- record k of the row is learned, or the empty record where the row has no such place
   pub entry-said : (k : ℕ) (r : EpEntry) → ent 𝓤 (Ensured k r) (fact 𝓤 (r ≡ getD (s .now) k noEntry))
   entry-said k r = exE 𝓤 _ (λ ws. snd∗ 𝓤 (sem 𝓤 H A (lasts entry.ended (κ, tt) (s, (k, tt)) ws)) (fact 𝓤 (r ≡ getD (s .now) k noEntry)))

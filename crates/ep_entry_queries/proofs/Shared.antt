@@ -40,6 +40,7 @@ fits16 i n h k = omega arith
 
 -- a call: what it asks is at the head; of its result, what its contract says is learned. `alive` is what comes back
 module _ {M : Type 1} {𝓤 : URA M} {H : Heap 𝓤} {A : Atoms 𝓤} {K : Type 0} {W : Given 𝓤 H A} {Γ : List (Item 𝓤)} {E : Env 𝓤 H} {C : Calls 𝓤 H} {Λ : Loops 𝓤 H} {q : Post 𝓤 H} {f : Name} {xs : List Operand} {d : Place} {rest : Body} where
+  -- it suffices to go on from where the result is owned and φ is known of it
   pub calls-known : K → FmC 𝓤 H (W .laws) C → (c : Contract 𝓤) → Triple 𝓤 (C f) c → (x : c .Ghost) (B : RattleType) (alive : Item 𝓤) (Q : B .Denot → SProp 𝓤) (φ : B .Denot → Type 0)
       → ((w : Val) → ent 𝓤 (c .post x w) (mean 𝓤 H A (later (some (λ (r : B .Denot). (alive ⊛ ‵ (B .own r (w ∷ []))) ⊛ raw (Q r))))))
       → ((r : B .Denot) → ent 𝓤 (Q r) (fact 𝓤 (φ r))) → Opds K W (raw (c .pre x) ∷ Γ) E xs (c .args x)

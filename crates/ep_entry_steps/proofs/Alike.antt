@@ -6,6 +6,7 @@ use Rattle.format.specs.Questions.{ask, answer, ofMap}
 use Rattle.ep_entry_steps.specs.declared.EpEntry.{EpEntry}
 use Rattle.ep_entry_steps.specs.Alike.{HasEntries, FormsAlike}
 
+-- where the entries of map m are these records, tables and records answer all five questions alike
 pub forms-alike : (maps entries : Table) (m : ℕ) (es : List EpEntry) → HasEntries maps entries m es → FormsAlike maps entries m es
 unfolding ask answer ofMap clipIn
 forms-alike maps entries m es h = record {

@@ -31,6 +31,7 @@ time-at [] k = refl
 time-at (e ∷ es) zero = refl
 time-at (e ∷ es) (suc k) = time-at es k
 
+-- the packet of record k is that of row k; past the end both are 0
 packet-at : (es : List EpEntry) (k : ℕ) → packet (asRow (getD es k noEntry)) ≡ packet (getD (asRows es) k [])
 packet-at [] k = refl
 packet-at (e ∷ es) zero = refl
@@ -62,6 +63,7 @@ its-row : {row : ℕ} {found : Answer} (e : Row) → NoneOr row found → rowOrP
 its-row e no-row = refl
 its-row e the-row = refl
 
+-- where the packet is asked for, a row that is found is told by the packet of that row
 its-packet : {row : ℕ} {found : Answer} (e : Row) (rows : List Row) → packet e ≡ packet (getD rows row []) → NoneOr row found → rowOrPacket true e found ≡ ofRow packet rows found
 its-packet e rows h no-row = refl
 its-packet e rows h the-row = ap (λ (p : ℕ). number p) h

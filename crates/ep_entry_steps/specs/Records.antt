@@ -14,6 +14,7 @@ bit false = 0
 abbrev pub asRow : EpEntry → Row
 asRow e = bit (e .«is_angle_change_point») ∷ e .«i_end_position_offset» ∷ e .«pts_ep_start» ∷ e .«spn_ep_start» ∷ e .«ep_stream_type» ∷ []
 
+-- records as rows, in the same order
 abbrev pub asRows : List EpEntry → List Row
 asRows entries = map asRow entries
 

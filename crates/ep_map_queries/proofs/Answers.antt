@@ -32,9 +32,11 @@ module _ {q : Question} {maps entries : Table} {m : ℕ} {f : List Row → Answe
   unfolding ask ofMap
   by-tests = rw (a .two, a .asks)
 
+  -- where the entries of the map are refused, so is the question, by 22
   pub not-asked : refusal ≡ entriesOf maps entries m → refused 22 ≡ ask q (mapsAndEntries maps entries)
   not-asked h = tests-fail 2 entryCells maps entries m (f (ownRows entryCount (rowsOf mapCells maps) (rowsOf entryCells entries) m)) h ∙ by-tests
 
+  -- where they are not, the question is answered from the rows that belong to the map
   pub asked : {first count : ℕ} → owns first count ≡ entriesOf maps entries m → f (entriesAt (entries .bytes) first count) ≡ ask q (mapsAndEntries maps entries)
   asked h =
       ap f (sym (own-rows 2 entryCells maps entries m h .own))
@@ -46,11 +48,13 @@ inside maps entries m h = let o = own-rows 2 entryCells maps entries m h in omeg
 
 -- the questions about one map
 module _ (maps entries : Table) (m : ℕ) where
+  -- the entry at or before a time, or after it, is asked of the entries of map m
   pub find-asks : (side : Bool) (at : ℕ) → AsksMap (findQuestion side m at) maps entries m (λ es. findIn side es at)
   unfolding answer clipIn
   find-asks true at = record { two = refl; asks = refl }
   find-asks false at = record { two = refl; asks = refl }
 
+  -- so is its packet
   pub seek-asks : (side : Bool) (at : ℕ) → AsksMap (seekQuestion side m at) maps entries m (λ es. seekIn side es at)
   unfolding answer clipIn
   seek-asks true at = record { two = refl; asks = refl }
@@ -64,6 +68,7 @@ module _ (t : List ℕ) (first count at : ℕ) where
   found-below true k h = rw (times-length t first count) at (after-row (map time (entriesAt t first count)) at k (sym h))
   found-below false k h = rw (times-length t first count) at (before-row (map time (entriesAt t first count)) at k (sym h))
 
+  -- the packet of entry k of the map is the number in its fourth cell
   pub packet-is : (k : ℕ) {v : ℕ} → k < count → CellIs t (20 * (first + k) + 12) v → number v ≡ ofRow packet (entriesAt t first count) (number k)
   packet-is k h c =
       let row = item-at (cellsAt t entryCells) [] (4 * entryCells) (4 * entryCells * first) count k h in

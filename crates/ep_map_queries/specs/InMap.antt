@@ -29,10 +29,12 @@ abbrev pub findQuestion : Bool → ℕ → ℕ → Question
 findQuestion true m at = entryPointAfter m (record { ticks = at })
 findQuestion false m at = entryPointAtOrBefore m (record { ticks = at })
 
+-- in map m: the packet of the entry after a time, or of the one at or before it
 abbrev pub seekQuestion : Bool → ℕ → ℕ → Question
 seekQuestion true m at = nextSeekSpn m (record { ticks = at })
 seekQuestion false m at = seekSpn m (record { ticks = at })
 
+-- the same in the primary map
 abbrev pub primarySeekQuestion : Bool → ℕ → Question
 primarySeekQuestion true at = primaryNextSeekSpn (record { ticks = at })
 primarySeekQuestion false at = primarySeekSpn (record { ticks = at })

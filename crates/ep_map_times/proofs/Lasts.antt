@@ -29,10 +29,12 @@ last-is t p (suc n) =
     last-is t (p + 20) n ∙ ap (λ (q : ℕ). entryTime (cellsAt t entryCells q)) e
 
 module _ (t : List ℕ) (first count : ℕ) where
+  -- without entries the span is 0
   pub no-span : count ≡ 0 → record { ticks = 0 } ≡ spanOf (entriesAt t first count)
   unfolding spanOf
   no-span e = rw e
 
+  -- with entries, the time of the last less that of the first is the span
   pub span-is : (count ≡ 0 → ⊥) → {last start r : Ticks90} → last ≡ entryTime (cellsAt t entryCells (4 * entryCells * (first + (count - 1))))
       → start ≡ entryTime (cellsAt t entryCells (4 * entryCells * first)) → r ≡ less90 last start → r ≡ spanOf (entriesAt t first count)
   unfolding spanOf
@@ -44,10 +46,12 @@ module _ (t : List ℕ) (first count : ℕ) where
 
   -- ---- one end alone
 
+  -- without entries there is neither a first time nor a last
   pub no-end : (side : Bool) → count ≡ 0 → none ≡ endIn side (entriesAt t first count)
   no-end true e = rw e
   no-end false e = rw e
 
+  -- the time of the last entry, where the last is asked for
   pub last-end : (side : Bool) → side ≡ true → (count ≡ 0 → ⊥) → {last : Ticks90} → last ≡ entryTime (cellsAt t entryCells (4 * entryCells * (first + (count - 1)))) → ticks90 last ≡ endIn side (entriesAt t first count)
   last-end false e some l = let z : _≡_ {A = ℕ} 0 1 = cc in absurd (omega arith)
   last-end true o some l =
@@ -56,6 +60,7 @@ module _ (t : List ℕ) (first count : ℕ) where
       let last = last-is t (4 * entryCells * first) (count - 1) ∙ ap (λ (q : ℕ). entryTime (cellsAt t entryCells q)) p in
       ap (λ (x : Ticks90). ticks90 x) (l ∙ sym last) ∙ ap (λ (n : ℕ). endIn true (entriesAt t first n)) (sym e)
 
+  -- the time of the first entry, where the first is asked for
   pub first-end : (side : Bool) → side ≡ false → (count ≡ 0 → ⊥) → {start : Ticks90} → start ≡ entryTime (cellsAt t entryCells (4 * entryCells * first)) → ticks90 start ≡ endIn side (entriesAt t first count)
   first-end true e some s = let z : _≡_ {A = ℕ} 0 1 = cc in absurd (omega arith)
   first-end false o some s =
@@ -64,11 +69,13 @@ module _ (t : List ℕ) (first count : ℕ) where
 
 -- the questions about one map
 module _ (maps entries : Table) (m : ℕ) where
+  -- the first time, or the last, is asked of the entries of map m
   pub end-asks : (side : Bool) → AsksMap (endQuestion side m) maps entries m (λ es. endIn side es)
   unfolding answer clipIn
   end-asks true = record { two = refl; asks = refl }
   end-asks false = record { two = refl; asks = refl }
 
+  -- so is the span
   pub span-asks : AsksMap (indexedSpan90k m) maps entries m (λ es. ticks90 (spanOf es))
   unfolding answer clipIn
   span-asks = record { two = refl; asks = refl }

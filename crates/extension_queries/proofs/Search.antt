@@ -21,6 +21,7 @@ use Rattle.extension_queries.specs.ById.{entryById, askEntry}
 pub first-differs : (a b id1 id2 : ℕ) → (a ≡ id1 → ⊥) → false ≡ both (eqb a id1) (eqb b id2)
 first-differs a b id1 id2 h = rw (ne-eqb a id1 h)
 
+-- where the first id is the same, the second decides
 pub first-same : (a b id1 id2 : ℕ) → a ≡ id1 → eqb b id2 ≡ both (eqb a id1) (eqb b id2)
 first-same a b id1 id2 h = rw (eq-eqb a id1 h)
 
@@ -29,6 +30,7 @@ module _ (t : List ℕ) (n id1 id2 : ℕ) where
   abbrev pub Searched : ℕ → Type 0
   Searched k = entryById (rowsLeft extensionCells t n k) id1 id2 k ≡ entryById (tableRows extensionCells t n) id1 id2 0
 
+  -- from row 0 on all are searched
   pub searched-all : Searched 0
   searched-all = rw (left-all extensionCells t n)
 
@@ -47,17 +49,21 @@ module _ (t : List ℕ) (n id1 id2 : ℕ) where
     is-one : a ≡ getD (cellsAt t extensionCells (4 * extensionCells * k)) 0 0
     is-one = row-cell t extensionCells (4 * extensionCells * k) 0 (lit< tt) (omega arith) (one .same)
 
+    -- the second id stands in the row's second cell
     is-two : b ≡ getD (cellsAt t extensionCells (4 * extensionCells * k)) 1 0
     is-two = row-cell t extensionCells (4 * extensionCells * k) 1 (lit< tt) (omega arith) (two .same)
 
+    -- a row with other ids is passed over: what is found behind it is what is found of all
     pub row-fails : p ≡ false → Searched (k + 1)
     unfolding entryById
     row-fails f = rw add-one (rw (left-turn extensionCells t n k h, ← is-one, ← is-two, ← is, f, add-one) at i)
 
+    -- a row with both ids is the first such, and the answer
     pub row-is : p ≡ true → {s : Bool} → s ≡ isStated extensionCells (stated t n) → not s ≡ false → number k ≡ askEntry (stated t n) id1 id2
     unfolding entryById
     row-is f st there = rw (left-turn extensionCells t n k h, ← is-one, ← is-two, ← is, f) at i ∙ asked st there
 
+  -- where the search passes the last row none has both ids
   pub no-row : (k : ℕ) → n ≤ k → Searched k → {s : Bool} → s ≡ isStated extensionCells (stated t n) → not s ≡ false → none ≡ askEntry (stated t n) id1 id2
   unfolding entryById
   no-row k h i st there = rw (left-done extensionCells t n k h) at i ∙ asked st there

@@ -28,12 +28,15 @@ pub record Shaped (c : Clip) : Type 0 where
 
 -- ---- a good record's rows have that shape
 
+-- three widths of at most 32 bits each, as one list
 three : (a b c : ℕ) → a ≤ 32 → b ≤ 32 → c ≤ 32 → All (λ w. w ≤ 32) (a ∷ b ∷ c ∷ [])
 three a b c ha hb hc = more ha (more hb (more hc none))
 
+-- rows that fit fields of at most 32 bits have a cell of 32 bits for each field
 rows-shaped : (ws : List ℕ) → All (λ w. w ≤ 32) ws → {rows : List Row} → All (Fit ws) rows → All (Cells (length ws)) rows
 rows-shaped ws h rs = all-map (λ row f. fit-cells h f) rs
 
+-- the entries of good maps have five cells of 32 bits each
 entries-shaped : {most : ℕ} {ms es : List Row} → Maps most ms es → All (Cells entryCells) es
 entries-shaped Maps.none = none
 entries-shaped (Maps.more g size good few later) =
@@ -41,6 +44,7 @@ entries-shaped (Maps.more g size good few later) =
     (all-map (λ e h. fit-cells (more (lit≤ tt) (more (lit≤ tt) (more (lit≤ tt) (more (lit≤ tt) (more (lit≤ tt) none))))) (h .cells)) good)
     (entries-shaped later)
 
+-- so with the rows of all six tables
 pub shaped : (most : ℕ) (c : Clip) → GoodClip most c → Shaped c
 shaped most c g = record {
   atcs = rows-shaped (32 ∷ 8 ∷ 8 ∷ []) (three 32 8 8 (lit≤ tt) (lit≤ tt) (lit≤ tt)) (g .atcs-good);
@@ -54,15 +58,18 @@ shaped most c g = record {
 -- ---- a table that holds rows
 
 module _ (cells : ℕ) (t : Table) {rows : List Row} (good : All (Cells cells) rows) (h : HoldsRows t rows) where
+  -- its stated rows are these rows, whatever stands beyond them
   pub rows-held : rowsOf cells t ≡ rows
   rows-held = rw (h .stated, h .bytes) (table-back cells good (h .beyond))
 
+  -- no more rows are stated than it has room for, where a row has a cell at all
   pub is-stated : 0 < cells → isStated cells t ≡ true
   is-stated pos = rw (h .stated, h .bytes) (le-leb (length rows) (rowRoom cells (tableBytes rows ++ h .beyond)) (table-room cells pos good (h .beyond)))
 
 -- ---- all six
 
 module _ (l : ClipTables) (c : Clip) (s : Shaped c) (h : HoldsClip l c) where
+  -- the stated rows of tables that hold a record are that record
   pub clip-held : clipIn l ≡ c
   unfolding clipIn
   clip-held =
@@ -75,6 +82,7 @@ module _ (l : ClipTables) (c : Clip) (s : Shaped c) (h : HoldsClip l c) where
       let z = h .scalars in
       λ i. record { scalars = z i; atcs = a i; stcs = b i; programs = d i; streams = e i; maps = m i; entries = n i }
 
+  -- in each of the six, no more rows are stated than lent
   atcs-stated : isStated atcCells (l .atcs) ≡ true
   atcs-stated = is-stated atcCells (l .atcs) (s .atcs) (h .atcs) (lit< tt)
 
@@ -93,6 +101,7 @@ module _ (l : ClipTables) (c : Clip) (s : Shaped c) (h : HoldsClip l c) where
   entries-stated : isStated entryCells (l .entries) ≡ true
   entries-stated = is-stated entryCells (l .entries) (s .entries) (h .entries) (lit< tt)
 
+  -- so all six pass the test that else gives 22
   pub all-stated : allStated l ≡ true
   unfolding allStated
   all-stated =
@@ -111,6 +120,7 @@ module _ (l : ClipTables) (c : Clip) (s : Shaped c) where
   part-stated maps h = is-stated mapCells (l .maps) (s .maps) h (lit< tt)
   part-stated entries h = is-stated entryCells (l .entries) (s .entries) h (lit< tt)
 
+  -- the stated rows of a part that holds its rows are those of the record, table by table
   stcs-held : HoldsPart l c stcs → rowsOf stcCells (l .stcs) ≡ c .stcs
   stcs-held h = rows-held stcCells (l .stcs) (s .stcs) h
 
@@ -161,12 +171,14 @@ module _ (l : ClipTables) (c : Clip) (s : Shaped c) where
   same-answer (nextVideoStream from) (more h none) = rw (streams-held h)
   same-answer (nextAudioStream from) (more h none) = rw (streams-held h)
 
+  -- tables that hold the record in the parts that a question looks at answer as the record does
   pub asked : (q : Question) → All (HoldsPart l c) (partsOf q) → ask q l ≡ answer q c
   unfolding ask
   asked q h = rw (all-every (partStated l) (all-map part-stated h)) (same-answer q h)
 
 -- ---- reading into tables with room
 
+-- with room for its rows in each table none gives 21, and the answer is what the file states
 pub no-short : (f : List ℕ) (tables : Nine (List ℕ)) → Room (tablesOf f) tables → tablesAnswer f tables ≡ accepted (statedOf f)
 unfolding tablesAnswer
 no-short f tables r =

@@ -46,11 +46,13 @@ pub record AtMost (n : ℕ) (rows : Nine (List Row)) : Type 0 where
 
 -- ---- parts of a list of bytes are bytes
 
+-- what is left behind the first s
 bytes-drop : (s : ℕ) (f : List ℕ) → IsBytes f → IsBytes (drop s f)
 bytes-drop zero f h = h
 bytes-drop (suc s) [] h = h
 bytes-drop (suc s) (x ∷ xs) h = bytes-drop s xs (λ i. h (suc i))
 
+-- the first n, or as many as there are
 bytes-take : (n : ℕ) (f : List ℕ) → IsBytes f → IsBytes (take n f)
 bytes-take zero f h i = lit< tt
 bytes-take (suc n) [] h i = h i
@@ -81,28 +83,34 @@ module _ (f : List ℕ) (bytes : IsBytes f) where
   pub byte-few : (p : ℕ) → beAt f p 1 ≤ 255
   byte-few p = let h = be-below f bytes p 1 in omega arith
 
+  -- one byte counts the ATCs
   atcs-few : (start : ℕ) → length (atcsFrom f start) ≤ 255
   unfolding atcsFrom
   atcs-few start = rw rows-length (omega (arith, byte-few (start + 5)))
 
+  -- at most 255 ATCs, with at most 255 STCs behind each
   stcs-few : (start : ℕ) → length (stcsFrom f start) ≤ 65025
   unfolding stcsFrom
   stcs-few start =
       groups-few (stcsOf f) (nextAtc f) 255 (λ p. rw rows-length (byte-few (p + 4))) (start + 6) (beAt f (start + 5) 1) 65025 (byte-few (start + 5)) (lit≤ tt)
 
+  -- one byte counts the programs
   programs-few : (start : ℕ) → length (programsFrom f start) ≤ 255
   unfolding programsFrom
   programs-few start = rw rows-length (omega (arith, byte-few (start + 5)))
 
+  -- at most 255 programs, with at most 255 streams each
   streams-few : (start : ℕ) → length (streamsFrom f start) ≤ 65025
   unfolding streamsFrom
   streams-few start =
       groups-few (streamsOf f) (nextProgram f) 255 (λ p. rw rows-length (byte-few (p + 6))) (start + 6) (beAt f (start + 5) 1) 65025 (byte-few (start + 5)) (lit≤ tt)
 
+  -- one byte counts the maps, where there are maps at all
   maps-few : (c : ℕ) → length (mapsFrom f c) ≤ 255
   unfolding mapsFrom
   maps-few c = rw rows-length (omega (arith, few-maps f bytes c))
 
+  -- at most 255 maps, and 18 bits count the entries of each
   entries-few : (c : ℕ) → length (entriesFrom f c) ≤ 66846465
   unfolding entriesFrom
   entries-few c =
@@ -116,6 +124,7 @@ module _ (f : List ℕ) (bytes : IsBytes f) where
       go true = lit≤ tt
       go false = lit≤ tt
 
+  -- one byte counts the entries of the block, of which some may be left out
   extensions-few : (start : ℕ) → length (extensionRows f start) ≤ 255
   unfolding extensionRows
   extensions-few start = go (hasExtensions f start)
@@ -182,6 +191,7 @@ needed : (b : Bool) {later : ReadAnswer} {k n m : ℕ} (j rows : ℕ) → rows �
 needed true j rows h later e = later e
 needed false {n = n} j rows h later e = let same : rows ≡ n = cc in omega arith
 
+-- where no table of a file has more than m rows, 21 asks for no more than m
 pub needed-few : (f : List ℕ) (t : Nine (List ℕ)) {m k n : ℕ} → AtMost m (tablesOf f) → readAnswer f t ≡ tooShort k n → n ≤ m
 unfolding readAnswer tablesAnswer
 needed-few f t {m} {k} {n} few h =

@@ -22,13 +22,16 @@ use Rattle.format.proofs.Tests.{true-both}
 
 -- ---- coarse rows
 
+-- first fine row, time and packet fit their 18, 14 and 32 bits
 abbrev pub GoodCoarse : Row → Type 0
 GoodCoarse = Fit coarseWidths
 
+-- the coarse row of an entry fits, where the number of the entry has 18 bits
 row-good : (type k : ℕ) (x : Row) → k < 2 ^ 18 → Fit (1 ∷ 3 ∷ 32 ∷ 32 ∷ 4 ∷ []) x → GoodCoarse (coarseRow k x)
 row-good type k x h (one ha (one hi (one {v = t} ht (one {v = p} hp (one hy Fit.none))))) =
     fit 18 k h (fit 14 (t / 524288) (omega arith) (fit 32 p hp Fit.none))
 
+-- so with the coarse rows of the entries behind e, where the number of the last has 18 bits
 after-good : (type : ℕ) (e : Row) (k : ℕ) {xs : List Row} → All (GoodEntry type) xs → k + length xs ≤ 2 ^ 18 → All GoodCoarse (coarseAfter e k xs)
 unfolding coarseAfter
 after-good type e k none h = none
@@ -40,6 +43,7 @@ after-good type e k (more {x = x} {xs = xs} g gs) h =
     go true r rs = rs
     go false r rs = more r rs
 
+-- so with all coarse rows of a map of at most 262,143 entries
 pub coarse-good : (type : ℕ) {es : List Row} → All (GoodEntry type) es → length es ≤ 262143 → All GoodCoarse (coarseRows es)
 coarse-good type none h = none
 coarse-good type (more {x = x} {xs = xs} g gs) h =
@@ -47,28 +51,35 @@ coarse-good type (more {x = x} {xs = xs} g gs) h =
 
 -- ---- fine rows
 
+-- the bytes of a fine row by the row itself, where fineBytes goes by its entry
 abbrev pub fineRowBytes : Row → List ℕ
 fineRowBytes r = bytesOf 4 (packed fineWidths r)
 
+-- angle, I-end and the low bits of time and packet fit their 1, 3, 11 and 17 bits
 abbrev pub GoodFine : Row → Type 0
 GoodFine = Fit fineWidths
 
+-- the fine row of an entry whose cells fit has cells that fit
 one-fine : (e : Row) → Fit (1 ∷ 3 ∷ 32 ∷ 32 ∷ 4 ∷ []) e → GoodFine (fineRow e)
 one-fine e (one {v = a} ha (one {v = i} hi (one {v = t} ht (one {v = p} hp (one hy Fit.none))))) =
     fit 1 a ha (fit 3 i hi (fit 11 (t / 512 % 2048) (omega arith) (fit 17 (p % 131072) (omega arith) Fit.none)))
 
+-- so with the fine rows of a map's entries
 pub fines-good : (type : ℕ) {es : List Row} → All (GoodEntry type) es → All GoodFine (finesOf es)
 fines-good type none = none
 fines-good type (more {x = e} g gs) = more (one-fine e (g .cells)) (fines-good type gs)
 
+-- the bytes written for entries are those of their fine rows
 pub fines-flat : (es : List Row) → flat fineBytes es ≡ flat fineRowBytes (finesOf es)
 fines-flat [] = refl
 fines-flat (e ∷ es) = ap (λ (l : List ℕ). fineBytes e ++ l) (fines-flat es)
 
+-- each entry has one fine row
 pub fines-length : (es : List Row) → length (finesOf es) ≡ length es
 fines-length [] = refl
 fines-length (e ∷ es) = ap suc (fines-length es)
 
+-- a body has 4 bytes of fine address, 8 for each run and 4 for each entry
 pub body-length : (es : List Row) → length (bodyBytes es) ≡ 4 + 8 * runs es + 4 * length es
 unfolding bodyBytes runs
 body-length es =
@@ -77,11 +88,13 @@ body-length es =
     rw (length-append, length-append, bytes-length) (omega arith)
 
 module _ (s : List ℕ) (p : ℕ) where
+  -- a coarse row whose bytes stand at p is read there, and the next one is read right behind it
   pub coarse-back : (row : Row) → GoodCoarse row → Stands s p (coarseBytes row) → (coarseAt s p ≡ row) × (nextCoarse p ≡ p + length (coarseBytes row))
   coarse-back row g st =
       let w : beAt s p 8 ≡ packed coarseWidths row = number-back 8 (packed coarseWidths row) st (packed-below g) in
       (rw w (unpack g), rw (bytes-length 8 (packed coarseWidths row)))
 
+  -- so with a fine row
   pub fine-back : (row : Row) → GoodFine row → Stands s p (fineRowBytes row) → (fineAt s p ≡ row) × (nextFine p ≡ p + length (fineRowBytes row))
   fine-back row g st =
       let w : beAt s p 4 ≡ packed fineWidths row = number-back 4 (packed fineWidths row) st (packed-below g) in
@@ -89,11 +102,13 @@ module _ (s : List ℕ) (p : ℕ) where
 
 -- ---- one map, whose header stands at p and its body at c + 6 + address
 
+-- the map and its entries are read back, and 7 finds nothing to refuse
 record OneMap (s : List ℕ) (c p : ℕ) (m : Row) (own : List Row) : Type 0 where
   row-same : mapAt s p ≡ m
   entries-same : entriesOf s c p ≡ own
   inside : mapIn s c p ≡ true
 
+-- a body that ends within a section that ends within the file passes all four tests of 7
 inside-by : (len end body r n : ℕ) → body + (4 + 8 * r + 4 * n) ≤ end → end ≤ len
     → both (ltb body end) (both (leb (body + 4 + 8 * r) len) (both (leb (body + (4 + 8 * r)) end) (leb (body + (4 + 8 * r) + 4 * n) len))) ≡ true
 inside-by len end body r n h k =
@@ -103,6 +118,7 @@ inside-by len end body r n h k =
     (le-leb (body + (4 + 8 * r) + 4 * n) len (omega arith))))
 
 module _ (s : List ℕ) (c p address : ℕ) (own : List Row) where
+  -- a good map is read back where its bytes stand and its body ends within the section
   one-map : (m : Row) → GoodMap m → length own ≡ entryCount m → All (GoodEntry (mapType m)) own → runs own ≤ 65535
       → address < 2 ^ 32 → Stands s p (headerBytes m own address) → Stands s (c + 6 + address) (bodyBytes own)
       → c + 6 + address + length (bodyBytes own) ≤ cpiEnd s c → cpiEnd s c ≤ length s
@@ -144,9 +160,11 @@ module _ (s : List ℕ) (c p address : ℕ) (own : List Row) where
 
 -- ---- all maps
 
+-- a header has 12 bytes, whatever it says
 pub header-length : (m : Row) (es : List Row) (address : ℕ) → length (headerBytes m es address) ≡ 12
 header-length m es address = simp (length-append, bytes-length)
 
+-- each map has one header
 pub headers-length : (ms es : List Row) (address : ℕ) → length (headers ms es address) ≡ 12 * length ms
 headers-length [] es address = refl
 headers-length (m ∷ ms) es address =
@@ -156,6 +174,7 @@ headers-length (m ∷ ms) es address =
     ∙ rw (header-length m own address, h) (omega arith)
 
 module _ (s : List ℕ) (c : ℕ) (outer : cpiEnd s c ≤ length s) (small : cpiEnd s c < 2 ^ 32) where
+  -- maps and entries are read back where all headers and all bodies stand one behind the other, and 7 finds nothing to refuse
   pub maps-back : {ms es : List Row} → Maps 65535 ms es → (p address : ℕ) → Stands s p (headers ms es address)
       → Stands s (c + 6 + address) (bodies ms es) → c + 6 + address + length (bodies ms es) ≤ cpiEnd s c
       → (rowsAt (mapAt s) nextMap p (length ms) ≡ ms) × (gather (entriesOf s c) nextMap p (length ms) ≡ es)
@@ -188,10 +207,12 @@ module _ (s : List ℕ) (c : ℕ) (outer : cpiEnd s c ≤ length s) (small : cpi
 pub is-present : (s : List ℕ) (p : ℕ) → (p ≡ 0 → ⊥) → p < length s → present s p ≡ true
 is-present s p h k = true-both (ap not (ne-eqb p 0 h)) (lt-ltb p (length s) k)
 
+-- a section whose length says 0 has no maps
 no-maps : (s : List ℕ) (p : ℕ) → present s p ≡ true → beAt s p 4 ≡ 0 → hasMaps s p ≡ false
 unfolding hasMaps
 no-maps s p h z = rw (h, z)
 
+-- a section of type 1 whose length says 4 or more is read for maps
 some-maps : (s : List ℕ) (p : ℕ) → present s p ≡ true → 4 ≤ beAt s p 4 → beAt s (p + 4) 2 ≡ 1 → hasMaps s p ≡ true
 unfolding hasMaps
 some-maps s p h k e = rw (h, le-leb 2 (beAt s p 4) (omega arith), le-leb 4 (beAt s p 4) k, e)
@@ -202,6 +223,7 @@ unfolding mapCount
 count-by s p b h = rw h
 
 module _ (s : List ℕ) (p : ℕ) (pos : 0 < p) where
+  -- maps and entries are read back where their section stands, with or without maps, and neither 6 nor 7 refuses it
   pub cpi-back : {ms es : List Row} → Maps 65535 ms es → length ms ≤ 255 → p + length (cpiBytesBy ms es) < 2 ^ 32 → Stands s p (cpiBytesBy ms es)
       → (mapsFrom s p ≡ ms) × (entriesFrom s p ≡ es) × (cpiIn s p ≡ true) × (mapsIn s p ≡ true)
   unfolding mapsFrom entriesFrom cpiIn mapsIn

@@ -49,6 +49,7 @@ pub data Fit : List ℕ → List ℕ → Type 0 where
   none : Fit [] []
   one : {w v : ℕ} {ws vs : List ℕ} → v < 2 ^ w → Fit ws vs → Fit (w ∷ ws) (v ∷ vs)
 
+-- one more field in front, its width and value told
 pub fit : (w v : ℕ) {ws vs : List ℕ} → v < 2 ^ w → Fit ws vs → Fit (w ∷ ws) (v ∷ vs)
 fit w v h f = one h f
 
@@ -61,6 +62,7 @@ fits-fit (w ∷ ws) (v ∷ vs) h =
     let b = both-true h in
     one (ltb-true v (2 ^ w) (b .0)) (fits-fit ws vs (b .1))
 
+-- and the other way: values that fit pass the test
 pub fit-fits : {ws vs : List ℕ} → Fit ws vs → fits ws vs ≡ true
 fit-fits none = refl
 fit-fits (one {w = w} {v = v} h f) = true-both (lt-ltb v (2 ^ w) h) (fit-fits f)
@@ -85,6 +87,7 @@ unpack-under a (one {w = w} {v = v} {ws = ws} {vs = vs} h f) =
     rw (e, high (a * 2 ^ w + v) (widthOf ws) (packed-below f), low a w h)
     (ap (λ (l : List ℕ). v ∷ l) (unpack-under (a * 2 ^ w + v) f))
 
+-- so where nothing stands above them
 pub unpack : {ws vs : List ℕ} → Fit ws vs → unpacked ws (packed ws vs) ≡ vs
 unpack {ws} {vs} f = rw (zero-mul (2 ^ widthOf ws), zero-add (packed ws vs)) at (unpack-under 0 f)
 
@@ -103,6 +106,7 @@ unpacked-fit (w ∷ ws) x = one (mod-lt (x / 2 ^ widthOf ws) (pow-pos w)) (unpac
 
 -- ---- the joined time and packet: bit 19 is shared, so the time is no instance of the laws above
 
+-- OR with a single bit touches the lowest bit alone, and leaves it 1 where either was
 or-bit : (a b : ℕ) → b < 2 → bitOr a b ≡ a / 2 * 2 + max (a % 2) b
 or-bit a b h =
     let z : b / 2 ≡ 0 = omega arith in
@@ -132,6 +136,7 @@ time-is c t h =
     let z : t * 512 % 2 ^ 19 ≡ t % 1024 * 512 = omega arith in
     rw e (o ∙ rw (x, y, z))
 
+-- where both parts have the same shared bit, the joined time is 512 times the coarse time with the ten low fine bits below it
 halves : (x r : ℕ) → (x / 2 * 2 + max (x % 2) (x % 2)) * 524288 + r * 512 ≡ (x * 1024 + r) * 512
 halves x r = omega arith
 

@@ -13,19 +13,24 @@ use Rattle.format.proofs.Fields.{Fit}
 use Rattle.format.proofs.Join.{GoodEntry}
 use Rattle.format.proofs.Lists.{All}
 
+-- packet, STC count and offset id fit their fields
 abbrev pub GoodAtc : Row → Type 0
 GoodAtc = Fit (32 ∷ 8 ∷ 8 ∷ [])
 
+-- PID, packet, start and end fit their fields
 abbrev pub GoodStc : Row → Type 0
 GoodStc = Fit (16 ∷ 32 ∷ 32 ∷ 32 ∷ [])
 
+-- packet, PID and stream count fit their fields
 abbrev pub GoodProgram : Row → Type 0
 GoodProgram = Fit (32 ∷ 16 ∷ 8 ∷ [])
 
+-- the cells fit their fields, and video has no language, anything else no aspect
 pub record GoodStream (s : Row) : Type 0 where
   pub cells : Fit (16 ∷ 8 ∷ 8 ∷ 4 ∷ 24 ∷ []) s
   pub only : pick (isVideo (codingType s)) (eqb (language s) 0) (eqb (aspect s) 0) ≡ true
 
+-- PID, type and entry count fit their fields
 abbrev pub GoodMap : Row → Type 0
 GoodMap = Fit (16 ∷ 4 ∷ 18 ∷ [])
 
@@ -35,6 +40,7 @@ pub data Maps (most : ℕ) : List Row → List Row → Type 0 where
   more : {m : Row} {ms own rest : List Row} → GoodMap m → length own ≡ entryCount m → All (GoodEntry (mapType m)) own → runs own ≤ most
       → Maps most ms rest → Maps most (m ∷ ms) (own ++ rest)
 
+-- all cells fit, heads are at most 255 a table and their counts add up to their rows, and no map has more than `most` runs
 pub record GoodClip (most : ℕ) (c : Clip) : Type 0 where
   pub scalars : Fit (32 ∷ 8 ∷ 8 ∷ 32 ∷ 32 ∷ 8 ∷ 32 ∷ [])
       (c .scalars .version ∷ c .scalars .streamType ∷ c .scalars .applicationType ∷ c .scalars .rate ∷ c .scalars .packets ∷ c .scalars .validityFlags ∷ c .scalars .formatId ∷ [])

@@ -27,6 +27,7 @@ stay c e k j (x ∷ xs) h = go (sameRun e x) (stay c x k (suc j) xs (omega arith
     go true i = i
     go false i = rw (lt-leb j k h)
 
+-- the fine rows of entries, one for each, in their order
 abbrev pub finesOf : List Row → List Row
 finesOf [] = []
 finesOf (e ∷ es) = fineRow e ∷ finesOf es
@@ -42,6 +43,7 @@ pub record GoodEntry (type : ℕ) (e : Row) : Type 0 where
   pub step : time e % 512 ≡ 0
   pub type-same : entryType e ≡ type
 
+-- an entry whose time is a multiple of 512 comes back from its fine row and any coarse row with its key
 joined-by : (type : ℕ) (c e : Row) → Fit (1 ∷ 3 ∷ 32 ∷ 32 ∷ 4 ∷ []) e → time e % 512 ≡ 0 → entryType e ≡ type → Covers c e → entryOf type c (fineRow e) ≡ e
 joined-by type c e (one {v = a} ha (one {v = i} hi (one {v = t} ht (one {v = p} hp (one {v = y} hy Fit.none))))) m ts k =
     rw (k .same-time, time-back t ht m, packet-back (getD c 2 0) p (k .same-packet), ts)

@@ -77,6 +77,7 @@ module _ (f : List ℕ) (bytes : IsBytes f) (t : List ℕ) where
   pub maps-room : length (clipOf f .maps) ≤ rowRoom mapCells (overwritten (tableBytes (clipOf f .maps)) t)
   maps-room = table-room mapCells (lit< tt) (shape .maps) (drop (length (tableBytes (clipOf f .maps))) t)
 
+  -- so has the table of entries
   pub entries-room : length (clipOf f .entries) ≤ rowRoom entryCells (overwritten (tableBytes (clipOf f .entries)) t)
   entries-room = table-room entryCells (lit< tt) (shape .entries) (drop (length (tableBytes (clipOf f .entries))) t)
 

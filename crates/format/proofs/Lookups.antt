@@ -100,6 +100,7 @@ module _ (test : ℕ → Bool) where
   pub first-row : (xs : List ℕ) (k : ℕ) → firstWhere test 0 xs ≡ number k → k < length xs
   first-row xs k e = first-is xs k e .row
 
+  -- a search from row 0 on answers none or one of the rows
   from-rows : {xs : List ℕ} {a : Answer} → FirstFrom 0 xs a → NoneOrRow (length xs) a
   from-rows (not-there h) = no-row
   from-rows (there {k = k} i s h) = let l = h .row in a-row k (omega arith)
@@ -117,6 +118,7 @@ module _ (test : ℕ → Bool) where
     pub passes : test (getD xs k 0) ≡ true
     pub earliest : (j : ℕ) → from ≤ j → j < k → test (getD xs j 0) ≡ false
 
+  -- a row that is found once those before row `from` are dropped is the next, counted in the whole list
   found-next : (from : ℕ) (xs : List ℕ) {a : Answer} {k : ℕ} → FirstFrom from (drop from xs) a → a ≡ number k → IsNext from xs k
   found-next from xs (not-there h) e = let z : _≡_ {A = ℕ} 0 1 = cc in absurd (omega arith)
   found-next from xs {k = k} (there {k = r} i s h) e =
@@ -163,6 +165,7 @@ module _ (test : ℕ → Bool) where
     none-later i h zero l n = absurd (omega arith)
     none-later i h (suc j) l n = h .latest j (omega arith) (omega arith)
 
+    -- with it in front the answer is the last row that passes, be it its own or a later one, else `sofar`
     one-before-last : (b : Bool) → test x ≡ b → {a : Answer} → LastFrom (suc m) xs (pick b (number m) sofar) a → LastFrom m (x ∷ xs) sofar a
     one-before-last true e (as-before h) =
         let s : m ≡ m + 0 = omega arith in
@@ -192,6 +195,7 @@ greater-ranks = record {
   one-way = λ x y h. let a = ltb-true y x h in le-ltb x y (omega arith);
 }
 
+-- that the less beats the greater is a strict order too: the least number is searched by it
 pub less-ranks : Ranks (λ y z. ltb y z)
 less-ranks = record {
   over = λ x y z h g. let a = ltb-true x y h in let b = ltb-false z y g in lt-ltb x z (omega arith);
@@ -293,6 +297,7 @@ module _ (test : ℕ → Bool) (beats : ℕ → ℕ → Bool) (xs : List ℕ) wh
 pub before-best : (times : List ℕ) (t : ℕ) → BestUntil (λ y. leb y t) (λ y z. ltb z y) times (length times) (bestOf (λ y. leb y t) (λ y z. ltb z y) 0 times nothing)
 before-best times t = best-is (λ y. leb y t) (λ y z. ltb z y) times greater-ranks
 
+-- of the times above t the search finds the least, earliest among equals, or that there is none
 pub after-best : (times : List ℕ) (t : ℕ) → BestUntil (λ y. ltb t y) (λ y z. ltb y z) times (length times) (bestOf (λ y. ltb t y) (λ y z. ltb y z) 0 times nothing)
 after-best times t = best-is (λ y. ltb t y) (λ y z. ltb y z) times less-ranks
 
@@ -303,6 +308,7 @@ before-rows [] t = no-row
 before-rows (x ∷ xs) t =
     best-rows (λ y. leb y t) (λ y z. ltb z y) (x ∷ xs) (a-row 0 (omega arith)) (bestOf (λ y. leb y t) (λ y z. ltb z y) 0 (x ∷ xs) nothing) (before-best (x ∷ xs) t)
 
+-- so it is for the least time above t
 pub after-rows : (times : List ℕ) (t : ℕ) → NoneOrRow (length times) (after times t)
 unfolding after
 after-rows times t = best-rows (λ y. ltb t y) (λ y z. ltb y z) times no-row (bestOf (λ y. ltb t y) (λ y z. ltb y z) 0 times nothing) (after-best times t)
@@ -311,6 +317,7 @@ after-rows times t = best-rows (λ y. ltb t y) (λ y z. ltb y z) times no-row (b
 pub before-row : (times : List ℕ) (t k : ℕ) → atOrBefore times t ≡ number k → k < length times
 before-row times t k e = row-below (before-rows times t) e
 
+-- so is the row of the least time above t
 pub after-row : (times : List ℕ) (t k : ℕ) → after times t ≡ number k → k < length times
 after-row times t k e = row-below (after-rows times t) e
 
@@ -327,6 +334,7 @@ primary-rows maps =
     (else-row (rw kinds-all at (first-rows isVideoMap (kinds maps)))
     (rw pids-all at (best-rows (λ y. true) (λ y z. ltb y z) (map mapPid maps) no-row least (best-is (λ y. true) (λ y z. ltb y z) (map mapPid maps) less-ranks))))
 
+-- a map that is answered is one of them
 pub primary-row : (maps : List Row) (k : ℕ) → primaryMap maps ≡ number k → k < length maps
 primary-row maps k e = row-below (primary-rows maps) e
 
@@ -350,6 +358,7 @@ some-best : (m : ℕ) (ms : List ℕ) (b : Best) → BestUntil (λ y. true) (λ 
 some-best m ms nothing h e = not-both refl (h 0 (omega arith))
 some-best m ms (best k x) h e = let z : _≡_ {A = ℕ} 0 1 = cc in omega arith
 
+-- where none is answered there are no maps, as one of any maps has the least PID
 pub primary-none : (maps : List Row) → primaryMap maps ≡ none → maps ≡ []
 unfolding primaryMap
 primary-none [] e = refl

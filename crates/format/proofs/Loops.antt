@@ -16,11 +16,13 @@ use Rattle.format.proofs.Stores.{sets-append}
 pub one-left : (n k : ℕ) → k < n → n - k ≡ suc (n - (k + 1))
 one-left n k h = omega arith
 
+-- once all turns are done nothing is left
 pub none-left : (n k : ℕ) → n ≤ k → n - k ≡ 0
 none-left n k h = omega arith
 
 -- ---- bytes of rows
 
+-- the bytes of two lists of rows joined are the bytes of the first, then those of the second
 pub flat-append : {A : Type 0} (bytes : A → List ℕ) (xs ys : List A) → flat bytes (xs ++ ys) ≡ flat bytes xs ++ flat bytes ys
 flat-append bytes [] ys = refl
 flat-append bytes (x ∷ xs) ys = rw (flat-append bytes xs ys, append-assoc (bytes x) (flat bytes xs) (flat bytes ys))
@@ -46,9 +48,11 @@ end-ge next up p zero = le-refl p
 end-ge next up p (suc n) = le-trans (up p) (end-ge next up (next p) n)
 
 module _ (next : ℕ → ℕ) (q n k : ℕ) where
+  -- with an item to go, what is left ends where the items behind it end
   pub end-turn : k < n → endOf next q (n - k) ≡ endOf next (next q) (n - (k + 1))
   end-turn h = rw (one-left n k h)
 
+  -- with no item to go, the end is the place that was reached
   pub end-done : n ≤ k → endOf next q (n - k) ≡ q
   end-done h = rw (none-left n k h)
 

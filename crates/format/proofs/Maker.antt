@@ -1,4 +1,4 @@
--- A record that the writer does not refuse is a good one, if its languages have no capital letter.
+-- A record that the writer does not refuse is a good one.
 use Prim.Native.Nat.{ℕ, _%_}
 use mathlib.Core.Path.{_≡_}
 use mathlib.Core.List.{List, [], _∷_}
@@ -20,6 +20,7 @@ use Rattle.format.proofs.Numbers.{left}
 use Rattle.format.proofs.Tests.{both-true, passed}
 use Rattle.format.proofs.Write.{cells}
 
+-- an entry that passes the writer's tests has cells that fit, a multiple of 512 as its time, and its map's type
 entry-made : (type : ℕ) (e : Row) → entryFits type e ≡ true → GoodEntry type e
 entry-made type e h =
     let a = both-true h in
@@ -30,6 +31,7 @@ entry-made type e h =
       type-same = eqb-true (entryType e) type (b .1);
     }
 
+-- where counts add up and the tests of 30 and 31 pass, each map has its own entries, in at most 65,535 runs
 maps-made : (ms es : List Row) → every (fits (16 ∷ 4 ∷ 18 ∷ [])) ms ≡ true → total entryCount ms ≡ length es
     → everyMap (λ m own. every (entryFits (mapType m)) own) ms es ≡ true → everyMap (λ m own. leb (runs own) 65535) ms es ≡ true → Maps 65535 ms es
 maps-made [] [] f e h k = Maps.none
@@ -48,14 +50,17 @@ maps-made (m ∷ ms) es f e h k =
     (Maps.more (fits-fit (16 ∷ 4 ∷ 18 ∷ []) m (ff .0)) size own-good
     (leb-true (runs own) 65535 (kk .0)) (maps-made ms rest (ff .1) left (hh .1) (kk .1)))
 
+-- a stream that passes has cells that fit, no language on video and no aspect on anything else
 stream-made : (s : Row) → streamFits s ≡ true → GoodStream s
 stream-made s h =
     let b = both-true h in
     record { cells = fits-fit (16 ∷ 8 ∷ 8 ∷ 4 ∷ 24 ∷ []) s (b .0); only = b .1 }
 
+-- rows that pass the test of these widths fit them
 fit-rows : (ws : List ℕ) (rows : List Row) → every (fits ws) rows ≡ true → All (Fit ws) rows
 fit-rows ws rows h = all-map (λ row k. fits-fit ws row k) (every-all (fits ws) rows h)
 
+-- what neither 22 nor 30 nor 31 refuses: counts add up, cells fit, and no map has over 65,535 runs
 pub good-made : (c : Clip) → writeRefusal c ≡ 0 → GoodClip 65535 c
 unfolding writeRefusal countsAdd cellsFit runsFit
 good-made c h =

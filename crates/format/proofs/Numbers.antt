@@ -11,6 +11,7 @@ use Rattle.format.specs.Bytes.{beAt, bytesOf, fieldBytes, fieldsAt, widt
 
 -- ---- bytes b stand in s at place p
 
+-- s is p bytes, then b, then whatever is behind
 pub record Stands (s : List ℕ) (p : ℕ) (b : List ℕ) : Type 0 where
   pub before : List ℕ
   pub behind : List ℕ
@@ -26,6 +27,7 @@ left a b t = record {
   whole = t .whole ∙ rw (append-assoc a b (t .behind));
 }
 
+-- the second stands where the first ends
 pub right : {s : List ℕ} {p : ℕ} (a b : List ℕ) (q : ℕ) → p + length a ≡ q → Stands s p (a ++ b) → Stands s q b
 right {s} {p} a b q e t = record {
   before = t .before ++ a;
@@ -34,6 +36,7 @@ right {s} {p} a b q e t = record {
   whole = t .whole ∙ rw (append-assoc a b (t .behind), append-assoc (t .before) a (b ++ t .behind));
 }
 
+-- what stands in s ends within it
 pub ends-in : {s : List ℕ} {p : ℕ} {b : List ℕ} → Stands s p b → p + length b ≤ length s
 ends-in {s} {p} {b} t =
     let e = simp length-append at (ap length (t .whole)) in
@@ -51,12 +54,14 @@ moved {s} {p} {q} {b} {c} e f t = record {
 
 -- ---- big-endian numbers
 
+-- n bytes of a number are n, whether it fits them or not
 pub bytes-length : (n v : ℕ) → length (bytesOf n v) ≡ n
 unfolding bytesOf
 bytes-length zero v = refl
 bytes-length (suc n) v =
     length-append (bytesOf n (v / 256)) (v % 256 ∷ []) ∙ omega (arith, bytes-length n (v / 256))
 
+-- a number that fits its n bytes is read back from between any bytes before and behind it
 be-back : (p q : List ℕ) (n v at : ℕ) → length p ≡ at → v < 256 ^ n → beAt (p ++ (bytesOf n v ++ q)) at n ≡ v
 unfolding beAt bytesOf
 be-back p q zero v at e h = omega arith
@@ -82,6 +87,7 @@ pub data Fill : List ℕ → List ℕ → Type 0 where
   none : Fill [] []
   one : {w v : ℕ} {ws vs : List ℕ} → v < 256 ^ w → Fill ws vs → Fill (w ∷ ws) (v ∷ vs)
 
+-- one more field in front, with its width and value stated
 pub fill : (w v : ℕ) {ws vs : List ℕ} → v < 256 ^ w → Fill ws vs → Fill (w ∷ ws) (v ∷ vs)
 fill w v h f = one h f
 
@@ -100,10 +106,11 @@ widths-length [] (v ∷ vs) e = absurd (omega (arith, e))
 widths-length (w ∷ ws) [] e = absurd (omega (arith, e))
 widths-length (w ∷ ws) (v ∷ vs) e = rw (length-append (bytesOf w v) (fieldBytes ws vs), bytes-length w v, widths-length ws vs (omega (arith, e)))
 
--- so with values that fit their fields
+-- values that fit their fields are as many as these
 fill-alike : {ws vs : List ℕ} → Fill ws vs → length ws ≡ length vs
 fill-alike none = refl
 fill-alike (one h f) = omega (arith, fill-alike f)
 
+-- values that fit their fields take as many bytes as the widths say
 pub fields-length : {ws vs : List ℕ} → Fill ws vs → length (fieldBytes ws vs) ≡ widthOf ws
 fields-length {ws} {vs} f = widths-length ws vs (fill-alike f)

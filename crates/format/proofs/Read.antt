@@ -26,10 +26,12 @@ use Rattle.format.proofs.Write.{cells}
 
 -- ---- letters
 
+-- a choice of two numbers below k is below k
 pick-lt : (b : Bool) (x y k : ℕ) → x < k → y < k → pick b x y < k
 pick-lt true x y k h g = h
 pick-lt false x y k h g = g
 
+-- a lowered byte is a byte, and lowering it again changes nothing
 lower-cases : (b : ℕ) → b < 256 → (lower b < 256) × (lower (lower b) ≡ lower b)
 unfolding lower
 lower-cases b h = go (leb 65 b) (leb b 90) refl refl
@@ -43,6 +45,7 @@ lower-cases b h = go (leb 65 b) (leb b 90) refl refl
     go true false e f = (h, rw (e, f))
     go false y e f = (h, rw e)
 
+-- so it is with a language of three bytes
 pub lowered-facts : (x : ℕ) → x < 2 ^ 24 → (lowered x < 2 ^ 24) × (lowered (lowered x) ≡ lowered x)
 unfolding lowered
 lowered-facts x h =
@@ -63,7 +66,7 @@ lowered-facts x h =
 
 -- ---- entries
 
--- a row that the stepping rule reaches is one of the rows, or zeros
+-- what holds of a row and of all behind it holds of the one that the stepping rule reaches
 reach-all : {P : Row → Type 0} (c : Row) {cs : List Row} → P c → All P cs → (k : ℕ) → P (stepOn c cs k)
 reach-all c h none k = h
 reach-all {P} c h (more {x = d} {xs = ds} g gs) k = go (leb (firstFine d) k) (reach-all {P = P} d g gs k)
@@ -72,13 +75,16 @@ reach-all {P} c h (more {x = d} {xs = ds} g gs) k = go (leb (firstFine d) k) (re
     go true i = i
     go false i = h
 
+-- a coarse row's packet has 32 bits
 abbrev HasPacket : Row → Type 0
 HasPacket c = getD c 2 0 < 2 ^ 32
 
+-- where each row's packet has, so has that of the row that fine row k uses; without coarse rows it is 0
 coarse-packet : {cs : List Row} → All HasPacket cs → (k : ℕ) → HasPacket (coarseFor cs k)
 coarse-packet none k = lit< tt
 coarse-packet (more {x = c} h hs) k = reach-all {P = HasPacket} c h hs k
 
+-- a time joined with a fine time of 11 bits has 32 bits and is a multiple of 512
 time-facts : (c t : ℕ) → t < 2048 → (joinTime c t < 2 ^ 32) × (joinTime c t % 512 ≡ 0)
 time-facts c t h = rw (time-is c t h) (go (c % 8192 / 2) (c % 2) (t / 1024) (t % 1024) (omega arith) (omega arith) (omega arith) (omega arith))
   where
@@ -86,10 +92,12 @@ time-facts c t h = rw (time-is c t h) (go (c % 8192 / 2) (c % 2) (t / 1024) (t %
         → ((a * 2 + max b d) * 524288 + e * 512 < 2 ^ 32) × (((a * 2 + max b d) * 524288 + e * 512) % 512 ≡ 0)
     go a b d e ha hb hd he = (omega arith, omega arith)
 
+-- a packet joined of a coarse one of 32 bits and a fine one of 17 has 32 bits
 packet-facts : (c p : ℕ) → c < 2 ^ 32 → p < 2 ^ 17 → joinPacket c p < 2 ^ 32
 unfolding joinPacket
 packet-facts c p h k = omega arith
 
+-- a coarse row and a fine row with cells that fit join to an entry of a map of this type
 entry-good : (type : ℕ) (c x : Row) → type < 2 ^ 4 → HasPacket c → getD x 0 0 < 2 → getD x 1 0 < 8 → getD x 2 0 < 2048 → getD x 3 0 < 2 ^ 17
     → GoodEntry type (entryOf type c x)
 entry-good type c x ht hc h0 h1 h2 h3 =
@@ -101,18 +109,21 @@ entry-good type c x ht hc h0 h1 h2 h3 =
       type-same = refl;
     }
 
+-- each cell of a fine row fits its bits: 1, 3, 11 and 17
 record FineCells (x : Row) : Type 0 where
   angle : getD x 0 0 < 2
   i-end : getD x 1 0 < 8
   time : getD x 2 0 < 2048
   packet : getD x 3 0 < 2 ^ 17
 
+-- fine rows with cells that fit join to entries of a map of this type, whichever coarse row each uses
 entries-good : (type : ℕ) → type < 2 ^ 4 → (cs : List Row) → All HasPacket cs → {xs : List Row} → All FineCells xs → (k : ℕ)
     → All (GoodEntry type) (entriesFor type cs k xs)
 entries-good type ht cs hc none k = none
 entries-good type ht cs hc (more {x = x} h hs) k =
     more (entry-good type (coarseFor cs k) x ht (coarse-packet hc k) (h .angle) (h .i-end) (h .time) (h .packet)) (entries-good type ht cs hc hs (suc k))
 
+-- each fine row gives one entry
 pub entries-length : (type : ℕ) (cs : List Row) (k : ℕ) (xs : List Row) → length (entriesFor type cs k xs) ≡ length xs
 entries-length type cs k [] = refl
 entries-length type cs k (x ∷ xs) = ap suc (entries-length type cs (suc k) xs)
@@ -135,6 +146,7 @@ after-few e k (x ∷ xs) = go (sameRun e x) (after-few x (suc k) xs)
     go true h = omega arith
     go false h = omega arith
 
+-- not more runs than entries
 pub runs-few : (es : List Row) → runs es ≤ length es
 unfolding runs
 runs-few [] = omega arith
@@ -168,20 +180,25 @@ narrow c g h = record {
 -- ---- a file
 
 module _ (f : List ℕ) (bytes : IsBytes f) where
+  -- a number that is read from n bytes fits them
   below : (p n : ℕ) → beAt f p n < 256 ^ n
   below p n = be-below f bytes p n
 
+  -- the cells of an ATC fit, wherever it is read
   atc-good : (p : ℕ) → GoodAtc (atcAt f p)
   atc-good p = fit 32 (beAt f p 4) (below p 4) (fit 8 (beAt f (p + 4) 1) (below (p + 4) 1) (fit 8 (beAt f (p + 5) 1) (below (p + 5) 1) Fit.none))
 
+  -- so do those of an STC
   stc-good : (p : ℕ) → GoodStc (stcAt f p)
   stc-good p =
       fit 16 (beAt f p 2) (below p 2) (fit 32 (beAt f (p + 2) 4) (below (p + 2) 4)
       (fit 32 (beAt f (p + 6) 4) (below (p + 6) 4) (fit 32 (beAt f (p + 10) 4) (below (p + 10) 4) Fit.none)))
 
+  -- so do those of a program
   program-good : (p : ℕ) → GoodProgram (programAt f p)
   program-good p = fit 32 (beAt f p 4) (below p 4) (fit 16 (beAt f (p + 4) 2) (below (p + 4) 2) (fit 8 (beAt f (p + 6) 1) (below (p + 6) 1) Fit.none))
 
+  -- a language that is read has 24 bits and no capital letter; where there is none it is 0
   language-facts : (v : Bool) (p size : ℕ) → (languageAt v f p size < 2 ^ 24) × (lowered (languageAt v f p size) ≡ languageAt v f p size)
   unfolding lowered lower
   language-facts v p size = go (both (not v) (leb 5 size))
@@ -193,10 +210,12 @@ module _ (f : List ℕ) (bytes : IsBytes f) where
       go true = lowered-facts x (below (p + 2) 3)
       go false = (lit< tt, refl)
 
+  -- what is read has no language on video and no aspect on anything else
   only-one : (v : Bool) (p size : ℕ) → pick v (eqb (languageAt v f p size) 0) (eqb (aspectAt v f p size) 0) ≡ true
   only-one true p size = refl
   only-one false p size = refl
 
+  -- so the cells of a stream fit, and at most one of aspect and language is there
   stream-good : (p : ℕ) → GoodStream (streamAt f p)
   stream-good p =
       let size = beAt f (p + 2) 1 in
@@ -213,6 +232,7 @@ module _ (f : List ℕ) (bytes : IsBytes f) where
         only = only-one v q size;
       }
 
+  -- lowering the language of a stream that was read changes nothing
   stream-low : (p : ℕ) → loweredStream (streamAt f p) ≡ streamAt f p
   stream-low p =
       let size = beAt f (p + 2) 1 in
@@ -226,18 +246,22 @@ module _ (f : List ℕ) (bytes : IsBytes f) where
       map-fixed loweredStream
       (gather-all (streamsOf f) (nextProgram f) (λ p. rows-all (streamAt f) (nextStream f) stream-low (p + 8) (beAt f (p + 6) 1)) (start + 6) (beAt f (start + 5) 1))
 
+  -- the cells of a map fit, as its header has 4 bits for the type and 18 for the count
   map-good : (p : ℕ) → GoodMap (mapAt f p)
   map-good p = fit 16 (beAt f p 2) (below p 2) (fit 4 (mapTypeAt f p) (omega arith) (fit 18 (fineCountAt f p) (omega arith) Fit.none))
 
+  -- the cells of a fine row fit, as they are the bits of its four bytes
   fine-cells : (p : ℕ) → FineCells (fineAt f p)
   fine-cells p = let b = below p 4 in record { angle = omega arith; i-end = omega arith; time = omega arith; packet = omega arith }
 
+  -- a map's own entries have cells that fit, multiples of 512 as times, and its type
   own-good : (c p : ℕ) → All (GoodEntry (mapTypeAt f p)) (entriesOf f c p)
   own-good c p =
       entries-good (mapTypeAt f p) (omega arith) (rowsAt (coarseAt f) nextCoarse (bodyAt f c p + 4) (coarseCountAt f p))
       (rows-all (coarseAt f) nextCoarse (λ q. omega arith) (bodyAt f c p + 4) (coarseCountAt f p))
       (rows-all (fineAt f) nextFine fine-cells (fineStart f c p) (fineCountAt f p)) 0
 
+  -- n maps from p with their entries: each has at most 262,143 runs, as it has no more entries
   maps-read : (c p n : ℕ) → Maps 262143 (rowsAt (mapAt f) nextMap p n) (gather (entriesOf f c) nextMap p n)
   maps-read c p zero = Maps.none
   maps-read c p (suc n) =

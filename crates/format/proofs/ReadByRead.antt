@@ -68,10 +68,12 @@ module _ (f : List ℕ) where
 
   -- ---- sequences and programs
 
+  -- an ATC and the STCs behind it are read exactly where they end within the file
   atc-read : (p : ℕ) → atcRead f p ≡ leb (nextAtc f p) (length f)
   atc-read p =
       headed 4 (1 ∷ 1 ∷ []) (stcRead f) nextStc up-stc (λ q. reads-some f q 2 (4 ∷ 4 ∷ 4 ∷ [])) p (p + 6) (beAt f (p + 4) 1) refl
 
+  -- a stream and its body are read exactly where the body ends within the file
   stream-read : (p : ℕ) → streamRead f p ≡ leb (nextStream f p) (length f)
   stream-read p =
       let size = beAt f (p + 2) 1 in
@@ -79,6 +81,7 @@ module _ (f : List ℕ) where
       rw (reads-some f p 2 (1 ∷ []))
       (then (length f) (p + 3) (p + 3 + size) (readsIn f (p + 3) (size ∷ [])) (omega arith) (λ m. reads-some f (p + 3) size [] ∙ rw e))
 
+  -- a program and the streams behind it are read exactly where they end within the file
   program-read : (p : ℕ) → programRead f p ≡ leb (nextProgram f p) (length f)
   program-read p =
       headed 4 (2 ∷ 1 ∷ 1 ∷ []) (streamRead f) (nextStream f) (up-stream f) stream-read p (p + 8) (beAt f (p + 6) 1) refl
@@ -90,20 +93,24 @@ module _ (f : List ℕ) where
       then (length f) start (endOf next (start + 6) n) (both (readsIn f start (4 ∷ 1 ∷ 1 ∷ [])) (itemsIn test next (start + 6) n))
       (le-trans (omega arith) (end-ge next up (start + 6) n)) (λ m. headed 4 (1 ∷ 1 ∷ []) test next up h start (start + 6) n refl)
 
+  -- the sequences are read exactly where their end is within the file: the test of refusal 4
   sequences : (start : ℕ) → sequencesRead f start ≡ leb (sequencesEnd f start) (length f)
   unfolding sequencesRead sequencesEnd
   sequences start = section (atcRead f) (nextAtc f) (up-atc f) atc-read start (beAt f (start + 5) 1)
 
+  -- the programs are read exactly where their end is within the file: the test of refusal 5 and of a (2, 5) list
   programs : (start : ℕ) → programsRead f start ≡ leb (programsEnd f start) (length f)
   unfolding programsRead programsEnd
   programs start = section (programRead f) (nextProgram f) (up-program f) program-read start (beAt f (start + 5) 1)
 
   -- ---- ClipInfo and marks
 
+  -- the reads of ClipInfo end at byte 194, so they pass exactly where the file has as many bytes
   clip-info : clipInfoRead f ≡ clipInfoIn f
   unfolding clipInfoRead clipInfoIn
   clip-info = rw (reads-some f 40 4 (2 ∷ 1 ∷ 1 ∷ 4 ∷ 4 ∷ 4 ∷ 128 ∷ 1 ∷ 1 ∷ 4 ∷ []))
 
+  -- where there are marks, their two reads pass exactly where their six bytes are in the file
   marks : (start : ℕ) → marksRead f start ≡ marksIn f start
   unfolding marksRead marksIn
   marks start = rw (reads-some f start 4 (2 ∷ []))
@@ -115,6 +122,7 @@ module _ (f : List ℕ) where
       → itemsIn test (λ q. q + w) p n ≡ leb (p + w * n) (length f)
   rows w test h p n k = items (length f) test (by w) (λ q. omega arith) h p n k ∙ rw (end-steps w p n)
 
+  -- the three reads of a map header are its twelve bytes
   header-read : (p : ℕ) → mapHeaderRead f p ≡ leb (p + 12) (length f)
   header-read p = reads-some f p 2 (6 ∷ 4 ∷ [])
 
@@ -159,6 +167,7 @@ module _ (f : List ℕ) where
           let e : c + 4 + 2 ≡ c + 6 = omega arith in
           rw (le-leb 2 N two, reads-some f (c + 4) 2 [], e) (by-type type two)
 
+  -- the test of refusal 6 read by read is the one by the ends of the CPI section and of its map headers
   cpi : (c : ℕ) → cpiRead f c ≡ cpiIn f c
   unfolding cpiRead cpiIn hasMaps mapCount
   cpi c = go (present f c)
@@ -186,6 +195,7 @@ module _ (f : List ℕ) where
       → both (leb p (length f)) (itemsIn test (by w) p n) ≡ leb (p + w * n) (length f)
   rows-behind w test h p n = then (length f) p (p + w * n) (itemsIn test (by w) p n) (omega arith) (λ m. rows w test h p n m)
 
+  -- reading a map fails exactly where one of the four causes of refusal 7 holds
   map-read : (c p : ℕ) → mapRead f c p ≡ mapIn f c p
   map-read c p =
       let body = bodyAt f c p in
@@ -199,12 +209,14 @@ module _ (f : List ℕ) where
         coarse,
       )
 
+  -- all maps are read exactly where none of them has a cause of refusal 7
   maps : (c : ℕ) → mapsRead f c ≡ mapsIn f c
   unfolding mapsRead mapsIn
   maps c = ap (every (λ b. b)) (rows-same (mapRead f c) (mapIn f c) (map-read c) nextMap (c + 8) (mapCount f c))
 
   -- ---- the whole, and the extension block
 
+  -- told read by read and told by the ends' places, the refusal of a file is the same number, 0 where it is accepted
   pub refusal-read : refusalRead f ≡ refusalOf f
   unfolding refusalRead refusalOf
   refusal-read =
@@ -224,11 +236,13 @@ module _ (f : List ℕ) where
   unfolding listIn
   list-read = programs 0
 
+  -- behind its length, an extension block is read exactly where its entries end within the file
   block : (start : ℕ) → blockRead f start ≡ leb (start + 12 + 12 * extensionCount f start) (length f)
   block start =
       let e : start + 4 + 8 ≡ start + 12 = omega arith in
       rw (reads-some f (start + 4) 4 (3 ∷ 1 ∷ []), e) (rows-behind 12 (extensionRead f) (λ p. reads-some f p 2 (2 ∷ 4 ∷ 4 ∷ [])) (start + 12) (extensionCount f start))
 
+  -- extensions are read exactly where the block is present, its length is not 0 and its entries end within the file
   pub extensions-read : (start : ℕ) → extensionsRead f start ≡ hasExtensions f start
   unfolding extensionsRead
   extensions-read start =

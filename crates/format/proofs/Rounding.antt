@@ -30,6 +30,7 @@ Cmp Ordering·lt a b = a < b
 Cmp Ordering·eq a b = a ≡ b
 Cmp Ordering·gt a b = b < a
 
+-- what `compare` answers holds of its two numbers
 cmp : (a b : ℕ) → Cmp (compare a b) a b
 cmp a b = go (compare a b) (leb→le a b) (nleb→lt a b) (eqb→eq a b) (λ (e : a ≡ b). subst (λ (x : ℕ). T (eqb a x)) e (eqb-refl a))
   where
@@ -39,9 +40,11 @@ cmp a b = go (compare a b) (leb→le a b) (nleb→lt a b) (eqb→eq a b) (λ (e 
     go Ordering·gt h k e n = k tt
 
 -- ---- the nearest whole number to a / b is at most a half away
+-- a remainder by 2 is 0 or 1
 bit : (w : ℕ) → (w % 2 ≡ 0) ⊎ (w % 2 ≡ 1)
 bit w = elim (eq-zero-or-pos (w % 2)) [ inl e ↦ inl e | inr h ↦ inr (omega arith) ]
 
+-- of w and w + 1, the one that the remainder r picks is, times b, at most half of b away from w * b + r
 half : (w r b : ℕ) (o : Ordering) → Cmp o (r * 2) b → r < b → apart (nearest w o * b) (w * b + r) * 2 ≤ b
 half w r b Ordering·lt h l = omega arith
 half w r b Ordering·eq h l =
@@ -51,24 +54,29 @@ half w r b Ordering·eq h l =
     ]
 half w r b Ordering·gt h l = omega (arith, suc-mul w b)
 
+-- so the multiple of b that is picked for a is at most half of b away from a
 closest-half : (a b : ℕ) → 0 < b → apart (closest a b * b) a * 2 ≤ b
 closest-half a b B =
     subst (λ (x : ℕ). apart (closest a b * b) x * 2 ≤ b) (div-add-mod' a b)
     (half (a / b) (a % b) b (compare (a % b * 2) b) (cmp (a % b * 2) b) (mod-lt a B))
 
 -- ---- where the whole part has all p digits, a unit of the last kept digit is at most one part in 2 ^ (p - 1)
+-- the p - 1 kept digits behind the first and the z - p dropped ones are fewer than all z
 last : (p z : ℕ) → 0 < p → p ≤ z → p - 1 + (z - p) < z
 last p z P h = omega arith
 
+-- n / c is at least 2 ^ (p - 1) units of its last kept digit
 unit-le : (p n c : ℕ) → 0 < p → 0 < c → p ≤ size (n / c) → 2 ^ (p - 1) * (c * 2 ^ drop p n c) ≤ n
 unit-le p n c P C N =
     let k = drop p n c in
     le-trans (le-of-eq (simp (mul-assoc, mul-comm, mul-left-comm, pow-add)))
     (le-div-iff-mul-le C .0 (size-reaches (n / c) (p - 1 + k) (last p (size (n / c)) P N)))
 
+-- a power of 2 is twice the one before it
 halved : (p : ℕ) → 0 < p → 2 ^ p ≡ 2 ^ (p - 1) * 2
 halved (suc p) P = simp unary-clauses
 
+-- in the normal range a / c rounded, in units, is off by at most one part in 2 ^ prec
 pub grid-near : (f : Format) (a c : ℕ) → 0 < c → prec f ≤ size (a * 2 ^ low f / c)
     → 2 ^ prec f * apart (grid f a c * c) (a * 2 ^ low f) ≤ a * 2 ^ low f
 grid-near f a c C N =
@@ -85,9 +93,11 @@ grid-near f a c C N =
     (le-trans (mul-le-mul-left (2 ^ (p - 1)) h) (unit-le p n c P C N)))
 
 -- ---- from units of the smallest value to the value: x / y is g units, where L units are 1
+-- two numbers taken k times are k times as far apart
 apart-scale : (k x y : ℕ) → apart (k * x) (k * y) ≡ k * apart x y
 apart-scale k x y = sym (mul-add k (x - y) (y - x) ∙ ap (λ (z : ℕ). z + k * (y - x)) (mul-sub k x y) ∙ ap (λ (z : ℕ). k * x - k * y + z) (mul-sub k y x))
 
+-- x / y is off from a / c by at most one part in P where the equal fraction g / L is
 pub cross : (P x y g L a c : ℕ) → 0 < L → x * L ≡ g * y → P * apart (g * c) (a * L) ≤ a * L → P * apart (x * c) (a * y) ≤ a * y
 cross P x y g L a c l e h =
     le-of-mul-le-mul-left
@@ -136,6 +146,7 @@ div-is f (fin false m e) (fin false n d) a c C h k = go (eqb n 0) (eqb→eq n 0)
     go true z = absurd (lt-irrefl 0 (subst (λ (x : ℕ). 0 < x) (z tt) N))
     go false z = round-same f false (m * up e * down d) (n * up d * down e) a c (mul-pos (mul-pos N (up-pos d)) (down-pos e)) C same
 
+-- a float of value g / L is near a / c where g / L is off by at most one part in 2 ^ 53
 near-of-value : (x : Float) (g L a c : ℕ) → 0 < L → HasValue x false g L → 2 ^ 53 * apart (g * c) (a * L) ≤ a * L → Near c a x
 near-of-value nan g L a c l h k = absurd h
 near-of-value (inf s) g L a c l h k = absurd h
@@ -146,6 +157,7 @@ near-of-value (fin false m e) g L a c l h k = cross (2 ^ 53) (m * up e) (down e)
 under : (g c n B : ℕ) → 0 < c → 2 ^ 53 * apart (g * c) n ≤ n → n * 2 < B → g < B
 under g c n B C h b = omega (arith, mul-le-mul-left g C, mul-one g)
 
+-- a / c rounded to binary64 is near, for numbers up to 2 ^ 53: unless a is 0, a / c is in the normal range
 round-near : (a c : ℕ) → a ≤ 2 ^ 53 → 0 < c → c ≤ 2 ^ 53 → Near c a (round binary64 false a c)
 round-near a c A C D = elim (eq-zero-or-pos a) [ inl z ↦ none z | inr p ↦ some p ]
   where
@@ -167,6 +179,7 @@ round-near a c A C D = elim (eq-zero-or-pos a) [ inl z ↦ none z | inr p ↦ so
         (round-val binary64 a c (under (grid binary64 a c) c n (2 ^ (1074 + 1024)) C h top))
         h
 
+-- numbers up to 2 ^ 53 are floats exactly, so their float quotient is a / c rounded, and near
 pub quotient-near : (a c : ℕ) → a ≤ 2 ^ 53 → 0 < c → c ≤ 2 ^ 53 → Near c a (div binary64 (ofInt binary64 (pos a)) (ofInt binary64 (pos c)))
 unfolding ofInt
 quotient-near a c A C D =

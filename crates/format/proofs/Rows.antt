@@ -23,10 +23,12 @@ all-rows h (row ∷ rows) = more (h row) (all-rows h rows)
 abbrev pub as-is : {A : Type 0} → A → A
 as-is row = row
 
+-- a view that changes none of the rows leaves the list as it is
 pub map-fixed : {A : Type 0} (view : A → A) {rows : List A} → All (λ row. view row ≡ row) rows → map view rows ≡ rows
 map-fixed view none = refl
 map-fixed {A} view (more h hs) = ap₂ (λ (x : A) (xs : List A). x ∷ xs) h (map-fixed view hs)
 
+-- rows viewed as they are stay the same list
 pub map-as-is : {A : Type 0} (rows : List A) → map as-is rows ≡ rows
 map-as-is rows = map-fixed as-is (all-rows (λ row. refl) rows)
 
@@ -58,10 +60,12 @@ drop-rows row w p (suc n) (suc c) h =
     let f : suc n - suc c ≡ n - c = omega arith in
     rw (e, f) (drop-rows row w (p + w) n c (omega arith))
 
+-- a fact of the row at any place holds of all rows that are read
 pub rows-all : {A : Type 0} {P : A → Type 0} (row : ℕ → A) (next : ℕ → ℕ) → ((p : ℕ) → P (row p)) → (p n : ℕ) → All P (rowsAt row next p n)
 rows-all row next h p zero = none
 rows-all row next h p (suc n) = more (h p) (rows-all row next h (next p) n)
 
+-- a fact of all rows behind any item holds of all that are gathered
 pub gather-all : {A : Type 0} {P : A → Type 0} (rows : ℕ → List A) (next : ℕ → ℕ) → ((p : ℕ) → All P (rows p)) → (p n : ℕ) → All P (gather rows next p n)
 gather-all rows next h p zero = none
 gather-all rows next h p (suc n) = all-append (h p) (gather-all rows next h (next p) n)
@@ -114,6 +118,7 @@ module _ {A : Type 0} (row : ℕ → A) (w p n : ℕ) where
 -- each row is read back as `view` of it
 module _ {A : Type 0} (s : List ℕ) (rowAt : ℕ → A) (next : ℕ → ℕ) (bytes : A → List ℕ) (view : A → A) (Good : A → Type 0)
     (back : (p : ℕ) (row : A) → Good row → Stands s p (bytes row) → (rowAt p ≡ view row) × (next p ≡ p + length (bytes row))) where
+  -- rows whose bytes stand one behind the other are read back in order, and end where their bytes do
   pub rows-back : {rows : List A} → All Good rows → (p : ℕ) → Stands s p (flat bytes rows)
       → (rowsAt rowAt next p (length rows) ≡ map view rows) × (endOf next p (length rows) ≡ p + length (flat bytes rows))
   rows-back none p t = (refl, sym (add-zero p))
@@ -136,6 +141,7 @@ module _ (s : List ℕ) (headAt : ℕ → Row) (size : ℕ) (head : Row → List
     (headBack : (p : ℕ) (row : Row) → GoodHead row → Stands s p (head row) → (headAt p ≡ row) × (length (head row) ≡ size))
     (rowAt : ℕ → Row) (next : ℕ → ℕ) (bytes : Row → List ℕ) (view : Row → Row) (Good : Row → Type 0)
     (back : (p : ℕ) (row : Row) → Good row → Stands s p (bytes row) → (rowAt p ≡ view row) × (next p ≡ p + length (bytes row))) where
+  -- heads and the rows behind them, as many as the counts say, are read back in order, and end where their bytes do
   pub groups-back : {hs : List Row} → All GoodHead hs → {rows : List Row} → All Good rows → total count hs ≡ length rows
       → (p : ℕ) → Stands s p (groups head count bytes hs rows)
       → (rowsAt headAt (λ q. endOf next (q + size) (count (headAt q))) p (length hs) ≡ hs)

@@ -17,6 +17,7 @@ use Rattle.format.proofs.Good.{GoodAtc, GoodStc, GoodProgram, GoodStrea
 use Rattle.format.proofs.Numbers.{Stands, left, right, bytes-length, Fill, fill, fields-back, fields-length}
 use Rattle.format.proofs.Rows.{as-is, map-as-is, groups-back}
 
+-- no language is still none when lowered
 lowered-zero : lowered 0 ≡ 0
 unfolding lowered lower
 lowered-zero = refl
@@ -24,12 +25,14 @@ lowered-zero = refl
 -- ---- rows
 
 module _ (s : List ℕ) (p : ℕ) where
+  -- a good ATC is read back from its six bytes
   pub atc-back : (row : Row) → GoodAtc row → Stands s p (atcBytes row) → (atcAt s p ≡ row) × (length (atcBytes row) ≡ 6)
   atc-back row (one {v = a} ha (one {v = b} hb (one {v = c} hc Fit.none))) t =
       let f = fill 4 a ha (fill 1 b hb (fill 1 c hc Fill.none)) in
       let e : p + 4 + 1 ≡ p + 5 = omega arith in
       (rw e at (fields-back p f t), fields-length f)
 
+  -- a good STC is read back, and the next one stands behind its bytes
   pub stc-back : (row : Row) → GoodStc row → Stands s p (stcBytes row) → (stcAt s p ≡ row) × (nextStc p ≡ p + length (stcBytes row))
   stc-back row (one {v = a} ha (one {v = b} hb (one {v = c} hc (one {v = d} hd Fit.none)))) t =
       let f = fill 2 a ha (fill 4 b hb (fill 4 c hc (fill 4 d hd Fill.none))) in
@@ -37,6 +40,7 @@ module _ (s : List ℕ) (p : ℕ) where
       let e′ : p + 6 + 4 ≡ p + 10 = omega arith in
       (rw (e, e′) at (fields-back p f t), rw (fields-length f))
 
+  -- a good program is read back from its eight bytes
   pub program-back : (row : Row) → GoodProgram row → Stands s p (programBytes row) → (programAt s p ≡ row) × (length (programBytes row) ≡ 8)
   program-back row (one {v = a} ha (one {v = b} hb (one {v = c} hc Fit.none))) t =
       let f = fill 4 a ha (fill 2 b hb (fill 1 c hc Fill.none)) in
@@ -46,6 +50,7 @@ module _ (s : List ℕ) (p : ℕ) where
         length-append bytes (bytesOf 1 0) ∙ omega (arith, fields-length f, bytes-length 1 0),
       )
 
+  -- a stream is read back, its language lowered, from each kind of body: video, without a language, with one
   stream-go : (row : Row) (v z : Bool) → Fit (16 ∷ 8 ∷ 8 ∷ 4 ∷ 24 ∷ []) row → isVideo (codingType row) ≡ v → eqb (language row) 0 ≡ z
       → pick v (eqb (language row) 0) (eqb (aspect row) 0) ≡ true
       → Stands s p (streamBytesBy v z row) → (streamAt s p ≡ loweredStream row) × (nextStream s p ≡ p + length (streamBytesBy v z row))
@@ -92,10 +97,12 @@ module _ (s : List ℕ) (p : ℕ) where
       let c4 : aspect ≡ 0 = eqb-true aspect 0 only in
       (rw (size, c0, c1, c2, video, c3, c4), rw (size, fields-length f) (omega arith))
 
+  -- a good stream is read back, its language lowered, and the next one stands behind its bytes
   pub stream-back : (row : Row) → GoodStream row → Stands s p (streamBytes row) → (streamAt s p ≡ loweredStream row) × (nextStream s p ≡ p + length (streamBytes row))
   stream-back row g t = stream-go row (isVideo (codingType row)) (eqb (language row) 0) (g .cells) refl refl (g .only) t
 
   -- ---- a section's header
+  -- the count of a section is read back, and its items stand six bytes behind its start
   pub section-back : (count : ℕ) (items : List ℕ) → count ≤ 255 → length items < 4294967000 → Stands s p (sectionBytes count items)
       → (beAt s (p + 5) 1 ≡ count) × Stands s (p + 6) items
   section-back count items few short t =
@@ -109,10 +116,12 @@ module _ (s : List ℕ) (p : ℕ) where
 
 -- ---- sections
 
+-- a section has six bytes before its items
 pub section-length : (count : ℕ) (items : List ℕ) → length (sectionBytes count items) ≡ 6 + length items
 section-length count items = simp (length-append, bytes-length)
 
 module _ (s : List ℕ) (p most : ℕ) (c : Clip) (g : GoodClip most c) where
+  -- a good record's ATCs and STCs are read back from its sequences, which end where their bytes do
   pub sequences-back : length (sequencesBytes c) < 4294967000 → Stands s p (sequencesBytes c)
       → (atcsFrom s p ≡ c .atcs) × (stcsFrom s p ≡ c .stcs) × (sequencesEnd s p ≡ p + length (sequencesBytes c))
   unfolding sequencesBytes atcsFrom stcsFrom sequencesEnd
@@ -124,6 +133,7 @@ module _ (s : List ℕ) (p most : ℕ) (c : Clip) (g : GoodClip most c) where
       (g .atcs-good) (g .stcs-good) (g .stcs-add) (p + 6) (h .1) in
       (rw (h .0) (b .0), rw (h .0) (b .1 ∙ map-as-is (c .stcs)), rw (h .0) (b .2 ∙ rw size (add-assoc p 6 (length items))))
 
+  -- a good record's programs are read back, and its streams with their languages lowered; the section ends where its bytes do
   pub programs-back : length (programsBytes c) < 4294967000 → Stands s p (programsBytes c)
       → (programsFrom s p ≡ c .programs) × (streamsFrom s p ≡ map loweredStream (c .streams)) × (programsEnd s p ≡ p + length (programsBytes c))
   unfolding programsBytes programsFrom streamsFrom programsEnd

@@ -115,6 +115,7 @@ row-bytes row = flat-length 4 cellBytes (all-rows (λ v. low-length 4 v) row)
 abbrev pub HaveCells : ℕ → List Row → Type 0
 HaveCells cells rows = All (λ row. length row ≡ cells) rows
 
+-- a table has four bytes for each cell of each row
 pub table-bytes : (cells : ℕ) {rows : List Row} → HaveCells cells rows → length (tableBytes rows) ≡ 4 * cells * length rows
 table-bytes cells h = flat-length (4 * cells) rowBytes (all-map (λ row e. row-bytes row ∙ ap (λ (n : ℕ). 4 * n) e) h)
 

@@ -38,6 +38,7 @@ row-back t cells p row c st =
     let e : rowsAt (cellAt t) (λ q. q + 4) p cells ≡ row = rw (c .count) at (r .0) ∙ map-as-is row in
     (e, ap (λ (n : ℕ). p + n) (sym (row-bytes row ∙ ap (λ (m : ℕ). 4 * m) (c .count))))
 
+-- rows put at the front of a table are read back from it, whatever stands beyond them
 pub table-back : (cells : ℕ) {rows : List Row} → All (Cells cells) rows → (beyond : List ℕ) → tableRows cells (tableBytes rows ++ beyond) (length rows) ≡ rows
 unfolding tableRows
 table-back cells {rows} h beyond =

@@ -42,6 +42,7 @@ pass k h e = rw h e
 pub left-fails : {a : Bool} (b : Bool) → a ≡ false → both a b ≡ false
 left-fails b h = rw h
 
+-- so does a second test that fails, whatever the first says
 pub right-fails : (a : Bool) {b : Bool} → b ≡ false → both a b ≡ false
 right-fails true h = h
 right-fails false h = refl

@@ -23,6 +23,7 @@ use Rattle.format.proofs.Numbers.{Stands, left, right, bytes-length, Fi
 use Rattle.format.proofs.Sections.{sequences-back, programs-back}
 use Rattle.format.proofs.Tests.{true-both, pass}
 
+-- each value of the first 220 bytes fits its field: a good record's scalars do, and so do starts below 2 ^ 32
 head-fill : (c : Clip) (pr cp mk : ℕ) → GoodClip 65535 c → pr < 2 ^ 32 → cp < 2 ^ 32 → mk < 2 ^ 32 → Fill headWidths (headValues (c .scalars) pr cp mk)
 head-fill c pr cp mk g h0 h1 h2 = go (g .scalars)
   where
@@ -34,11 +35,13 @@ head-fill c pr cp mk g h0 h1 h2 = go (g .scalars)
         (fill 4 (c .scalars .rate) v3 (fill 4 (c .scalars .packets) v4 (fill 128 0 (lit< tt) (fill 1 (c .scalars .validityFlags) v5 (fill 1 0 (lit< tt) (fill 4 (c .scalars .formatId) v6
         (fill 26 0 (lit< tt) Fill.none)))))))))))))))))))
 
+-- a list of bytes stands in itself at 0
 itself : (g : List ℕ) → Stands g 0 g
 itself g = record { before = []; behind = []; place = refl; whole = sym (append-nil g) }
 
 -- ---- the file of a record
 
+-- how long the file g of a record is, what its first 220 bytes say, and where the bytes of each section stand
 record Facts (c : Clip) (g : List ℕ) (pr cp mk : ℕ) : Type 0 where
   long : length g ≡ mk + 6
   head : fieldsAt g 0 headWidths ≡ headValues (c .scalars) pr cp mk
@@ -48,6 +51,7 @@ record Facts (c : Clip) (g : List ℕ) (pr cp mk : ℕ) : Type 0 where
   marks-at : Stands g mk marksBytes
 
 module _ (c : Clip) (good : GoodClip 65535 c) where
+  -- where the programs, the CPI and the marks start, each behind the section before it
   abbrev pr : ℕ
   pr = 220 + length (sequencesBytes c)
 
@@ -57,6 +61,7 @@ module _ (c : Clip) (good : GoodClip 65535 c) where
   abbrev mk : ℕ
   mk = cp + length (cpiBytes c)
 
+  -- the new file of a good record has its sections at these places: none is so long that a start passes 32 bits
   facts : Facts c (encode c) pr cp mk
   unfolding encode headBytes
   facts =
@@ -89,9 +94,11 @@ module _ (c : Clip) (good : GoodClip 65535 c) where
 -- ---- what is read of it
 
 module _ (c : Clip) (good : GoodClip 65535 c) where
+  -- each field of the first 220 bytes is read as the value that was written
   at : (i : ℕ) → getD (fieldsAt (encode c) 0 headWidths) i 0 ≡ getD (headValues (c .scalars) (pr c good) (cp c good) (mk c good)) i 0
   at i = ap (λ (l : List ℕ). getD l i 0) (facts c good .head)
 
+  -- the new file of a good record stays below 536,870,912 bytes: no refusal 20
   pub is-short : length (encode c) ≤ 402515706
   is-short =
       let sb = sequences-bound c good in
@@ -100,13 +107,16 @@ module _ (c : Clip) (good : GoodClip 65535 c) where
       let l = facts c good .long in
       omega arith
 
+  -- its sequences read to the ATCs and STCs of the record, and end where their bytes do
   sequences : (atcsFrom (encode c) 220 ≡ c .atcs) × (stcsFrom (encode c) 220 ≡ c .stcs) × (sequencesEnd (encode c) 220 ≡ 220 + length (sequencesBytes c))
   sequences = let sb = sequences-bound c good in sequences-back (encode c) 220 65535 c good (omega arith) (facts c good .sequences-at)
 
+  -- its programs read to those of the record, the streams with their languages lowered, and end where their bytes do
   programs : (programsFrom (encode c) (pr c good) ≡ c .programs) × (streamsFrom (encode c) (pr c good) ≡ map loweredStream (c .streams))
       × (programsEnd (encode c) (pr c good) ≡ pr c good + length (programsBytes c))
   programs = let pb = programs-bound c good in programs-back (encode c) (pr c good) 65535 c good (omega arith) (facts c good .programs-at)
 
+  -- its CPI reads to the maps and entries of the record, and passes the tests of refusals 6 and 7
   cpi : (mapsFrom (encode c) (cp c good) ≡ c .maps) × (entriesFrom (encode c) (cp c good) ≡ c .entries)
       × (cpiIn (encode c) (cp c good) ≡ true) × (mapsIn (encode c) (cp c good) ≡ true)
   unfolding cpiBytes
@@ -116,6 +126,7 @@ module _ (c : Clip) (good : GoodClip 65535 c) where
       let cb = cpi-bound c good in
       cpi-back (encode c) (cp c good) (omega arith) (good .maps-good) (good .maps-few) (omega arith) (facts c good .cpi-at)
 
+  -- its first 220 bytes read to the scalars of the record
   scalars : scalarsOf (encode c) ≡ c .scalars
   unfolding scalarsOf
   scalars = λ i. record {
@@ -149,11 +160,13 @@ module _ (c : Clip) (good : GoodClip 65535 c) where
       let b : beAt (encode c) (mk c good + 4) 2 ≡ 0 = ap (λ (l : List ℕ). getD l 1 0) (fields-back (mk c good) f (facts c good .marks-at)) in
       rw (is-present (encode c) (mk c good) (λ e. omega arith) (omega arith)) b
 
+  -- the whole that is read of it: the clip with its languages lowered, and neither marks, extensions nor a (2, 5) list
   pub record-back : recordOf (encode c)
       ≡ record { clip = loweredClip c; marks = 0; extensions = []; hasList = false; listPrograms = []; listStreams = [] }
   unfolding recordOf extensionsFrom extensionRows listData listIn
   record-back = rw (reads-back, at 5, at 6, marks)
 
+  -- the new file of a good record passes every test of reading
   pub is-accepted : refusalOf (encode c) ≡ 0
   unfolding refusalOf lettersRight clipInfoIn marksIn
   is-accepted =

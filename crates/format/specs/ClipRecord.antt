@@ -50,6 +50,7 @@ pub record Record : Type 0 where
 
 -- ---- cells by name
 
+-- the cells that are used by name, each in its column of the tables above; a cell that a row does not have counts 0
 abbrev pub atcStcCount : Row → ℕ
 atcStcCount atc = getD atc 1 0
 
@@ -108,6 +109,7 @@ time entry = getD entry 2 0
 abbrev pub entryTime : Row → Ticks90
 entryTime entry = record { ticks = time entry }
 
+-- an entry's last two cells: its packet, and its type, which is to be its map's
 abbrev pub packet : Row → ℕ
 packet entry = getD entry 3 0
 
@@ -123,6 +125,7 @@ hdmv = 0x48444D56
 abbrev pub clpi : ℕ
 clpi = 0x434C5049
 
+-- either of the two is right
 abbrev pub areLetters : ℕ → Bool
 areLetters letters = either (eqb letters hdmv) (eqb letters clpi)
 
@@ -130,9 +133,11 @@ areLetters letters = either (eqb letters hdmv) (eqb letters clpi)
 unfoldable pub lettersRight : List ℕ → Bool
 lettersRight f = areLetters (beAt f 0 4)
 
+-- four bytes as one number, whatever they say
 abbrev pub versionOf : List ℕ → ℕ
 versionOf f = beAt f 4 4
 
+-- five u32, one behind the other: the starts of sequences, programs, CPI, marks and extensions
 abbrev pub sequencesStart : List ℕ → ℕ
 sequencesStart f = beAt f 8 4
 
@@ -150,6 +155,7 @@ extensionsStart f = beAt f 24 4
 
 -- ---- ClipInfo
 
+-- the version is the header's; the other fields stand at fixed places, whatever the ClipInfo length is
 unfoldable pub scalarsOf : List ℕ → Scalars
 scalarsOf f = record {
   version = versionOf f;
@@ -175,12 +181,15 @@ atcAt f p = beAt f p 4 ∷ beAt f (p + 4) 1 ∷ beAt f (p + 5) 1 ∷ []
 abbrev pub stcAt : List ℕ → ℕ → Row
 stcAt f p = beAt f p 2 ∷ beAt f (p + 2) 4 ∷ beAt f (p + 6) 4 ∷ beAt f (p + 10) 4 ∷ []
 
+-- STCs stand one behind the other, 14 bytes each
 abbrev pub nextStc : ℕ → ℕ
 nextStc p = p + 14
 
+-- the STCs of the ATC at p: behind its six bytes, as many as its count says
 abbrev pub stcsOf : List ℕ → ℕ → List Row
 stcsOf f p = rowsAt (stcAt f) nextStc (p + 6) (beAt f (p + 4) 1)
 
+-- the next ATC starts where the STCs of the one at p end
 abbrev pub nextAtc : List ℕ → ℕ → ℕ
 nextAtc f p = endOf nextStc (p + 6) (beAt f (p + 4) 1)
 
@@ -200,8 +209,10 @@ sequencesEnd f start = endOf (nextAtc f) (start + 6) (beAt f (start + 5) 1)
 abbrev pub present : List ℕ → ℕ → Bool
 present f start = both (not (eqb start 0)) (ltb start (length f))
 
+-- the mark count; 0 where there is no such start
 unfoldable pub marksFrom : List ℕ → ℕ → ℕ
 marksFrom f start = pick (present f start) (beAt f (start + 4) 2) 0
 
+-- the six bytes are there wherever they are read, else 8
 unfoldable pub marksIn : List ℕ → ℕ → Bool
 marksIn f start = pick (present f start) (leb (start + 6) (length f)) true

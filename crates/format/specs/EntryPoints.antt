@@ -14,6 +14,7 @@ use Rattle.format.specs.ClipRecord.{Row, present}
 abbrev pub coarseWidths : List ℕ
 coarseWidths = 18 ∷ 14 ∷ 32 ∷ []
 
+-- the row at p, where the next one starts, and its three fields
 abbrev pub coarseAt : List ℕ → ℕ → Row
 coarseAt f p = unpacked coarseWidths (beAt f p 8)
 
@@ -33,6 +34,7 @@ coarsePacket coarse = getD coarse 2 0
 abbrev pub fineWidths : List ℕ
 fineWidths = 1 ∷ 3 ∷ 11 ∷ 17 ∷ []
 
+-- the row at p, where the next one starts, and the two fields that are joined with a coarse row's
 abbrev pub fineAt : List ℕ → ℕ → Row
 fineAt f p = unpacked fineWidths (beAt f p 4)
 
@@ -81,9 +83,11 @@ entriesFor type coarse k (x ∷ fine) = entryOf type (coarseFor coarse k) x ∷ 
 abbrev pub headerWidths : List ℕ
 headerWidths = 10 ∷ 4 ∷ 16 ∷ 18 ∷ []
 
+-- the bit fields of the header at p, which stand behind its PID
 abbrev pub headerAt : List ℕ → ℕ → Row
 headerAt f p = unpacked headerWidths (beAt f (p + 2) 6)
 
+-- what they say: the type, and how many coarse and fine rows the body has
 abbrev pub mapTypeAt : List ℕ → ℕ → ℕ
 mapTypeAt f p = getD (headerAt f p) 1 0
 
@@ -93,9 +97,11 @@ coarseCountAt f p = getD (headerAt f p) 2 0
 abbrev pub fineCountAt : List ℕ → ℕ → ℕ
 fineCountAt f p = getD (headerAt f p) 3 0
 
+-- the row that table 5 gets of it: PID, type, and as many entries as fine rows
 abbrev pub mapAt : List ℕ → ℕ → Row
 mapAt f p = beAt f p 2 ∷ mapTypeAt f p ∷ fineCountAt f p ∷ []
 
+-- headers stand one behind the other, 12 bytes each
 abbrev pub nextMap : ℕ → ℕ
 nextMap p = p + 12
 
@@ -107,6 +113,7 @@ bodyAt f c p = c + 6 + beAt f (p + 8) 4
 abbrev pub fineStart : List ℕ → ℕ → ℕ → ℕ
 fineStart f c p = bodyAt f c p + beAt f (bodyAt f c p) 4
 
+-- the entries of the map whose header is at p, one for each fine row
 abbrev pub entriesOf : List ℕ → ℕ → ℕ → List Row
 entriesOf f c p =
     entriesFor (mapTypeAt f p)
@@ -115,6 +122,7 @@ entriesOf f c p =
 
 -- ---- the section that starts at c: u32 length N, u16 with the CPI type in its low four bits, a spare byte, u8 map count
 
+-- N, which does not count its own four bytes
 abbrev pub cpiLength : List ℕ → ℕ → ℕ
 cpiLength f c = beAt f c 4
 
@@ -122,6 +130,7 @@ cpiLength f c = beAt f c 4
 abbrev pub cpiEnd : List ℕ → ℕ → ℕ
 cpiEnd f c = c + 4 + cpiLength f c
 
+-- only a section of type 1 has maps
 abbrev pub cpiType : List ℕ → ℕ → ℕ
 cpiType f c = beAt f (c + 4) 2 % 2 ^ 4
 
@@ -129,12 +138,15 @@ cpiType f c = beAt f (c + 4) 2 % 2 ^ 4
 unfoldable pub hasMaps : List ℕ → ℕ → Bool
 hasMaps f c = both (present f c) (both (leb 2 (cpiLength f c)) (both (eqb (cpiType f c) 1) (leb 4 (cpiLength f c))))
 
+-- the count that the section gives; 0 where there are no maps
 unfoldable pub mapCount : List ℕ → ℕ → ℕ
 mapCount f c = pick (hasMaps f c) (beAt f (c + 7) 1) 0
 
+-- the rows of table 5, in the order of their headers
 unfoldable pub mapsFrom : List ℕ → ℕ → List Row
 mapsFrom f c = rowsAt (mapAt f) nextMap (c + 8) (mapCount f c)
 
+-- the rows of table 6, map after map
 unfoldable pub entriesFrom : List ℕ → ℕ → List Row
 entriesFrom f c = gather (entriesOf f c) nextMap (c + 8) (mapCount f c)
 
@@ -148,6 +160,7 @@ cpiLengthIn f c = pick (present f c) (leb (cpiEnd f c) (length f)) true
 abbrev pub mapHeadersIn : List ℕ → ℕ → Bool
 mapHeadersIn f c = pick (hasMaps f c) (leb (c + 8 + 12 * mapCount f c) (length f)) true
 
+-- the section and the map headers lie within the file, else 6
 unfoldable pub cpiIn : List ℕ → ℕ → Bool
 cpiIn f c = both (cpiLengthIn f c) (mapHeadersIn f c)
 
@@ -169,8 +182,10 @@ fineAddressIn f c p = leb (fineStart f c p) (cpiEnd f c)
 abbrev pub fineRowsIn : List ℕ → ℕ → ℕ → Bool
 fineRowsIn f c p = leb (fineStart f c p + 4 * fineCountAt f p) (length f)
 
+-- none of the four causes holds
 abbrev pub mapIn : List ℕ → ℕ → ℕ → Bool
 mapIn f c p = both (addressIn f c p) (both (coarseRowsIn f c p) (both (fineAddressIn f c p) (fineRowsIn f c p)))
 
+-- so it is for each map, else 7
 unfoldable pub mapsIn : List ℕ → ℕ → Bool
 mapsIn f c = every (λ b. b) (rowsAt (mapIn f c) nextMap (c + 8) (mapCount f c))

@@ -10,6 +10,7 @@ use Rattle.format.specs.Programs.{programsFrom, streamsFrom, programsEnd
 
 -- ---- the block that starts at `start`: u32 block length, u32 ignored, 3 spare bytes, u8 count
 
+-- a length of 0 means no entries; it does not count its own four bytes
 abbrev pub blockLength : List ℕ → ℕ → ℕ
 blockLength f start = beAt f start 4
 
@@ -17,6 +18,7 @@ blockLength f start = beAt f start 4
 abbrev pub blockEnd : List ℕ → ℕ → ℕ
 blockEnd f start = start + 4 + blockLength f start
 
+-- the entries that the block gives, those left out among them
 abbrev pub extensionCount : List ℕ → ℕ → ℕ
 extensionCount f start = beAt f (start + 11) 1
 
@@ -27,6 +29,7 @@ addressAt f p = beAt f (p + 4) 4
 abbrev pub dataLengthAt : List ℕ → ℕ → ℕ
 dataLengthAt f p = beAt f (p + 8) 4
 
+-- entries stand one behind the other, 12 bytes each
 abbrev pub nextExtension : ℕ → ℕ
 nextExtension p = p + 12
 
@@ -40,6 +43,7 @@ isKept f start p =
     both (not (eqb (addressAt f p) 0))
     (leb (start + addressAt f p + dataLengthAt f p) (min (blockEnd f start) (length f)))
 
+-- one row of the entry at p, or no row where it is left out
 abbrev pub keptAt : List ℕ → ℕ → ℕ → List Row
 keptAt f start p = pick (isKept f start p) (extensionAt f start p ∷ []) []
 
@@ -73,6 +77,7 @@ dataLength row = getD row 3 0
 abbrev pub dataOf : List ℕ → Row → List ℕ
 dataOf f row = part f (dataStart row) (dataLength row)
 
+-- a row's ids and its data's bytes, without the place
 abbrev pub extensionOf : List ℕ → Row → Extension
 extensionOf f row = record { id1 = firstId row; id2 = secondId row; bytes = dataOf f row }
 
@@ -80,6 +85,7 @@ extensionOf f row = record { id1 = firstId row; id2 = secondId row; bytes = data
 abbrev pub dataIn : List ℕ → Row → Bool
 dataIn f row = leb (dataStart row + dataLength row) (length f)
 
+-- the record's extensions, one for each row of table 7
 unfoldable pub extensionsFrom : List ℕ → ℕ → List Extension
 extensionsFrom f start = map (extensionOf f) (extensionRows f start)
 
@@ -90,6 +96,7 @@ pub data Found : Type 0 where
   nothing : Found
   found : List ℕ → Found
 
+-- the first counts, even where only a later one could be read as programs
 unfoldable pub listData : List Extension → Found
 listData [] = nothing
 listData (x ∷ later) = pick (both (eqb (x .id1) 2) (eqb (x .id2) 5)) (found (x .bytes)) (listData later)
@@ -99,6 +106,7 @@ unfoldable pub listIn : Found → Bool
 listIn nothing = false
 listIn (found d) = leb (programsEnd d 0) (length d)
 
+-- the programs of table 8 and the streams of table 9, used only where there is a second list
 abbrev pub listProgramsOf : Found → List Row
 listProgramsOf nothing = []
 listProgramsOf (found d) = programsFrom d 0

@@ -24,6 +24,7 @@ decimal n = digits 20 n
 abbrev pub spaced : ℕ → List ℕ
 spaced n = 32 ∷ decimal n
 
+-- a line of the listing, its newline included
 unfoldable pub line : List ℕ → List ℕ → List ℕ
 line word numbers = word ++ (flat spaced numbers ++ (10 ∷ []))
 
@@ -89,6 +90,7 @@ recordLines r =
 abbrev pub rows4096 : ℕ → List ℕ
 rows4096 cells = replicate (4096 * (4 * cells)) 0
 
+-- one for each table, zeros; a file that needs more rows in one of them is refused with 21
 unfoldable pub listingTables : Nine (List ℕ)
 listingTables = record {
   atcs = rows4096 atcCells;

@@ -53,9 +53,11 @@ nextStream f p = p + 3 + beAt f (p + 2) 1
 abbrev pub programAt : List ℕ → ℕ → Row
 programAt f p = beAt f p 4 ∷ beAt f (p + 4) 2 ∷ beAt f (p + 6) 1 ∷ []
 
+-- the streams of the program at p: behind its eight bytes, as many as its count says
 abbrev pub streamsOf : List ℕ → ℕ → List Row
 streamsOf f p = rowsAt (streamAt f) (nextStream f) (p + 8) (beAt f (p + 6) 1)
 
+-- the next program starts where the streams of the one at p end
 abbrev pub nextProgram : List ℕ → ℕ → ℕ
 nextProgram f p = endOf (nextStream f) (p + 8) (beAt f (p + 6) 1)
 
@@ -71,9 +73,11 @@ programsEnd f start = endOf (nextProgram f) (start + 6) (beAt f (start + 5) 1)
 
 -- ---- a record with its languages lowered: what reading gives of a record that was made by hand and written
 
+-- the language alone changes
 abbrev pub loweredStream : Row → Row
 loweredStream s = streamPid s ∷ codingType s ∷ formatByte s ∷ aspect s ∷ lowered (language s) ∷ []
 
+-- all streams lowered, the rest as it is
 unfoldable pub loweredClip : Clip → Clip
 loweredClip c = record {
   scalars = c .scalars;

@@ -143,6 +143,7 @@ abbrev pub lastOf : Ticks90 → List Row → Ticks90
 lastOf t [] = t
 lastOf t (e ∷ es) = lastOf (entryTime e) es
 
+-- first and last are by row, also where the times do not ascend
 unfoldable pub spanOf : List Row → Ticks90
 spanOf [] = record { ticks = 0 }
 spanOf (e ∷ es) = less90 (lastOf (entryTime e) es) (entryTime e)
@@ -165,6 +166,7 @@ lastTime (e ∷ es) = ticks90 (lastOf (entryTime e) es)
 
 -- ---- the primary map, by the low four bits of the type: first of type 8, else first of 1, 5, 6, 8, else least PID, earliest among equals
 
+-- the map types that are video
 abbrev pub isVideoMap : ℕ → Bool
 isVideoMap type = either (eqb type 1) (either (eqb type 5) (either (eqb type 6) (eqb type 8)))
 
@@ -172,6 +174,7 @@ isVideoMap type = either (eqb type 1) (either (eqb type 5) (either (eqb type 6) 
 abbrev pub kinds : List Row → List ℕ
 kinds maps = map (λ (m : Row). mapType m % 16) maps
 
+-- a row of table 5; none without maps
 unfoldable pub primaryMap : List Row → Answer
 primaryMap maps =
     orElse (firstWhere (λ y. eqb y 8) 0 (kinds maps))
@@ -180,6 +183,7 @@ primaryMap maps =
 
 -- ---- packets and bytes: a packet has 192 bytes, 4 before its 188
 
+-- 192; packet n starts at n times as many bytes
 abbrev pub packetBytes : ℕ
 packetBytes = 4 + 188
 
@@ -229,6 +233,7 @@ minutesLeft stcs at = minutes (less90 (doubled (latestEnd stcs)) at)
 
 -- ---- streams: the first in file order
 
+-- the PID of the first video stream, or none
 unfoldable pub videoPid : List Row → Answer
 videoPid streams = ofRow streamPid streams (firstWhere isVideo 0 (map codingType streams))
 
@@ -307,6 +312,7 @@ ofStc stcs k question = unless22 (isRow k stcs) (question (getD stcs k []))
 
 -- ---- the answer to each question on a record
 
+-- 22 where a row number is outside its table or the counts do not add up, else what the rules above give
 unfoldable pub answer : Question → Clip → Answer
 answer (entryPointAtOrBefore m at) c = ofMap (c .maps) (c .entries) m (λ es. atOrBefore (map time es) (at .ticks))
 answer (entryPointAfter m at) c = ofMap (c .maps) (c .entries) m (λ es. after (map time es) (at .ticks))
@@ -349,6 +355,7 @@ pub data Part : Type 0 where
   maps : Part
   entries : Part
 
+-- a question is lent only what its answer needs
 abbrev pub partsOf : Question → List Part
 partsOf (entryPointAtOrBefore m at) = maps ∷ entries ∷ []
 partsOf (entryPointAfter m at) = maps ∷ entries ∷ []
@@ -389,6 +396,7 @@ partStated l streams = isStated streamCells (l .streams)
 partStated l maps = isStated mapCells (l .maps)
 partStated l entries = isStated entryCells (l .entries)
 
+-- 22 where a lent part states more rows than it has, else the answer on the record that the tables hold
 unfoldable pub ask : Question → ClipTables → Answer
 ask question l = unless22 (every (partStated l) (partsOf question)) (answer question (clipIn l))
 
@@ -404,6 +412,7 @@ HoldsPart l c entries = HoldsRows (l .entries) (c .entries)
 
 -- ---- 01's numbers of an answer: the refusal, whether there is a value, the value. Other numbers are 0
 
+-- a time is given as its ticks, seconds as the bits of the f64, and no rate has no value
 abbrev pub answerNumbers : Answer → List ℕ
 answerNumbers (refused n) = n ∷ 0 ∷ 0 ∷ []
 answerNumbers none = 0 ∷ 0 ∷ 0 ∷ []

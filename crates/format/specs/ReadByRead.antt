@@ -32,9 +32,11 @@ clipInfoRead f =
 abbrev pub stcRead : List ℕ → ℕ → Bool
 stcRead f p = readsIn f p (2 ∷ 4 ∷ 4 ∷ 4 ∷ [])
 
+-- an ATC's own fields, then its STCs
 abbrev pub atcRead : List ℕ → ℕ → Bool
 atcRead f p = both (readsIn f p (4 ∷ 1 ∷ 1 ∷ [])) (itemsIn (stcRead f) nextStc (p + 6) (beAt f (p + 4) 1))
 
+-- a start past the file's end fails at once; else the six bytes of the section, then each ATC
 unfoldable pub sequencesRead : List ℕ → ℕ → Bool
 sequencesRead f start =
     both (startIn f start)
@@ -44,9 +46,11 @@ sequencesRead f start =
 abbrev pub streamRead : List ℕ → ℕ → Bool
 streamRead f p = both (readsIn f p (2 ∷ 1 ∷ [])) (readsIn f (p + 3) (beAt f (p + 2) 1 ∷ []))
 
+-- a program's own fields, then its streams
 abbrev pub programRead : List ℕ → ℕ → Bool
 programRead f p = both (readsIn f p (4 ∷ 2 ∷ 1 ∷ 1 ∷ [])) (itemsIn (streamRead f) (nextStream f) (p + 8) (beAt f (p + 6) 1))
 
+-- a start past the file's end fails at once; else the six bytes of the section, then each program
 unfoldable pub programsRead : List ℕ → ℕ → Bool
 programsRead f start =
     both (startIn f start)
@@ -56,14 +60,17 @@ programsRead f start =
 abbrev pub mapHeaderRead : List ℕ → ℕ → Bool
 mapHeaderRead f p = readsIn f p (2 ∷ 6 ∷ 4 ∷ [])
 
+-- a spare byte and the map count, then each header
 abbrev pub cpiHeadersRead : List ℕ → ℕ → Bool
 cpiHeadersRead f c = both (readsIn f (c + 6) (1 ∷ 1 ∷ [])) (itemsIn (mapHeaderRead f) nextMap (c + 8) (beAt f (c + 7) 1))
 
+-- what stands behind the type is read only where the type is 1 and the length reaches the map count
 abbrev pub cpiTypeRead : List ℕ → ℕ → Bool
 cpiTypeRead f c =
     both (readsIn f (c + 4) (2 ∷ []))
     (pick (eqb (cpiType f c) 1) (pick (ltb (cpiLength f c) 4) true (cpiHeadersRead f c)) true)
 
+-- nothing is read without a section, and nothing behind a length below 2
 unfoldable pub cpiRead : List ℕ → ℕ → Bool
 cpiRead f c =
     pick (present f c)
@@ -79,6 +86,7 @@ mapRead f c p =
     (both (fineAddressIn f c p)
     (both (startIn f (fineStart f c p)) (itemsIn (λ q. readsIn f q (4 ∷ [])) nextFine (fineStart f c p) (fineCountAt f p))))))
 
+-- the maps in the order of their headers, each whole before the next
 unfoldable pub mapsRead : List ℕ → ℕ → Bool
 mapsRead f c = itemsIn (mapRead f c) nextMap (c + 8) (mapCount f c)
 
@@ -104,11 +112,13 @@ refusalRead f =
 abbrev pub extensionRead : List ℕ → ℕ → Bool
 extensionRead f p = readsIn f p (2 ∷ 2 ∷ 4 ∷ 4 ∷ [])
 
+-- what stands behind the block length: the ignored word, the spare bytes and the count, then each entry
 abbrev pub blockRead : List ℕ → ℕ → Bool
 blockRead f start =
     both (readsIn f (start + 4) (4 ∷ 3 ∷ 1 ∷ []))
     (itemsIn (extensionRead f) nextExtension (start + 12) (extensionCount f start))
 
+-- a block length of 0 gives no entries, and nothing behind it is read
 unfoldable pub extensionsRead : List ℕ → ℕ → Bool
 extensionsRead f start =
     both (present f start) (both (readsIn f start (4 ∷ [])) (pick (eqb (blockLength f start) 0) false (blockRead f start)))

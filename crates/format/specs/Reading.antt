@@ -19,6 +19,7 @@ clipOf f = record {
   entries = entriesFrom f (cpiStart f);
 }
 
+-- where no (2, 5) data can be read as programs there is no list, and tables 8 and 9 have no rows
 unfoldable pub recordOf : List ℕ → Record
 recordOf f =
     let extensions = extensionsFrom f (extensionsStart f) in

@@ -52,6 +52,7 @@ pub record Stated : Type 0 where
   pub rows : Nine ℕ  -- how many rows each table has
   pub hasList : Bool
 
+-- how many rows each table gets
 abbrev pub countsOf : Nine (List Row) → Nine ℕ
 countsOf t = record {
   atcs = length (t .atcs);
@@ -65,6 +66,7 @@ countsOf t = record {
   listStreams = length (t .listStreams);
 }
 
+-- what the record has beside its tables, and the rows of each table counted
 unfoldable pub statedOf : List ℕ → Stated
 statedOf f = record {
   scalars = recordOf f .clip .scalars;
@@ -97,6 +99,7 @@ tablesAnswer f tables =
     (unlessShort 8 programCells (rows .listPrograms) (tables .listPrograms)
     (unlessShort 9 streamCells (rows .listStreams) (tables .listStreams) (accepted (statedOf f))))))))))
 
+-- what the file is refused for comes before any lent table is looked at
 unfoldable pub readAnswer : List ℕ → Nine (List ℕ) → ReadAnswer
 readAnswer f tables = pick (eqb (refusalOf f) 0) (tablesAnswer f tables) (refused (refusalOf f))
 
@@ -129,6 +132,7 @@ abbrev pub flag : Bool → ℕ
 flag true = 1
 flag false = 0
 
+-- each number has the same place in every answer
 abbrev pub readNumbers : ReadAnswer → List ℕ
 readNumbers (refused n) = n ∷ replicate 20 0
 readNumbers (tooShort k n) = 21 ∷ k ∷ n ∷ replicate 18 0
@@ -141,6 +145,7 @@ readNumbers (accepted s) =
 
 -- ---- the data of an extension: given the lent file, table 7 with its stated rows, and a row number
 
+-- row k of the stated rows; a row without cells where there is none
 abbrev pub extensionRow : Table → ℕ → Row
 extensionRow t k = getD (rowsOf extensionCells t) k []
 
@@ -248,12 +253,15 @@ pub data WriteAnswer : Type 0 where
   tooShort : (needed : ℕ) → WriteAnswer
   written : (bytes : ℕ) → WriteAnswer
 
+-- 23 where the output has not the room
 abbrev pub writtenIn : ℕ → ℕ → WriteAnswer
 writtenIn needed room = pick (leb needed room) (written needed) (tooShort needed)
 
+-- an earlier refusal stands before what comes later
 abbrev pub unlessRefused : ℕ → WriteAnswer → WriteAnswer
 unlessRefused refusal later = pick (eqb refusal 0) later (refused refusal)
 
+-- first 22 for rows stated beyond those lent, then what the record is refused for, then 23
 unfoldable pub writeAnswer : ClipTables → List ℕ → WriteAnswer
 writeAnswer l out =
     unlessRefused (unless (allStated l) 22 (writeRefusal (clipIn l))) (writtenIn (length (encode (clipIn l))) (length out))
@@ -270,5 +278,6 @@ outputBy (refused n) new out = out
 outputBy (tooShort n) new out = out
 outputBy (written n) new out = overwritten new out
 
+-- the new file at the front of the output and beyond it what the output held, where writing succeeds
 unfoldable pub outputAfter : ClipTables → List ℕ → List ℕ
 outputAfter l out = outputBy (writeAnswer l out) (encode (clipIn l)) out

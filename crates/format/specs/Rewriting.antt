@@ -18,6 +18,7 @@ timeKey e = time e / 524288
 abbrev pub packetKey : Row → ℕ
 packetKey e = packet e / 131072
 
+-- neighbours with both keys equal are in one run
 abbrev pub sameRun : Row → Row → Bool
 sameRun e x = both (eqb (timeKey e) (timeKey x)) (eqb (packetKey e) (packetKey x))
 
@@ -40,6 +41,7 @@ abbrev pub coarseRows : List Row → List Row
 coarseRows [] = []
 coarseRows (x ∷ xs) = coarseRow 0 x ∷ coarseAfter x 1 xs
 
+-- a map has as many runs as coarse rows
 unfoldable pub runs : List Row → ℕ
 runs es = length (coarseRows es)
 
@@ -55,12 +57,14 @@ groups head count bytes (h ∷ hs) rows =
 abbrev pub sectionBytes : ℕ → List ℕ → List ℕ
 sectionBytes count items = fieldBytes (4 ∷ 1 ∷ 1 ∷ []) ((2 + length items) ∷ 0 ∷ count ∷ []) ++ items
 
+-- the cells of an ATC and of an STC in fields as wide as those they are read from
 abbrev pub atcBytes : Row → List ℕ
 atcBytes row = fieldBytes (4 ∷ 1 ∷ 1 ∷ []) row
 
 abbrev pub stcBytes : Row → List ℕ
 stcBytes row = fieldBytes (2 ∷ 4 ∷ 4 ∷ 4 ∷ []) row
 
+-- the ATCs, each with its STCs behind it
 unfoldable pub sequencesBytes : Clip → List ℕ
 sequencesBytes c = sectionBytes (length (c .atcs)) (groups atcBytes atcStcCount stcBytes (c .atcs) (c .stcs))
 
@@ -76,14 +80,17 @@ streamBytesBy false true row = fieldBytes (2 ∷ 1 ∷ 1 ∷ 1 ∷ []) (streamPi
 streamBytesBy false false row =
     fieldBytes (2 ∷ 1 ∷ 1 ∷ 1 ∷ 3 ∷ []) (streamPid row ∷ 5 ∷ codingType row ∷ formatByte row ∷ language row ∷ [])
 
+-- the body follows from the coding type and, where that is not video, from whether there is a language
 abbrev pub streamBytes : Row → List ℕ
 streamBytes row = streamBytesBy (isVideo (codingType row)) (eqb (language row) 0) row
 
+-- the programs, each with its streams behind it
 unfoldable pub programsBytes : Clip → List ℕ
 programsBytes c = sectionBytes (length (c .programs)) (groups programBytes streamCount streamBytes (c .programs) (c .streams))
 
 -- ---- CPI
 
+-- a coarse row takes 8 bytes
 abbrev pub coarseBytes : Row → List ℕ
 coarseBytes row = bytesOf 8 (packed coarseWidths row)
 
@@ -91,6 +98,7 @@ coarseBytes row = bytesOf 8 (packed coarseWidths row)
 abbrev pub fineRow : Row → Row
 fineRow e = angle e ∷ iEnd e ∷ time e / 512 % 2048 ∷ packet e % 131072 ∷ []
 
+-- an entry's fine row takes 4 bytes
 abbrev pub fineBytes : Row → List ℕ
 fineBytes e = bytesOf 4 (packed fineWidths (fineRow e))
 
@@ -98,6 +106,7 @@ fineBytes e = bytesOf 4 (packed fineWidths (fineRow e))
 unfoldable pub bodyBytes : List Row → List ℕ
 bodyBytes es = bytesOf 4 (4 + 8 * runs es) ++ (flat coarseBytes (coarseRows es) ++ flat fineBytes es)
 
+-- the maps' bodies one behind the other, each of its own entries
 abbrev pub bodies : List Row → List Row → List ℕ
 bodies [] es = []
 bodies (m ∷ ms) es = bodyBytes (take (entryCount m) es) ++ bodies ms (drop (entryCount m) es)
@@ -107,6 +116,7 @@ abbrev pub headerBytes : Row → List Row → ℕ → List ℕ
 headerBytes m es address =
     fieldBytes (2 ∷ 6 ∷ 4 ∷ []) (mapPid m ∷ packed headerWidths (0 ∷ mapType m ∷ runs es ∷ length es ∷ []) ∷ address ∷ [])
 
+-- the maps' headers: the first body is at the address given, each later one where the one before ends
 abbrev pub headers : List Row → List Row → ℕ → List ℕ
 headers [] es address = []
 headers (m ∷ ms) es address =
@@ -122,6 +132,7 @@ cpiBytesBy (m ∷ ms) es =
     fieldBytes (4 ∷ 2 ∷ 1 ∷ 1 ∷ []) ((4 + 12 * n + length rows) ∷ 1 ∷ 0 ∷ n ∷ [])
     ++ (headers (m ∷ ms) es (2 + 12 * n) ++ rows)
 
+-- the maps, with all headers before the bodies
 unfoldable pub cpiBytes : Clip → List ℕ
 cpiBytes c = cpiBytesBy (c .maps) (c .entries)
 
@@ -131,12 +142,14 @@ cpiBytes c = cpiBytesBy (c .maps) (c .entries)
 abbrev pub headWidths : List ℕ
 headWidths = 4 ∷ 4 ∷ 4 ∷ 4 ∷ 4 ∷ 4 ∷ 4 ∷ 12 ∷ 4 ∷ 2 ∷ 1 ∷ 1 ∷ 4 ∷ 4 ∷ 4 ∷ 128 ∷ 1 ∷ 1 ∷ 4 ∷ 26 ∷ []
 
+-- sequences start right behind at 220; the extension start and all spare bytes are 0
 abbrev pub headValues : Scalars → (programs cpi marks : ℕ) → List ℕ
 headValues s programs cpi marks =
     clpi ∷ s .version ∷ 220 ∷ programs ∷ cpi ∷ marks ∷ 0 ∷ 0
     ∷ 176 ∷ 0 ∷ s .streamType ∷ s .applicationType ∷ 0 ∷ s .rate ∷ s .packets ∷ 0
     ∷ s .validityFlags ∷ 0 ∷ s .formatId ∷ 0 ∷ []
 
+-- the starts of programs, CPI and marks are given, since they depend on the record's rows
 unfoldable pub headBytes : Scalars → (programs cpi marks : ℕ) → List ℕ
 headBytes s programs cpi marks = fieldBytes headWidths (headValues s programs cpi marks)
 

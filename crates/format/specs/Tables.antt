@@ -20,6 +20,7 @@ unfoldable pub lowBytes : ℕ → ℕ → List ℕ
 lowBytes zero v = []
 lowBytes (suc n) v = v % 256 ∷ lowBytes n (v / 256)
 
+-- a cell has four bytes: the cell at place p, and the bytes of one
 abbrev pub cellAt : List ℕ → ℕ → ℕ
 cellAt t p = lowAt t p 4
 
@@ -28,6 +29,7 @@ cellBytes v = lowBytes 4 v
 
 -- ---- rows as bytes, and bytes as rows
 
+-- a row is its cells one behind the other, and a table is its rows
 abbrev pub rowBytes : Row → List ℕ
 rowBytes row = flat cellBytes row
 
@@ -52,6 +54,7 @@ overwritten new old = new ++ drop (length new) old
 
 -- ---- the cells of a row, by table
 
+-- tables 1 to 7; tables 8 and 9 have the cells of 3 and 4
 abbrev pub atcCells : ℕ
 atcCells = 3
 
@@ -75,6 +78,7 @@ extensionCells = 4
 
 -- ---- nine of a kind, one for each table
 
+-- tables 1 to 9 in their order: of each its bytes, its rows or how many rows it has
 pub record Nine (A : Type 0) : Type 0 where
   pub atcs : A
   pub stcs : A
@@ -88,6 +92,7 @@ pub record Nine (A : Type 0) : Type 0 where
 
 -- ---- tables that are given back, with the rows stated to be in each
 
+-- the bytes may reach beyond the rows stated
 pub record Table : Type 0 where
   pub bytes : List ℕ
   pub rows : ℕ
@@ -104,6 +109,7 @@ addUp count heads rows = eqb (total count heads) (length rows)
 abbrev pub isRow : ℕ → List Row → Bool
 isRow k rows = ltb k (length rows)
 
+-- the stated rows, of so many cells each
 abbrev pub rowsOf : ℕ → Table → List Row
 rowsOf cells t = tableRows cells (t .bytes) (t .rows)
 
@@ -137,6 +143,7 @@ pub record HoldsRows (t : Table) (rows : List Row) : Type 0 where
   pub beyond : List ℕ
   pub bytes : t .bytes ≡ tableBytes rows ++ beyond
 
+-- the scalars and the rows of tables 1 to 6 are those of the record
 pub record HoldsClip (l : ClipTables) (c : Clip) : Type 0 where
   pub scalars : l .scalars ≡ c .scalars
   pub atcs : HoldsRows (l .atcs) (c .atcs)

@@ -62,11 +62,13 @@ module _ (f : List ℕ) (start : ℕ) where
   heads-are Section.Sequences = refl
   heads-are Section.Programs = refl
 
+  -- the rows behind its header rows are the own rows of each, joined in their order
   rows-are : (section : Section) → rowsFrom section f start ≡ gather (ownRows section f) (nextHead section f) (start + 6) (beAt f (start + 5) 1)
   unfolding stcsFrom streamsFrom
   rows-are Section.Sequences = refl
   rows-are Section.Programs = refl
 
+  -- its end is reached by stepping over as many header rows, each with its own rows, as it counts
   pub end-is : (section : Section) → sectionEnd section f start ≡ endOf (nextHead section f) (start + 6) (beAt f (start + 5) 1)
   unfolding sequencesEnd programsEnd
   end-is Section.Sequences = refl
@@ -91,6 +93,7 @@ pub record CountsAre (section : Section) (f : List ℕ) (start heads rows : ℕ)
   pub rows-are : rows ≡ length (rowsFrom section f start)
 
 module _ (section : Section) (f : List ℕ) (start : ℕ) where
+  -- where the first pass answers counts, the section ends within the file and the counts are its own
   pub counts-are : {heads rows : ℕ} → measured section f start ≡ Measured.Counts heads rows → CountsAre section f start heads rows
   unfolding measured
   counts-are e =

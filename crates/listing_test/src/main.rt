@@ -1,6 +1,7 @@
 // Prints the listing of each file that its arguments name, each behind a line with the file's name.
 use libc::STDOUT_FILENO;
 
+// The name of a file, and its listing.
 fn list_file(path: &[u8]) {
     io::write_all(STDOUT_FILENO, b"file ");
     io::write_all(STDOUT_FILENO, path);
@@ -14,12 +15,14 @@ fn list_file(path: &[u8]) {
     libc::close(fd);
 }
 
+// The same of the file that an argument names.
 fn list_argument(i: usize) {
     let mut path = io::buffer();
     let length = os::arg(i, &mut path);
     list_file(&path[..length]);
 }
 
+// Each argument in its turn.
 fn main() {
     let count = os::arg_count();
     let mut i = 1;

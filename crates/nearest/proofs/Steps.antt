@@ -24,15 +24,19 @@ ltb-same a b c d f g = go (ltb a b) refl
 
 -- how far a time is, by its tests
 module _ {side : Bool} (t x : ℕ) where
+  -- where one after t is asked for, a later time is as far as it is later
   pub after-it : side ≡ true → t < x → x - t ≡ distanceTo side t x
   after-it e h = rw (e, lt-ltb t x h)
 
+  -- and any other is far
   pub not-after : side ≡ true → x ≤ t → far ≡ distanceTo side t x
   not-after e h = rw (e, le-ltb t x h)
 
+  -- where one at or before t is asked for, such a time is as far as it is earlier
   pub before-it : side ≡ false → x ≤ t → t - x ≡ distanceTo side t x
   before-it e h = rw (e, le-leb x t h)
 
+  -- and a later one is far
   pub not-before : side ≡ false → t < x → far ≡ distanceTo side t x
   not-before e h = rw (e, lt-leb x t h)
 
@@ -137,6 +141,7 @@ row-or : {side : Bool} {at row d : ℕ} {b : Best} → Says side at b row d → 
 row-or Says.none = refl
 row-or (Says.some k x d xb e near) = refl
 
+-- where one after is asked for, far stands for none, and any other distance for its row
 far-or : {side : Bool} {at row d : ℕ} {b : Best} → Says side at b row d → pick (eqb d far) of.none (number row) ≡ rowOr of.none b
 far-or Says.none = refl
 far-or (Says.some k x d xb e near) = rw (ne-eqb d far (λ z. omega arith))
@@ -151,16 +156,20 @@ found-is (x ∷ xs) false at n s = rw (ne-eqb (length (x ∷ xs)) 0 (λ z. omega
 
 -- ---- found, by its tests: no rows; one at or before; none after; one after
 
+-- of no rows none is found
 pub no-rows : (side : Bool) (n : Nearest) {rows : ℕ} → rows ≡ 0 → of.none ≡ rowFound side rows n
 no-rows true n {rows} z = rw (eq-eqb rows 0 z)
 no-rows false n {rows} z = rw (eq-eqb rows 0 z)
 
 module _ {side : Bool} (n : Nearest) {rows : ℕ} (some : rows ≡ 0 → ⊥) where
+  -- of some rows, asked for one at or before, the row that is held, which is row 0 where no time is early enough
   pub a-row-before : side ≡ false → number (n .row) ≡ rowFound side rows n
   a-row-before e = rw (e, ne-eqb rows 0 some)
 
+  -- asked for one after, none where the least distance is far
   pub none-after : side ≡ true → n .distance ≡ far → of.none ≡ rowFound side rows n
   none-after e d = rw (e, ne-eqb rows 0 some, eq-eqb (n .distance) far d)
 
+  -- and else the row that is held
   pub a-row-after : side ≡ true → (n .distance ≡ far → ⊥) → number (n .row) ≡ rowFound side rows n
   a-row-after e d = rw (e, ne-eqb rows 0 some, ne-eqb (n .distance) far d)

@@ -21,6 +21,7 @@ abbrev pub onSide : Bool → ℕ → ℕ → Bool
 onSide true t x = ltb t x
 onSide false t x = leb x t
 
+-- of two times after the one asked for the earlier is nearer, of two at or before it the later
 abbrev pub nearer : Bool → ℕ → ℕ → Bool
 nearer true x y = ltb x y
 nearer false x y = ltb y x

@@ -10,6 +10,7 @@ use Rattle.nine_tables.specs.declared.Room.{Room}
 abbrev pub unlessShort : (k cells rows bytes : ℕ) → Room → Room
 unlessShort k cells rows bytes later = pick (leb rows (bytes / (4 * cells))) later (Room.Short k rows)
 
+-- the lowest of tables 6 to 9 that is too short, with the rows that it needs
 unfoldable pub roomBehind : Rows → Rows → Room
 roomBehind rows bytes =
     unlessShort 6 entryCells (rows .entries) (bytes .entries)
@@ -17,6 +18,7 @@ roomBehind rows bytes =
     (unlessShort 8 programCells (rows .«list_programs») (bytes .«list_programs»)
     (unlessShort 9 streamCells (rows .«list_streams») (bytes .«list_streams») Room.Enough)))
 
+-- the same of all nine
 unfoldable pub roomOf : Rows → Rows → Room
 roomOf rows bytes =
     unlessShort 1 atcCells (rows .atcs) (bytes .atcs)

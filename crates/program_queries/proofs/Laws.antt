@@ -35,6 +35,7 @@ pub video-asked : (t : Table) (from : ℕ) → askRow streamCells 1 from Test.Vi
 unfolding answer clipIn
 video-asked t from = row-answers (nextVideoStream from) (onlyStreams t) of.streams streamCells 1 from Test.VideoStream t refl refl refl
 
+-- the first row from one on whose coding type is audio is the next audio stream
 pub audio-asked : (t : Table) (from : ℕ) → askRow streamCells 1 from Test.AudioStream t ≡ ask (nextAudioStream from) (onlyStreams t)
 unfolding answer clipIn
 audio-asked t from = row-answers (nextAudioStream from) (onlyStreams t) of.streams streamCells 1 from Test.AudioStream t refl refl refl

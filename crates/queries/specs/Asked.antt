@@ -24,6 +24,7 @@ onlyCounts rate packets = record {
   formatId = 0;
 }
 
+-- each scalar 0, for a question that looks at none
 abbrev pub noScalars : Scalars
 noScalars = onlyCounts 0 0
 

@@ -33,9 +33,11 @@ own-held cell cells pos hs rs old₁ old₂ new₁ new₂ head a b c d =
     )
 
 module _ (f : List ℕ) (h : Rewritable f) where
+  -- demand 3, of which the third and the fourth part are used
   keeps : RewritingKeeps f
   keeps = rewriting-keeps f h
 
+  -- every row of the record has the cells of its table
   shaped : Shaped (recordOf f .clip)
   shaped = file-shaped f h
 
@@ -46,6 +48,7 @@ module _ (f : List ℕ) (h : Rewritable f) where
   abbrev new : Clip
   new = recordOf (rewritten f) .clip
 
+  -- rewriting keeps the scalars and the rows
   one-record : old ≡ new
   one-record = sym (ap (λ (r : Record). r .clip) (keeps .same))
 
@@ -53,6 +56,7 @@ module _ (f : List ℕ) (h : Rewritable f) where
   pub rate : old .scalars .rate ≡ new .scalars .rate
   rate = ap (λ (c : Clip). c .scalars .rate) one-record
 
+  -- the packet count is kept as the rate is
   pub packets : old .scalars .packets ≡ new .scalars .packets
   packets = ap (λ (c : Clip). c .scalars .packets) one-record
 

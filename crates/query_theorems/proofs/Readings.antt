@@ -30,11 +30,13 @@ foundIn (ticks90 t) = Found.Nothing
 foundIn (seconds q) = Found.Nothing
 foundIn noRate = Found.Nothing
 
+-- each of the three comes back from its reading
 found-returns : (x : Found) → foundIn (foundOf x) ≡ x
 found-returns (Found.Refused n) = refl
 found-returns Found.Nothing = refl
 found-returns (Found.Number n) = refl
 
+-- so a result that may be nothing is read without loss
 pub found : Reading foundOf
 found = record { back = foundIn; returns = found-returns }
 
@@ -48,10 +50,12 @@ time45In (ticks90 t) = Time45.Refused 0
 time45In (seconds q) = Time45.Refused 0
 time45In noRate = Time45.Refused 0
 
+-- a refusal and a time come back from their readings
 time45-returns : (x : Time45) → time45In (time45Of x) ≡ x
 time45-returns (Time45.Refused n) = refl
 time45-returns (Time45.Ticks t) = refl
 
+-- so a time in 45 kHz ticks is read without loss
 pub time45 : Reading time45Of
 time45 = record { back = time45In; returns = time45-returns }
 
@@ -65,11 +69,13 @@ time90In (ticks90 t) = Time90.Ticks (record { 0 = t .ticks })
 time90In (seconds q) = Time90.Nothing
 time90In noRate = Time90.Nothing
 
+-- a refusal, nothing and a time come back from their readings
 time90-returns : (x : Time90) → time90In (time90Of x) ≡ x
 time90-returns (Time90.Refused n) = refl
 time90-returns Time90.Nothing = refl
 time90-returns (Time90.Ticks t) = refl
 
+-- so a time in 90 kHz ticks is read without loss
 pub time90 : Reading time90Of
 time90 = record { back = time90In; returns = time90-returns }
 
@@ -83,10 +89,12 @@ durationIn (ticks90 t) = Duration.NoRate
 durationIn (seconds q) = Duration.Seconds q
 durationIn noRate = Duration.NoRate
 
+-- either comes back from its reading
 duration-returns : (x : Duration) → durationIn (durationOf x) ≡ x
 duration-returns (Duration.Seconds q) = refl
 duration-returns Duration.NoRate = refl
 
+-- so a duration is read without loss
 pub duration : Reading durationOf
 duration = record { back = durationIn; returns = duration-returns }
 
@@ -100,9 +108,11 @@ numberIn (ticks90 t) = 0
 numberIn (seconds q) = 0
 numberIn noRate = 0
 
+-- a number comes back from its reading
 bytes-returns : (n : ℕ) → numberIn (number n) ≡ n
 bytes-returns n = refl
 
+-- so a result that is a number, as the length in bytes is, is read without loss
 pub bytes : Reading number
 bytes = record { back = numberIn; returns = bytes-returns }
 
@@ -111,9 +121,11 @@ abbrev ownIn : Owned → Own
 ownIn refusal = Own.Refused
 ownIn (owns first count) = Own.Rows first count
 
+-- either comes back from its reading
 own-returns : (x : Own) → ownIn (ownedOf x) ≡ x
 own-returns Own.Refused = refl
 own-returns (Own.Rows first count) = refl
 
+-- so where the rows of a head begin and how many they are is read without loss
 pub own : Reading ownedOf
 own = record { back = ownIn; returns = own-returns }

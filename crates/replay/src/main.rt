@@ -42,6 +42,7 @@ fn replay_argument(i: usize) {
     replay_file(&path[..length]);
 }
 
+// Each argument in its turn.
 fn main() {
     let count = os::arg_count();
     let mut i = 1;

@@ -37,6 +37,7 @@ told-refused b a s p t m e r h = let q = not-picked b (λ e. let z : _≡_ {A = 
 plan-refused : (b : Bool) (a s m p q k r : ℕ) {n : ℕ} → pick b (Planned.Places a s m p q k) (Planned.Refused r) ≡ Planned.Refused n → (b ≡ false) × (r ≡ n)
 plan-refused b a s m p q k r h = let t = not-picked b (λ e. let z : _≡_ {A = ℕ} 0 1 = cc in omega arith) h in (t .0, cc (t .1))
 
+-- where a plan is told the test passed, and its counts and places are those that were to choose from
 plan-told : (b : Bool) (a s m p q k r : ℕ) {a′ s′ m′ p′ q′ k′ : ℕ} → pick b (Planned.Places a s m p q k) (Planned.Refused r) ≡ Planned.Places a′ s′ m′ p′ q′ k′
     → (b ≡ true) × ((a′ ≡ a) × ((s′ ≡ s) × ((m′ ≡ m) × ((p′ ≡ p) × ((q′ ≡ q) × (k′ ≡ k))))))
 plan-told b a s m p q k r h =
@@ -56,6 +57,7 @@ neither false r e b h =
 module _ (f : List ℕ) where
   -- ---- a refusal
 
+  -- a refusal that is not 0 is what the plan tells
   plan-is : (n : ℕ) → eqb n 0 ≡ false → rewriteRefusal f ≡ n → Planned.Refused n ≡ plannedOf f
   unfolding plannedOf
   plan-is n h e = rw (e, h)
@@ -79,14 +81,17 @@ module _ (f : List ℕ) where
 
   -- ---- none
 
+  -- where the CPI's length is answered no map has too many runs, and that length is the new CPI's
   pub runs-pass : {start n : ℕ} {r : Length} → start ≡ cpiStart f → r ≡ cpiLengthOf (mapsFrom f start) (entriesFrom f start) → r ≡ Length.Bytes n
       → (runsFit (clipOf f) ≡ true) × (n ≡ length (cpiBytes (clipOf f)))
   unfolding clipOf runsFit cpiBytes
   runs-pass {start} {n} here is told = length-said (mapsFrom f (cpiStart f)) (entriesFrom f (cpiStart f)) (sym (rw here at is) ∙ told)
 
+  -- a file that reading accepts and whose runs fit is not refused
   pub none : refusalOf f ≡ 0 → runsFit (clipOf f) ≡ true → rewriteRefusal f ≡ 0
   none e h = rw (e, h)
 
+  -- a file that is not refused was accepted by reading, and its runs fit
   pub passed : rewriteRefusal f ≡ 0 → (refusalOf f ≡ 0) × (runsFit (clipOf f) ≡ true)
   passed h = neither (eqb (refusalOf f) 0) (refusalOf f) refl (runsFit (clipOf f)) h
 
@@ -103,12 +108,14 @@ module _ (f : List ℕ) where
   -- ---- what the plan says
 
   module _ {m : Planned} (is : m ≡ plannedOf f) where
+    -- a refusal that the plan tells is the file's, and not 0
     pub refusal-told : {n : ℕ} → m ≡ Planned.Refused n → (eqb (rewriteRefusal f) 0 ≡ false) × (rewriteRefusal f ≡ n)
     unfolding plannedOf
     refusal-told told =
         let c = clipOf f in
         plan-refused (eqb (rewriteRefusal f) 0) (length (c .atcs)) (length (c .stcs)) (length (c .maps)) (programsPlace c) (cpiPlace c) (marksPlace c) (rewriteRefusal f) (sym is ∙ told)
 
+    -- counts and places that the plan tells are the file's, and an output that holds the six bytes of its marks has room
     pub ready-told : {a s k p q n : ℕ} (size : ℕ) → m ≡ Planned.Places a s k p q n → n + 6 ≤ size → Ready f a s k p q n size
     unfolding plannedOf
     ready-told size told h =
@@ -124,16 +131,19 @@ module _ (f : List ℕ) where
 
   -- ---- the length alone
 
+  -- of a file that is refused the refusal is told
   pub length-refuses : {n : ℕ} → (eqb (rewriteRefusal f) 0 ≡ false) × (rewriteRefusal f ≡ n) → refused n ≡ lengthAnswer f
   unfolding lengthAnswer
   length-refuses h = rw (h .0, h .1)
 
+  -- of any other the place of its marks in the new file, and their six bytes more
   pub length-tells : {marks : ℕ} → rewriteRefusal f ≡ 0 → marks ≡ marksPlace (clipOf f) → bytes (marks + 6) ≡ lengthAnswer f
   unfolding lengthAnswer
   length-tells e m = rw (e, encode-length (clipOf f), m)
 
   -- ---- lengths of 32 bits
 
+  -- of a length of 32 bits or a refusal, either tells a length of 32 bits, as beside a refusal it is 0
   length-narrow-by : (b : Bool) (n r : ℕ) → (b ≡ true → n < 2 ^ 32) → lengthIn (pick b (bytes n) (refused r)) < 2 ^ 32
   length-narrow-by true n r h = h refl
   length-narrow-by false n r h = omega arith

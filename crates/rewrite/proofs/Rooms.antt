@@ -26,6 +26,7 @@ module _ (f : List ℕ) where
   unfolding clipOf
   sequences-size b e a s = rw (a, s) (sym (sequences-long f b (sequencesStart f) (sound f e .sequences-in)) ∙ ap length (sym (sequences-of f)))
 
+  -- the length of the new programs, measured on the file, is that of the programs that writing gives for its record
   pub programs-size : {start n : ℕ} → start ≡ programsStart f → n ≡ length (newPrograms f start) → n ≡ length (programsBytes (clipOf f))
   programs-size here is = rw here at is ∙ ap length (sym (programs-of f))
 
@@ -74,12 +75,15 @@ module _ (f : List ℕ) where
 
   -- ---- the sections as parts of the new file
 
+  -- the new sequences are those that writing gives for the record of the file
   pub sequences-in : {start : ℕ} → start ≡ sequencesStart f → newSequences f start ≡ sequencesBytes (clipOf f)
   sequences-in here = rw here (sym (sequences-of f))
 
+  -- so are the new programs
   pub programs-in : {start : ℕ} → start ≡ programsStart f → newPrograms f start ≡ programsBytes (clipOf f)
   programs-in here = rw here (sym (programs-of f))
 
+  -- and so is the CPI of the maps and entries that stand in the file
   pub cpi-in : {start : ℕ} → start ≡ cpiStart f → cpiBytesBy (mapsFrom f start) (entriesFrom f start) ≡ cpiBytes (clipOf f)
   unfolding clipOf cpiBytes
   cpi-in here = rw here refl

@@ -25,6 +25,7 @@ pub data LengthAnswer : Type 0 where
   refused : ℕ → LengthAnswer
   bytes : ℕ → LengthAnswer
 
+-- the refusal where there is one, else how many bytes writing gives for the record of the file
 unfoldable pub lengthAnswer : List ℕ → LengthAnswer
 lengthAnswer f = pick (eqb (rewriteRefusal f) 0) (bytes (length (encode (clipOf f)))) (refused (rewriteRefusal f))
 

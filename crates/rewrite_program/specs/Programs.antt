@@ -11,6 +11,7 @@ use Rattle.rewrite_program.specs.declared.Places.{Places}
 abbrev pub newStreams : List ℕ → ℕ → ℕ → List ℕ
 newStreams f p n = flat streamBytes (rowsAt (streamAt f) (nextStream f) p n)
 
+-- the place behind the n streams in the old file, and behind their new bytes in the output
 abbrev pub streamsBehind : List ℕ → ℕ → ℕ → ℕ → Places
 streamsBehind f p n at = record { file = endOf (nextStream f) p n; out = at + length (newStreams f p n) }
 
@@ -18,5 +19,6 @@ streamsBehind f p n at = record { file = endOf (nextStream f) p n; out = at + le
 abbrev pub newProgram : List ℕ → ℕ → List ℕ
 newProgram f p = programBytes (programAt f p) ++ newStreams f (p + 8) (beAt f (p + 6) 1)
 
+-- the same two places behind the program with its streams
 abbrev pub programBehind : List ℕ → ℕ → ℕ → Places
 programBehind f p at = record { file = nextProgram f p; out = at + length (newProgram f p) }

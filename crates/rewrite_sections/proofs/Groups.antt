@@ -148,6 +148,7 @@ pub sequences-of : (f : List ℕ) → sequencesBytes (clipOf f) ≡ newSequences
 unfolding sequencesBytes clipOf newSequences
 sequences-of f = refl
 
+-- the programs of a file's record are the new section of those in the file
 pub programs-of : (f : List ℕ) → programsBytes (clipOf f) ≡ newPrograms f (programsStart f)
 unfolding programsBytes clipOf newPrograms
 programs-of f = refl

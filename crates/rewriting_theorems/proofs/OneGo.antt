@@ -35,6 +35,7 @@ module _ (f : List ℕ) (bytes : IsBytes f) (accepts : refusalOf f ≡ 0) (table
   handed : clipIn (handedOver f tables) ≡ recordOf f .clip
   handed = clip-held (handedOver f tables) (recordOf f .clip) cells (reading-holds f accepts tables room)
 
+  -- writing from what was handed over answers as rewriting in one go, since of the refusals of writing only 31 is left
   by-tables : (out : List ℕ) → writeAnswer (handedOver f tables) out ≡ rewriteAnswer f out
   unfolding writeAnswer rewriteAnswer recordOf
   by-tables out =
@@ -45,6 +46,7 @@ module _ (f : List ℕ) (bytes : IsBytes f) (accepts : refusalOf f ≡ 0) (table
         accepts,
       )
 
+  -- and the bytes that it writes are the same
   bytes-by-tables : encode (clipIn (handedOver f tables)) ≡ encode (clipOf f)
   unfolding recordOf
   bytes-by-tables = ap encode handed
@@ -56,6 +58,7 @@ module _ (f : List ℕ) (z : OneGoCall f) where
   one-answer : writeAnswerOf (z .call .result) ≡ rewriteAnswer f (given z)
   one-answer = z .call .allowed .0 ∙ ap (λ (g : List ℕ). rewriteAnswer g (given z)) (z .file)
 
+  -- and what the call leaves in the output, of f
   one-output : left z ≡ outputBy (rewriteAnswer f (given z)) (encode (clipOf f)) (given z)
   one-output =
       z .call .allowed .1 ∙ ap (λ (a : WriteAnswer). outputBy a (encode (clipOf (now (z .call .arguments .0)))) (given z)) one-answer
@@ -75,6 +78,7 @@ told-first : (b : Bool) (refusal n room : ℕ) → pick b (writtenIn n room) (Wr
 told-first true refusal n room = refl
 told-first false refusal n room = refl
 
+-- the answer for an output is the one that the length told for the file leads to
 by-length : (f out : List ℕ) → rewriteAnswer f out ≡ answerWith (lengthAnswer f) (length out)
 unfolding rewriteAnswer lengthAnswer
 by-length f out = told-first (eqb (rewriteRefusal f) 0) (rewriteRefusal f) (length (encode (clipOf f))) (length out)
@@ -88,12 +92,15 @@ module _ (f : List ℕ) (bytes : IsBytes f) (accepts : refusalOf f ≡ 0) (z : O
       same
       ∙ ap (handOver (statedOf f)) (tables-left (x .call) ∙ ap (λ (g : List ℕ). tablesAfter g (tablesGiven (x .call))) (x .file))
 
+  -- so the definition of writing, at the arguments of `write`, answers as that of rewriting
   write-same : writeAnswer (givenTo w) (outputGiven w) ≡ rewriteAnswer f (given z)
   write-same = rw (tables-are, out) (by-tables f bytes accepts (tablesGiven (x .call)) (x .room) (given z))
 
+  -- and the two calls answer alike
   answers : writeAnswerOf (z .call .result) ≡ writeAnswerOf (w .result)
   answers = one-answer f z ∙ sym (write-answer w ∙ write-same)
 
+  -- and leave the same bytes
   outputs : left z ≡ outputLeft w
   unfolding outputAfter
   outputs =
@@ -137,12 +144,14 @@ module _ {f : List ℕ} (h : Rewritable f) where
     unfolding rewriteAnswer recordOf
     answer = one-answer f (z .one-go) ∙ rw (unrefused, le-leb _ (length (given (z .one-go))) long)
 
+    -- the new file at the front, and beyond it what the output held
     output : left (z .one-go) ≡ rewritten f ++ drop (length (rewritten f)) (given (z .one-go))
     unfolding recordOf
     output =
         one-output f (z .one-go)
         ∙ ap (λ (a : WriteAnswer). outputBy a (encode (clipOf f)) (given (z .one-go))) (sym (one-answer f (z .one-go)) ∙ answer)
 
+    -- so the bytes that the call says it wrote are the new file
     new : newBytes (z .one-go) ≡ rewritten f
     new = front (rewritten f) (drop (length (rewritten f)) (given (z .one-go))) (ap bytesIn answer) output
 

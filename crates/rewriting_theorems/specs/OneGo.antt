@@ -58,6 +58,7 @@ abbrev pub answerWith : LengthAnswer → ℕ → WriteAnswer
 answerWith (LengthAnswer.refused n) room = WriteAnswer.refused n
 answerWith (LengthAnswer.bytes n) room = writtenIn n room
 
+-- rewriting in one go against reading and writing through tables, and against the length told beforehand
 pub record AsByTables (f : List ℕ) : Type 0 where
   -- a file that reading refuses is refused with the same number, and the output stays as it was
   pub refused-answer : (z : OneGoCall f) → eqb (refusalOf f) 0 ≡ false → writeAnswerOf (z .call .result) ≡ WriteAnswer.refused (refusalOf f)

@@ -23,15 +23,18 @@ module _ (t : List ℕ) (n : ℕ) where
   abbrev pub Latest : ℕ → ℕ → Type 0
   Latest k latest = max latest (latestEnd (rowsLeft stcCells t n k) .ticks) ≡ latestEnd (tableRows stcCells t n) .ticks
 
+  -- before the first turn none is seen, and 0 stands for their latest end
   pub latest-first : Latest 0 0
   latest-first = rw (left-all stcCells t n) (omega arith)
 
+  -- a turn takes the end of STC k, which stands in its fourth cell
   pub latest-turn : (k latest : ℕ) {at v r : ℕ} → k < n → at ≡ 16 * k + 12 → CellIs t at v → r ≡ max latest v → Latest k latest → Latest (k + 1) r
   latest-turn k latest {v = v} h e c m i =
       let end = row-cell t stcCells (4 * stcCells * k) 3 (lit< tt) e (c .same) in
       let i′ = rw (left-turn stcCells t n k h) at i in
       omega (arith, end, m, i′)
 
+  -- behind the last STC the latest end seen is that of all
   pub latest-done : (k latest : ℕ) → n ≤ k → Latest k latest → record { ticks = latest } ≡ latestEnd (tableRows stcCells t n)
   latest-done k latest h i =
       let i′ = rw (left-done stcCells t n k h) at i in
@@ -42,15 +45,18 @@ module _ (t : List ℕ) (n : ℕ) where
   abbrev pub Least : Ticks45 → ℕ → ℕ → Type 0
   Least whole k least = leastStart (record { ticks = least }) (rowsLeft stcCells t n k) ≡ whole
 
+  -- before the first turn only the start that the loop begins with is seen
   pub least-first : (first : ℕ) → Least (leastStart (record { ticks = first }) (tableRows stcCells t n)) 0 first
   least-first first = rw (left-all stcCells t n)
 
+  -- a turn takes the start of STC k, which stands in its third cell
   pub least-turn : {whole : Ticks45} (k least : ℕ) {at v r : ℕ} → k < n → at ≡ 16 * k + 8 → CellIs t at v → r ≡ min least v → Least whole k least → Least whole (k + 1) r
   least-turn k least h e c m i =
       let start = row-cell t stcCells (4 * stcCells * k) 2 (lit< tt) e (c .same) in
       let i′ = rw (left-turn stcCells t n k h) at i in
       rw (m, start) i′
 
+  -- behind the last STC the least start seen is that of all
   pub least-done : {whole : Ticks45} (k least : ℕ) → n ≤ k → Least whole k least → record { ticks = least } ≡ whole
   least-done k least h i = rw (left-done stcCells t n k h) at i
 
@@ -59,10 +65,12 @@ module _ (t : List ℕ) (n : ℕ) where
 -- a question about one row: none such, or that row answers
 module _ (q : Question) (t : List ℕ) (n k : ℕ) (f : Row → Answer) {b : Bool} (one : partsOf q ≡ stcs ∷ []) (is : b ≡ isStated stcCells (stated t n)) (there : not b ≡ false)
     (asks : answer q (clipIn (onlyStcs (stated t n))) ≡ ofStc (tableRows stcCells t n) k f) where
+  -- an STC that the table has not is refused by 22
   pub no-row : n ≤ k → refused 22 ≡ ask q (onlyStcs (stated t n))
   unfolding ofStc tableRows
   no-row h = rw (rows-length, le-ltb k n h) at (sym asks) ∙ answered q (onlyStcs (stated t n)) stcs one is there
 
+  -- one that it has answers by its row
   pub row-answers : k < n → {x : Row} → x ≡ getD (tableRows stcCells t n) k [] → f x ≡ ask q (onlyStcs (stated t n))
   unfolding ofStc tableRows
   row-answers h e = ap f e ∙ rw (rows-length, lt-ltb k n h) at (sym asks) ∙ answered q (onlyStcs (stated t n)) stcs one is there
@@ -74,15 +82,18 @@ unfolding presentationSpan
 span-of s later v e = let m : min v (stcStart s .ticks) ≡ stcStart s .ticks = omega arith in rw (leastStart, m)
 
 module _ (t : List ℕ) (n : ℕ) where
+  -- twice the latest end less the time, in minutes, is what remains
   pub minutes-are : (at : Ticks90) {latest : Ticks45} {twice left : Ticks90} {r : ℕ} → latest ≡ latestEnd (tableRows stcCells t n) → twice ≡ doubled latest
       → left ≡ less90 twice at → r ≡ minutes left → number r ≡ answer (minutesRemaining at) (clipIn (onlyStcs (stated t n)))
   unfolding answer clipIn minutesLeft
   minutes-are at e d l m = rw (m, l, d, e)
 
+  -- without STCs the span is 0
   pub no-span : n ≡ 0 → ticks90 (record { ticks = 0 }) ≡ answer presentationSpan90k (clipIn (onlyStcs (stated t n)))
   unfolding answer clipIn presentationSpan tableRows
   no-span e = rw e
 
+  -- with STCs, twice the latest end less twice the least start, where the search for the least begins with the first STC's
   pub span-is : (n ≡ 0 → ⊥) → {latest least : Ticks45} {last first r : Ticks90} {v : ℕ} → CellIs t 8 v
       → latest ≡ latestEnd (tableRows stcCells t n) → last ≡ doubled latest
       → least ≡ leastStart (record { ticks = v }) (tableRows stcCells t n) → first ≡ doubled least
@@ -94,6 +105,7 @@ module _ (t : List ℕ) (n : ℕ) where
       let span = span-of (cellsAt t stcCells (4 * stcCells * 0)) (rowsLeft stcCells t n 1) v start in
       rw (s, b, e, a, d, rows) (ap (λ (x : Ticks90). ticks90 x) span)
 
+  -- the end of STC k less its start, by their cells, is its duration
   pub duration-is : (k : ℕ) {s e : ℕ} {r : Ticks45} → k < n → CellIs t (16 * k + 12) e → CellIs t (16 * k + 8) s
       → r ≡ less45 (record { ticks = e }) (record { ticks = s }) → r ≡ durationOf (getD (tableRows stcCells t n) k [])
   duration-is k h e s r =
@@ -103,10 +115,12 @@ module _ (t : List ℕ) (n : ℕ) where
 
 -- ---- the first row
 
+-- without STCs there is no first one
 pub no-first : (t : List ℕ) (n : ℕ) → n ≡ 0 → none ≡ answer firstStcSequence (clipIn (onlyStcs (stated t n)))
 unfolding answer clipIn tableRows
 no-first t n e = rw e
 
+-- with STCs it is row 0
 pub a-first : (t : List ℕ) (n : ℕ) → (n ≡ 0 → ⊥) → number 0 ≡ answer firstStcSequence (clipIn (onlyStcs (stated t n)))
 unfolding answer clipIn tableRows
 a-first t n some = let e : n ≡ suc (n - 1) = omega arith in rw e

@@ -50,23 +50,28 @@ not-listed x h = sym (passed 0x02 others x h)
 -- ---- audio, by its range and two more
 
 module _ (x : ℕ) where
+  -- a coding type below the range is none of the two either, so it is not audio
   pub below-audio : x < 0x80 → false ≡ isAudio x
   unfolding isAudio
   below-audio h = rw (lt-leb 0x80 x h, ne-eqb x 0xA1 (λ e. omega arith), ne-eqb x 0xA2 (λ e. omega arith))
 
+  -- one in the range is audio
   pub in-range : 0x80 ≤ x → x ≤ 0x86 → true ≡ isAudio x
   unfolding isAudio
   in-range h g = rw (le-leb 0x80 x h, le-leb x 0x86 g)
 
+  -- one behind the range is audio where it is the first of the two
   pub secondary : 0x80 ≤ x → 0x86 < x → x ≡ 0xA1 → true ≡ isAudio x
   unfolding isAudio
   secondary h g e = rw e
 
+  -- and else where it is the second
   pub last-audio : 0x80 ≤ x → 0x86 < x → (x ≡ 0xA1 → ⊥) → eqb x 0xA2 ≡ isAudio x
   unfolding isAudio
   last-audio h g n = rw (le-leb 0x80 x h, lt-leb x 0x86 g, ne-eqb x 0xA1 n)
 
   -- ---- video maps, one test behind another
 
+  -- a type that is none of the first three is a video map's where it is the fourth
   pub last-map : (x ≡ 1 → ⊥) → (x ≡ 5 → ⊥) → (x ≡ 6 → ⊥) → eqb x 8 ≡ isVideoMap x
   last-map a b c = rw (ne-eqb x 1 a, ne-eqb x 5 b, ne-eqb x 6 c)

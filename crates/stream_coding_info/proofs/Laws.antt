@@ -35,6 +35,7 @@ module _ (f : List ℕ) (p size : ℕ) where
   pub byte-there : (i : ℕ) {r : ℕ} → i < size → ReadIs f (p + i) 1 r → BodyByte f p size i r
   byte-there i h is = record { same = rw (le-leb (i + 1) size (omega arith)) (is .same); below = is .below }
 
+  -- a byte past the end of the body counts as 0
   pub byte-absent : (i : ℕ) → size ≤ i → BodyByte f p size i 0
   byte-absent i h = record { same = rw (lt-leb (i + 1) size (omega arith)); below = lit< tt }
 
@@ -51,6 +52,7 @@ module _ (f : List ℕ) (p size : ℕ) where
       let whole = joined 1 2 x behind in
       e ∙ rw (is, le-leb 5 size h) (ap lowered (whole .same))
 
+  -- a body that is not video and has fewer than five bytes has no language, which is told as 0
   pub language-absent : {video : Bool} → video ≡ false → size < 5 → 0 ≡ languageAt video f p size
   language-absent is h = rw (is, lt-leb 5 size h)
 

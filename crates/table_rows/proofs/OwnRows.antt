@@ -27,15 +27,18 @@ module _ (t : List ℕ) (n cell : ℕ) where
     pub small : sum ≤ 4294967295 * k
     pub rest : sum + total (cellIn cell) (rowsLeft headCells t n k) ≡ total (cellIn cell) (tableRows headCells t n)
 
+  -- before the first turn nothing is counted
   pub sum-first : Sum 0 0
   sum-first = record { small = omega arith; rest = rw (left-all headCells t n) (omega arith) }
 
+  -- a turn adds the count of header row k; counts are of 32 bits, so the sum stays small
   pub sum-turn : (k sum : ℕ) {v : ℕ} → cell < headCells → k < n → CellIs t (12 * k + 4 * cell) v → Sum k sum → Sum (k + 1) (sum + v)
   sum-turn k sum {v} j h c i =
       let count = row-cell t headCells (4 * headCells * k) cell j refl (c .same) in
       let rest = rw (left-turn headCells t n k h) at (i .rest) in
       record { small = omega (arith, i .small, c .below); rest = omega (arith, rest, count) }
 
+  -- behind the last header row the sum is that of all counts
   pub sum-done : (k sum : ℕ) → n ≤ k → Sum k sum → sum ≡ total (cellIn cell) (tableRows headCells t n)
   sum-done k sum h i = let rest = rw (left-done headCells t n k h) at (i .rest) in omega arith
 
@@ -78,14 +81,17 @@ module _ (cell cells : ℕ) (heads rows : Table) (head : ℕ) where
   chosen true h = (refl, cc, cc)
   chosen false h = let z : _≡_ {A = ℕ} 0 1 = cc in absurd (omega arith)
 
+  -- where a refusal is told the tests failed, as rows are no refusal
   was-refused : (b : Bool) (f c : ℕ) → refusal ≡ pick b (owns f c) refusal → b ≡ false
   was-refused true f c h = let z : _≡_ {A = ℕ} 0 1 = cc in absurd (omega arith)
   was-refused false f c h = refl
 
+  -- a refusal says that the header row may not be asked about
   pub not-owned : refusal ≡ ownedRows cell cells heads rows head → mayAsk cell cells heads rows head ≡ false
   unfolding ownedRows
   not-owned h = was-refused (mayAsk cell cells heads rows head) _ _ h
 
+  -- rows that are told are the header row's own: they stand in the table, as its count and those before it are not more than all
   pub own-rows : {first count : ℕ} → owns first count ≡ ownedRows cell cells heads rows head → OwnRows cell cells heads rows head first count
   unfolding ownedRows mayAsk isCounted
   own-rows {first} {count} h =
@@ -127,11 +133,13 @@ module _ (cell cells : ℕ) (heads rows : Table) (head : ℕ) where
       unless22 (both (isStated headCells heads) (both (isStated cells rows) true))
       (unless22 (both (addUp (cellIn cell) (rowsOf headCells heads) (rowsOf cells rows)) (isRow head (rowsOf headCells heads))) x)
 
+  -- where the rows are refused the question is refused by 22, whatever its answer would be
   pub tests-fail : (x : Answer) → refusal ≡ ownedRows cell cells heads rows head → refused 22 ≡ behindTests x
   unfolding mayAsk isCounted
   tests-fail x h =
       first-fails (both (isStated headCells heads) (both (isStated cells rows) true)) (addUp (cellIn cell) (rowsOf headCells heads) (rowsOf cells rows)) (isRow head (rowsOf headCells heads)) x (not-owned h)
 
+  -- where they are told the question has its answer
   pub tests-pass : (x : Answer) {first count : ℕ} → owns first count ≡ ownedRows cell cells heads rows head → x ≡ behindTests x
   unfolding mayAsk isCounted
   tests-pass x h =
@@ -145,21 +153,25 @@ module _ (cell cells : ℕ) (heads rows : Table) (x : Answer) where
   behindCount =
       unless22 (both (isStated headCells heads) (both (isStated cells rows) true)) (unless22 (addUp (cellIn cell) (rowsOf headCells heads) (rowsOf cells rows)) x)
 
+  -- of two tests, either that fails refuses by 22
   one-fails : (p q : Bool) → both p q ≡ false → refused 22 ≡ unless22 p (unless22 q x)
   one-fails true true h = let z : _≡_ {A = ℕ} 0 1 = cc in absurd (omega arith)
   one-fails true false h = refl
   one-fails false q h = refl
 
+  -- where both pass, the answer stands
   both-pass : (p q : Bool) → both p q ≡ true → x ≡ unless22 p (unless22 q x)
   both-pass true true h = refl
   both-pass true false h = let z : _≡_ {A = ℕ} 0 1 = cc in absurd (omega arith)
   both-pass false q h = let z : _≡_ {A = ℕ} 0 1 = cc in absurd (omega arith)
 
+  -- where the rows are not there or not counted the question is refused by 22
   pub count-fails : {a : Bool} → a ≡ isCounted cell cells heads rows → not a ≡ true → refused 22 ≡ behindCount
   unfolding isCounted
   count-fails {a} is h =
       one-fails (both (isStated headCells heads) (both (isStated cells rows) true)) (addUp (cellIn cell) (rowsOf headCells heads) (rowsOf cells rows)) (sym is ∙ not-true a h)
 
+  -- where they are, it has its answer
   pub count-passes : {a : Bool} → a ≡ isCounted cell cells heads rows → not a ≡ false → x ≡ behindCount
   unfolding isCounted
   count-passes {a} is h =
@@ -175,15 +187,18 @@ module _ (heads rows : List ℕ) (n e cell cells : ℕ) where
   abbrev Rows : Table
   Rows = stated rows e
 
+  -- with more header rows stated than lent the rows are not counted
   pub no-heads : {a : Bool} → a ≡ isStated headCells Heads → not a ≡ true → false ≡ isCounted cell cells Heads Rows
   unfolding isCounted
   no-heads {a} is h = rw (← is, not-true a h)
 
   module _ {a : Bool} (is : a ≡ isStated headCells Heads) (there : not a ≡ false) where
+    -- nor with more own rows stated than lent
     pub no-rows : {b : Bool} → b ≡ isStated cells Rows → not b ≡ true → false ≡ isCounted cell cells Heads Rows
     unfolding isCounted
     no-rows {b} is₂ h = rw (← is, not-false a there, ← is₂, not-true b h)
 
+    -- with both lent, they are where the counts add up to the stated rows
     pub counted : {b : Bool} → b ≡ isStated cells Rows → not b ≡ false → {sum : ℕ} → sum ≡ total (cellIn cell) (tableRows headCells heads n) → eqb sum e ≡ isCounted cell cells Heads Rows
     unfolding isCounted
     counted {b} is₂ there₂ all = rw (← is, not-false a there, ← is₂, not-false b there₂, ← all, rows-stated cells (Rows .bytes) (Rows .rows))
@@ -196,10 +211,12 @@ module _ (heads rows : List ℕ) (n e cell cells : ℕ) where
       leb-true n (rowRoom headCells heads) (both-true (whole .0) .0)
 
   module _ (head : ℕ) {a : Bool} (is : a ≡ isCounted cell cells Heads Rows) where
+    -- rows that are not counted are refused
     pub not-counted : not a ≡ true → refusal ≡ ownedRows cell cells Heads Rows head
     unfolding ownedRows mayAsk
     not-counted h = rw (← is, not-true a h)
 
+    -- so are those of a header row that is not one of the stated ones
     pub no-head : not a ≡ false → n ≤ head → refusal ≡ ownedRows cell cells Heads Rows head
     unfolding ownedRows mayAsk
     no-head h l = rw (← is, not-false a h, rows-stated headCells (Heads .bytes) (Heads .rows), le-ltb head n l)

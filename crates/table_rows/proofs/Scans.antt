@@ -67,6 +67,7 @@ module _ (cells : ℕ) (t : List ℕ) (n : ℕ) (column : Row → ℕ) (test : �
   abbrev pub First : ℕ → Type 0
   First k = firstWhere test k (map column (rowsLeft cells t n k)) ≡ nextWhere test from (map column (tableRows cells t n))
 
+  -- the search begins with all rows from `from` on
   pub first-all : First from
   first-all = rw (left-from cells t n from) (ap (firstWhere test from) (sym (drop-map column from (tableRows cells t n))))
 

@@ -4,6 +4,7 @@ use native.Mathlib.Nat.{mod-eq-of-lt}
 use Rattle.format.proofs.Fields.{shift-mask, shift-or, unpack, pack, time-is, time-back}
 use Rattle.theorems.specs.BitFields.{BitFields, SharedBit}
 
+-- packing what was unpacked keeps as many low bits as the widths add up to, which is all of a number that fits
 pub bit-fields : BitFields
 bit-fields = record {
   take-out = shift-mask;
@@ -12,5 +13,6 @@ bit-fields = record {
   taken-apart = λ widths x h. pack widths x ∙ mod-eq-of-lt h;
 }
 
+-- the joined time and its way back are laws of the fields too
 pub shared-bit : SharedBit
 shared-bit = record { joined = time-is; back = time-back }

@@ -20,6 +20,7 @@ use Rattle.theorems.specs.CheckedByHand.{refusal, answered, evaluate, An
 
 -- ---- M1
 
+-- 39 bytes are one too few, with either word in front
 right-letters : (g : RightLetters 35) → refusalOf (rightFile g) ≡ 1
 unfolding refusalOf lettersRight beAt
 right-letters (hdmv behind size) = rw size
@@ -27,6 +28,7 @@ right-letters (clpi behind size) = rw size
 
 -- ---- M2
 
+-- seven bytes are refused before the letters are looked at
 seven-bytes : (g : AnyBytes 7) → refusalOf (g .all) ≡ 1
 unfolding refusalOf
 seven-bytes g = rw (g .size)
@@ -43,21 +45,25 @@ other-letters o =
 
 -- ---- M7 and M8
 
+-- a packet number equal to the count still has its byte: the end of the clip
 tenth-packet : (g : Packets 10) → answer (spnToByte 10) (g .clip) ≡ number 1920
 unfolding answer byteOf
 tenth-packet g = rw (g .count)
 
+-- but the byte there has no packet
 past-last : (g : Packets 10) → answer (byteToSpn 1920) (g .clip) ≡ Answer.none
 unfolding answer spnOf
 past-last g = rw (g .count)
 
 -- ---- M9: where every time is later, no row passes
 
+-- so the search of these times ends without a row
 all-later : (t k : ℕ) (beats : ℕ → ℕ → Bool) {es : List Row} → All (λ e. t < time e) es
     → bestOf (λ y. leb y t) beats k (map time es) nothing ≡ nothing
 all-later t k beats none = refl
 all-later t k beats (more {x = e} h hs) = rw (bestOf, lt-leb (time e) t h) (all-later t (suc k) beats hs)
 
+-- and row 0 is answered
 before-all : (g : BeforeAll) → answer (entryPointAtOrBefore (g .map) (g .at)) (g .clip) ≡ number 0
 unfolding answer ofMap atOrBefore
 before-all g =
@@ -70,11 +76,13 @@ before-all g =
 
 -- ---- M11: n entries in n runs
 
+-- there are n entries
 size : (n : ℕ) → length (alternating n) ≡ n
 unfolding alternating
 size zero = refl
 size (suc n) = ap suc (size n)
 
+-- each fits its cells: the time is below 2^32 and a multiple of 512
 fit : (n : ℕ) → every (entryFits 1) (alternating n) ≡ true
 unfolding alternating
 fit zero = refl
@@ -93,6 +101,7 @@ behind (suc n) k e h =
     let r = behind n (suc k) (0 ∷ 0 ∷ n % 2 * 524288 ∷ 0 ∷ 1 ∷ []) here in
     rw (h, here, ne-eqb (suc n % 2) (n % 2) ne) (ap suc r)
 
+-- so each entry begins a run, the first one too
 all-runs : (n : ℕ) → runs (alternating n) ≡ n
 unfolding runs alternating
 all-runs zero = refl
@@ -111,6 +120,7 @@ eleven n h =
 
 -- ---- the sentence
 
+-- case by case; those that are given nothing compute, apart from M11
 pub holds : Holds table
 unfolding table evaluate beAt bytesOf joinTime joinPacket refusalOf byteOf spnOf answer emptyClip sequencesBytes programsBytes bodyBytes cpiBytes headBytes encode countsAdd cellsFit runsFit writeRefusal
 holds =

@@ -26,6 +26,7 @@ module _ (f : List ℕ) (start : ℕ) where
       let l = leb-true end (min (blockEnd f start) (length f)) (b .1) in
       record { address = eqb-false (addressAt f p) 0 (not-true (eqb (addressAt f p) 0) (b .0)); in-block = omega arith; in-file = omega arith }
 
+  -- an entry that the rule keeps passes the test
   of-kept : (p : ℕ) → Kept f start p → isKept f start p ≡ true
   of-kept p k =
       let a = k .in-block in
@@ -53,6 +54,7 @@ module _ (f : List ℕ) (start : ℕ) where
       go true t = more (entry-kept k (omega arith) t) none
       go false t = none
 
+  -- an entry that passes the test, j behind entry k, has its row among those of n entries from k on
   has-row : (k n j : ℕ) → j < n → isKept f start (entryAt start (k + j)) ≡ true
       → List·Memᴰ (extensionAt f start (entryAt start (k + j))) (gather (keptAt f start) nextExtension (entryAt start k) n)
   has-row k zero j h t = absurd (omega arith)
@@ -68,9 +70,11 @@ module _ (f : List ℕ) (start : ℕ) where
       let later = has-row (suc k) n j (omega arith) t′ in
       rw (z, e) (Memᴰ·append-right (keptAt f start (entryAt start k)) later)
 
+  -- entry 0 stands behind the 12 bytes of the block's head
   first-at : start + 12 ≡ entryAt start 0
   first-at = omega arith
 
+  -- without a block there are no rows; else every row is that of an entry which is kept
   rows-all : All (IsKept f start) (extensionRows f start)
   unfolding extensionRows
   rows-all = go (hasExtensions f start)
@@ -79,6 +83,7 @@ module _ (f : List ℕ) (start : ℕ) where
       go true = rw first-at (rows-kept 0 (extensionCount f start) (omega arith))
       go false = none
 
+  -- in a block whose reads succeed, every entry that the rule keeps has its row
   all-rows : (k : ℕ) → hasExtensions f start ≡ true → k < extensionCount f start → Kept f start (entryAt start k)
       → List·Memᴰ (extensionAt f start (entryAt start k)) (extensionRows f start)
   unfolding extensionRows
@@ -87,12 +92,14 @@ module _ (f : List ℕ) (start : ℕ) where
       let m = has-row 0 (extensionCount f start) k h (rw z (of-kept (entryAt start k) g)) in
       rw b (rw (z, ← first-at) at m)
 
+  -- a block with a failed read, or none, has no rows
   no-rows : hasExtensions f start ≡ false → extensionRows f start ≡ []
   unfolding extensionRows
   no-rows h = rw h
 
 -- ---- the (2, 5) list
 
+-- other ids fail the test for 2 and 5
 not-list : (x : Extension) → (IsList x → ⊥) → both (eqb (x .id1) 2) (eqb (x .id2) 5) ≡ false
 not-list x h = go (eqb (x .id1) 2) (eqb (x .id2) 5) refl refl
   where
@@ -101,21 +108,25 @@ not-list x h = go (eqb (x .id1) 2) (eqb (x .id2) 5) refl refl
     go true false s t = refl
     go false b s t = refl
 
+-- extensions with other ids are passed over, and the first with these ids gives the list
 first-list : {before : List Extension} (x : Extension) (behind : List Extension) → All (λ y. IsList y → ⊥) before → IsList x
     → listData (before ++ (x ∷ behind)) ≡ found (x .bytes)
 unfolding listData
 first-list x behind none h = rw (eq-eqb (x .id1) 2 (h .0), eq-eqb (x .id2) 5 (h .1))
 first-list x behind (more {x = y} k ks) h = rw (not-list y k) (first-list x behind ks h)
 
+-- where none has these ids there is no list
 no-list : {xs : List Extension} → All (λ y. IsList y → ⊥) xs → listData xs ≡ nothing
 unfolding listData
 no-list none = refl
 no-list (more {x = y} k ks) = rw (not-list y k) (no-list ks)
 
+-- a record without a list has no programs and no streams of one
 absent-list : (f : List ℕ) → recordOf f .hasList ≡ false → (recordOf f .listPrograms ≡ []) × (recordOf f .listStreams ≡ [])
 unfolding recordOf
 absent-list f h = (rw h, rw h)
 
+-- the statements together; the lists of six and of five zero bytes compute
 pub extensions : (f : List ℕ) → Extensions f
 unfolding listIn programsFrom streamsFrom programsEnd beAt
 extensions f = record {

@@ -9,6 +9,7 @@ use Rattle.format.specs.Rewriting.{coarseAfter, runs, sequencesBytes, programsB
 use Rattle.format.specs.Refusals.{refusalOf, countsAdd, cellsFit, runsFit, writeRefusal}
 use Rattle.theorems.specs.ListingExample.{listedClip, listedFile, Listed}
 
+-- record and file have no unknowns, so both sides of each equation compute to the same
 pub listed : Listed
 unfolding listedClip listedFile beAt bytesOf lettersRight scalarsOf clipInfoIn atcsFrom stcsFrom sequencesEnd marksFrom marksIn programsFrom streamsFrom programsEnd joinTime joinPacket hasMaps mapCount mapsFrom entriesFrom cpiIn mapsIn clipOf recordOf coarseAfter runs sequencesBytes programsBytes bodyBytes cpiBytes headBytes encode refusalOf countsAdd cellsFit runsFit writeRefusal
 listed = record { bytes = refl; not-refused = refl; written = refl; accepted = refl; reads = refl; marks = refl }

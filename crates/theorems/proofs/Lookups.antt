@@ -79,6 +79,7 @@ unfolding atOrBefore
 answered-before [] t l = absurd (omega arith)
 answered-before (x ∷ xs) t l = of-row (x ∷ xs) t (bestOf (λ y. leb y t) (λ y z. ltb z y) 0 (x ∷ xs) nothing) l (before-best (x ∷ xs) t)
 
+-- an empty map has no row at or before any time
 no-before : (times : List ℕ) (t : ℕ) → times ≡ [] → atOrBefore times t ≡ none
 unfolding atOrBefore
 no-before times t e = rw e
@@ -122,6 +123,7 @@ module _ (times : List ℕ) (t : ℕ) where
   row-after nothing i l a h = let b = ltb-false t (timeAt times i) (h i l) in absurd (omega arith)
   row-after (best k x) i l a h = (k, refl, of-least k x h)
 
+  -- a best row would have a time above t, so where no time is there is none
   no-after : (b : Best) → ((j : ℕ) → j < length times → timeAt times j ≤ t) → BestUntil isAbove lesser times (length times) b → rowOr none b ≡ none
   no-after nothing f h = refl
   no-after (best k x) f h =
@@ -145,6 +147,7 @@ module _ (times : List ℕ) (t : ℕ) where
   unfolding after
   answered-after i l a = row-after (bestOf isAbove lesser 0 times nothing) i l a (after-best times t)
 
+  -- where no time is above t, none is answered
   none-after : ((j : ℕ) → j < length times → timeAt times j ≤ t) → after times t ≡ none
   unfolding after
   none-after f = no-after (bestOf isAbove lesser 0 times nothing) f (after-best times t)
@@ -195,6 +198,7 @@ module _ (side : ℕ → Ordering) (xs : List ℕ) (sorted : Sorted side xs) whe
         go true b = sorted .less j k (ltb-true j k b) i e
         go false b = let c = ltb-false j k b in let s : j ≡ k = omega arith in rw s e
 
+    -- a row that is greater has only greater ones behind it
     greater-from : (k : ℕ) → side (getD xs k 0) ≡ Ordering·gt → (j : ℕ) → k ≤ j → j < length xs → side (getD xs j 0) ≡ Ordering·gt
     greater-from k e j m i = go (ltb k j) refl
       where
@@ -210,6 +214,7 @@ module _ (side : ℕ → Ordering) (xs : List ℕ) (sorted : Sorted side xs) whe
         let n = h .enough in
         record { order = m .1; within = w; enough = omega arith; before = less-until (middle lo hi) (omega arith) e; behind = h .behind }
 
+    -- a middle row that is greater leaves the rows before it
     go-left : side (getD xs (middle lo hi) 0) ≡ Ordering·gt → Left turns lo (beforeIt lo hi)
     go-left e =
         let m = middle-in in
@@ -256,9 +261,11 @@ module _ (t x : ℕ) where
       let b = eqb-false x t (ap isEq e) in
       omega arith
 
+  -- a time that compares as equal to t is t
   is-equal : byTime t x ≡ Ordering·eq → x ≡ t
   is-equal e = eqb-true x t (ap isEq e)
 
+  -- a time that compares as greater than t is later
   is-greater : byTime t x ≡ Ordering·gt → t < x
   is-greater e = leb-false x t (ap isLe e)
 
@@ -271,6 +278,7 @@ module _ (t x : ℕ) where
       go Ordering·eq e = let a = is-equal e in absurd (omega arith)
       go Ordering·gt e = let a = is-greater e in absurd (omega arith)
 
+  -- a later time compares as greater
   greater-is : t < x → byTime t x ≡ Ordering·gt
   greater-is l = go (byTime t x) refl
     where
@@ -287,6 +295,7 @@ module _ (t x : ℕ) where
       go true h = leb-true x t h
       go false h = let z : _≡_ {A = ℕ} 0 1 = cc in absurd (omega arith)
 
+  -- a time that is put behind is later than t
   part-greater : byPart t x ≡ Ordering·gt → t < x
   part-greater e = go (leb x t) refl
     where
@@ -294,6 +303,7 @@ module _ (t x : ℕ) where
       go true h = let z : _≡_ {A = ℕ} 0 1 = cc in absurd (omega arith)
       go false h = leb-false x t h
 
+  -- no time compares as equal, so a search by parts finds a place and never a row
   part-equal : byPart t x ≡ Ordering·eq → ⊥
   part-equal e = go (leb x t) refl
     where
@@ -333,6 +343,7 @@ module _ (times : List ℕ) (t : ℕ) (ascending : Ascending times) where
     greater = λ j k i l e. let a = is-greater t (timeAt times j) e in let b = ascending j k i l in greater-is t (timeAt times k) (omega arith);
   }
 
+  -- up to some row no time is above t, and from there on all are
   sorted-by-part : Sorted (byPart t) times
   sorted-by-part = record {
     less = λ j k i l e.
@@ -357,6 +368,7 @@ module _ (times : List ℕ) (t : ℕ) (ascending : Ascending times) where
         all-later = λ f. let a = f i (h .row) in absurd (omega arith);
       }
 
+  -- the row before the place is the last whose time is below t, and none has the time t
   row-before : (i : ℕ) → IsPlace (byTime t) times (suc i) → IsAtOrBefore times t i
   row-before i h =
       let l = h .within in
@@ -396,6 +408,7 @@ module _ (times : List ℕ) (t : ℕ) (ascending : Ascending times) where
       go j k a true e = let c = part-less t (timeAt times j) (h .less j (ltb-true j i e)) in absurd (omega arith)
       go j k a false e = not-below i j (ltb-false j i e) k
 
+  -- where the place is the end, no time is above t
   none-above : (i : ℕ) → IsPlace (byPart t) times i → length times ≤ i → (j : ℕ) → j < length times → timeAt times j ≤ t
   none-above i h l j k = part-less t (timeAt times j) (h .less j (omega arith))
 

@@ -28,10 +28,12 @@ pub good-of : (f : List ℕ) → IsBytes f → GoodClip 262143 (recordOf f .clip
 unfolding recordOf
 good-of f bytes = good-clip f bytes
 
+-- languages are lowered as they are read, so lowering changes nothing
 low-of : (f : List ℕ) → IsBytes f → loweredClip (recordOf f .clip) ≡ recordOf f .clip
 unfolding recordOf loweredClip clipOf
 low-of f bytes = let e = lowered-streams f bytes (programsStart f) in rw e
 
+-- the counts add up and the cells fit, which leaves 31 as the only refusal of writing
 pub from-file : (f : List ℕ) → IsBytes f → FromFile f
 unfolding writeRefusal
 from-file f bytes =
@@ -43,6 +45,7 @@ from-file f bytes =
 
 -- ---- a record made by hand
 
+-- what the refusals test is all that writing and reading back need
 pub made : (c : Clip) → writeRefusal c ≡ 0 → Made c
 unfolding recordOf
 made c h =
@@ -52,6 +55,7 @@ made c h =
 -- ---- an accepted file read into tables with room
 
 module _ (f : List ℕ) (accepts : refusalOf f ≡ 0) (tables : Nine (List ℕ)) (room : Room (tablesOf f) tables) where
+  -- the file is not refused and no table gives 21, so the answer is what the file states
   pub reading-accepts : readAnswer f tables ≡ accepted (statedOf f)
   unfolding readAnswer
   reading-accepts = rw (accepts, no-short f tables room)
@@ -74,24 +78,30 @@ module _ (f : List ℕ) (accepts : refusalOf f ≡ 0) (tables : Nine (List ℕ))
 -- ---- the six parts
 
 module _ (f : List ℕ) (h : Rewritable f) where
+  -- no map has more than 65,535 runs, so the record can be written
   good : GoodClip 65535 (recordOf f .clip)
   good = narrow (recordOf f .clip) (good-of f (h .bytes)) (h .runs)
 
+  -- 3. the new file reads to the old record with its languages lowered, which they were
   same-record : recordOf (rewritten f) ≡ withoutExtensions (recordOf f)
   same-record = record-back (recordOf f .clip) good ∙ rw (low-of f (h .bytes))
 
+  -- so the scalars and the rows are the same
   same-clip : recordOf (rewritten f) .clip ≡ recordOf f .clip
   same-clip = ap (λ (r : Record). r .clip) same-record
 
   -- 1. reading into the tables, and writing from them
   module _ (tables : Nine (List ℕ)) (room : Room (tablesOf f) tables) where
+    -- reading accepts, as the tables have room
     reads : readAnswer f tables ≡ accepted (statedOf f)
     reads = reading-accepts f (h .accepted) tables room
 
+    -- the tables handed over hold the record
     holds : HoldsClip (handedOver f tables) (recordOf f .clip)
     holds = reading-holds f (h .accepted) tables room
 
     module _ (out : List ℕ) (long : length (rewritten f) ≤ length out) where
+      -- so writing sees the record, refuses nothing, and has room in the output
       writes : writeAnswer (handedOver f tables) out ≡ written (length (rewritten f))
       unfolding writeAnswer
       writes =
@@ -103,6 +113,7 @@ module _ (f : List ℕ) (h : Rewritable f) where
             le-leb (length (rewritten f)) (length out) long,
           )
 
+      -- and the output begins with the new file
       succeed : Succeeds f tables out
       unfolding outputAfter
       succeed =

@@ -7,6 +7,7 @@ use Rattle.format.specs.Bytes.{widthOf, unpacked, packed}
 use Rattle.format.specs.EntryPoints.{joinTime}
 use Rattle.format.proofs.Fields.{Fit}
 
+-- fields of a number taken out and put in by shifts, and lists of fields packed and unpacked
 pub record BitFields : Type 0 where
   -- shift and mask are div and mod
   pub take-out : (x place width : ℕ) → bitAnd (x / 2 ^ place) (2 ^ width - 1) ≡ x / 2 ^ place % 2 ^ width

@@ -34,6 +34,7 @@ pub data Outcome : Type 0 where
 abbrev pub startsOf : List ℕ → List ℕ
 startsOf f = fieldsAt f 8 (4 ∷ 4 ∷ 4 ∷ 4 ∷ 4 ∷ [])
 
+-- what the definitions say of each kind of input
 unfoldable pub evaluate : Input → Outcome
 evaluate (file f) = refusal (refusalOf f)
 evaluate (coarseAndFineTime c f) = value (joinTime c f)
@@ -49,6 +50,7 @@ pub data RightLetters (n : ℕ) : Type 0 where
   hdmv : (behind : List ℕ) → length behind ≡ n → RightLetters n
   clpi : (behind : List ℕ) → length behind ≡ n → RightLetters n
 
+-- HDMV or CLPI, and the bytes behind
 abbrev pub rightFile : {n : ℕ} → RightLetters n → List ℕ
 rightFile (hdmv behind size) = 0x48 ∷ 0x44 ∷ 0x4D ∷ 0x56 ∷ behind
 rightFile (clpi behind size) = 0x43 ∷ 0x4C ∷ 0x50 ∷ 0x49 ∷ behind
@@ -70,6 +72,7 @@ pub record OtherLetters (n : ℕ) : Type 0 where
   pub not-clpi : (a ≡ 0x43) × (b ≡ 0x4C) × (c ≡ 0x50) × (d ≡ 0x49) → ⊥
   pub size : length behind ≡ n
 
+-- the four other letters, and the bytes behind
 abbrev pub otherFile : {n : ℕ} → OtherLetters n → List ℕ
 otherFile o = o .a ∷ o .b ∷ o .c ∷ o .d ∷ o .behind
 
@@ -95,6 +98,7 @@ abbrev pub noScalars : Scalars
 noScalars =
     record { version = 0; streamType = 0; applicationType = 0; rate = 0; packets = 0; validityFlags = 0; formatId = 0 }
 
+-- these scalars and no rows, as M10 has it
 unfoldable pub emptyClip : Clip
 emptyClip =
     record { scalars = noScalars; atcs = []; stcs = []; programs = []; streams = []; maps = []; entries = [] }
@@ -118,6 +122,7 @@ pub record Case : Type 1 where
   pub input : Given → Input
   pub stated : Outcome
 
+-- M1 to M11 in their order; M11 has two cases, on either side of its limit
 unfoldable pub table : List Case
 table =
     record { label = 1; Given = RightLetters 35; input = λ g. file (rightFile g); stated = refusal 1 }

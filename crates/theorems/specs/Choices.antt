@@ -32,6 +32,7 @@ pub data FirstOrNone (n : ℕ) (Has : ℕ → Type 0) (told : ℕ → ℕ) : Ans
   no-row : NoRow n Has → FirstOrNone n Has told none
   a-row : (k : ℕ) → IsFirstRow n Has k → FirstOrNone n Has told (number (told k))
 
+-- the same with the last row that has it
 pub data LastOrNone (n : ℕ) (Has : ℕ → Type 0) (told : ℕ → ℕ) : Answer → Type 0 where
   no-row : NoRow n Has → LastOrNone n Has told none
   a-row : (k : ℕ) → IsLastRow n Has k → LastOrNone n Has told (number (told k))

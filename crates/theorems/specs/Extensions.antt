@@ -28,9 +28,11 @@ pub record IsKept (f : List ℕ) (start : ℕ) (row : Row) : Type 0 where
   pub row-is : row ≡ extensionAt f start (entryAt start entry)
   pub whole : length (dataOf f row) ≡ dataLengthAt f (entryAt start entry)
 
+-- an extension with the ids of the list
 abbrev pub IsList : Extension → Type 0
 IsList x = (x .id1 ≡ 2) × (x .id2 ≡ 5)
 
+-- the rows of a block at any start are the entries that the rule keeps, and the list is that of the first (2, 5) entry
 pub record Extensions (f : List ℕ) : Type 0 where
   -- every row is kept by the rule
   pub rows : (start : ℕ) → All (IsKept f start) (extensionRows f start)

@@ -93,6 +93,7 @@ pub record IsFound (side : ℕ → Ordering) (xs : List ℕ) (i : ℕ) : Type 0 
   pub row : i < length xs
   pub equal : side (getD xs i 0) ≡ Ordering·eq
 
+-- a place may be the end, where all rows are less
 pub record IsPlace (side : ℕ → Ordering) (xs : List ℕ) (i : ℕ) : Type 0 where
   pub within : i ≤ length xs
   pub less : (j : ℕ) → j < i → side (getD xs j 0) ≡ Ordering·lt

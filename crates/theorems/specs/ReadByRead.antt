@@ -6,6 +6,7 @@ use Rattle.format.specs.Extensions.{found, listIn, hasExtensions}
 use Rattle.format.specs.Refusals.{refusalOf}
 use Rattle.format.specs.ReadByRead.{refusalRead, extensionsRead, programsRead}
 
+-- testing each read of a file before its value is used, and testing where its sections end, tell the same
 pub record ReadByRead (f : List ℕ) : Type 0 where
   -- every refusal of the file, read by read
   pub refusal : refusalRead f ≡ refusalOf f

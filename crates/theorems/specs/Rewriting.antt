@@ -49,6 +49,7 @@ handOver s t = record {
   entries = stated (t .entries) (s .rows .entries);
 }
 
+-- what is handed over once f has been read into these lent tables
 unfoldable pub handedOver : List ℕ → Nine (List ℕ) → ClipTables
 handedOver f tables = handOver (statedOf f) (tablesAfter f tables)
 
@@ -61,6 +62,7 @@ pub record Succeeds (f : List ℕ) (tables : Nine (List ℕ)) (out : List ℕ) :
   pub writes : writeAnswer (handedOver f tables) out ≡ written (length (rewritten f))
   pub output : outputAfter (handedOver f tables) out ≡ rewritten f ++ drop (length (rewritten f)) out
 
+-- of a file that is accepted and has no map of over 65,535 runs (`Rewritable`), in six parts
 pub record RewritingKeeps (f : List ℕ) : Type 0 where
   -- 1. where the buffers suffice, rewriting succeeds
   pub succeeds : (tables : Nine (List ℕ)) (out : List ℕ) → Room (tablesOf f) tables → length (rewritten f) ≤ length out → Succeeds f tables out
@@ -92,6 +94,7 @@ pub record FromFile (f : List ℕ) : Type 0 where
 
 -- ---- a record made by hand that writing does not refuse: what is written is accepted and reads to it, its languages lowered
 
+-- the file of such a record, which is also well below the greatest length
 pub record Made (c : Clip) : Type 0 where
   pub bytes : IsBytes (encode c)
   pub short : length (encode c) ≤ 402515706
