@@ -105,7 +105,7 @@ module _ (f : List ℕ) where
 
   -- ---- ClipInfo and marks
 
-  -- the reads of ClipInfo end at byte 194, so they pass exactly where the file has as many bytes
+  -- the reads of ClipInfo end at byte 194, and the place behind it is within the file or at its end: the test of refusal 3
   clip-info : clipInfoRead f ≡ clipInfoIn f
   unfolding clipInfoRead clipInfoIn
   clip-info = rw (reads-some f 40 4 (2 ∷ 1 ∷ 1 ∷ 4 ∷ 4 ∷ 4 ∷ 128 ∷ 1 ∷ 1 ∷ 4 ∷ []))
