@@ -46,7 +46,7 @@ LAYERS = [
         ("written", "row_limits row_values row_bytes section_heads encode_rows runs entry_runs map_rows"),
     ]),
     ("bytes", [
-        ("bytes, bits, cells, ticks", "common numbers cells bits ticks stream_coding"),
+        ("bytes, bits, cells, ticks", "common numbers entry_rows cells bits ticks stream_coding"),
     ]),
     ("document 01", [
         ("definitions", "format"),

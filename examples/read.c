@@ -20,7 +20,7 @@ static void list(const struct clpi_reading *r, const struct clpi_tables *t)
         const struct clpi_ep_map *map = &t->maps[i];
         printf("map %" PRIu32 " %" PRIu32 " %" PRIu32 "\n", map->stream_pid, map->ep_stream_type, map->entry_count);
         for (uint32_t k = 0; k < map->entry_count; k++, entry++)
-            printf("ep %" PRIu32 " %" PRIu32 "\n", entry->pts_ep_start, entry->spn_ep_start);
+            printf("ep %" PRIu64 " %" PRIu32 "\n", entry->pts_ep_start, entry->spn_ep_start);
     }
     printf("mark %" PRIu32 "\n", r->marks);
 }

@@ -151,11 +151,12 @@ struct clpi_ep_map {
     uint32_t entry_count; /* how many of table 6's rows, in order, are its own */
 };
 
-/* table 6: an entry point; its time in 90 kHz ticks */
+/* table 6: an entry point; its time in 90 kHz ticks. A file's times are below 2^32; one that is not is refused in
+ * writing (CLPI_CELLS), and compared as it is by the questions */
 struct clpi_ep_entry {
     uint32_t is_angle_change_point;
     uint32_t i_end_position_offset;
-    uint32_t pts_ep_start;
+    uint64_t pts_ep_start;
     uint32_t spn_ep_start;
     uint32_t ep_stream_type;
 };

@@ -3,7 +3,7 @@
 //! libbluray's search (`clpi_lookup_spn`) isn't in its headers, and its shared library hides it. It is called in the static library of the
 //! same package, on what the public `bd_read_clpi` hands out. It walks the coarse rows and then the fine rows of one of them.
 use crate::file::{self, Layout};
-use crate::{median, ours as read};
+use crate::{ENTRY, PACKET, median, ours as read};
 use oracle::bdmv::clpi::{ClipInformation, EpMap};
 use std::ffi::{CString, c_char, c_int, c_void};
 use std::hint::black_box;
@@ -53,7 +53,7 @@ impl Held {
     /// Reads a file with one map, whose times must ascend, by each of the three.
     fn new(rows: usize, layout: Layout) -> Held {
         let clip = file::clip(1, rows, layout);
-        let (mut maps, mut entries) = (vec![0u8; 12], vec![0u8; rows * 20]);
+        let (mut maps, mut entries) = (vec![0u8; 12], vec![0u8; rows * ENTRY]);
         assert!(read(&clip, &mut maps, &mut entries).refusal == 0);
         let rust = ClipInformation::parse(&clip).expect("accepted").cpi.ep_map.remove(0);
         assert!(rust.entries.is_sorted_by(|a, b| a.pts_ep_start < b.pts_ep_start));
@@ -68,7 +68,7 @@ impl Held {
 
     /// The row that this library answers.
     fn ours(&self, question: Question, at: u32) -> Option<u64> {
-        let rows = (self.entries.len() / 20) as u32;
+        let rows = (self.entries.len() / ENTRY) as u32;
         let (maps, entries) = (&self.maps, &self.entries);
         let r = unsafe { question(maps.as_ptr(), maps.len(), 1, entries.as_ptr(), entries.len(), rows, 0, at) };
         assert!(r.refusal == 0);
@@ -82,7 +82,7 @@ impl Held {
 
     /// The packet of a row of this library's table.
     fn packet(&self, row: u64) -> u32 {
-        let cell = row as usize * 20 + 12;
+        let cell = row as usize * ENTRY + PACKET;
         u32::from_le_bytes(self.entries[cell..cell + 4].try_into().unwrap())
     }
 }

@@ -11,6 +11,10 @@ use std::time::Instant;
 /// Where the number of entries stands behind the refusal.
 const ENTRIES: usize = 15;
 
+/// The bytes of an entry's row, and where its packet stands in it.
+const ENTRY: usize = 24;
+const PACKET: usize = 16;
+
 /// The answer of reading: the refusal and the numbers behind it.
 #[repr(C)]
 struct Reading {
@@ -68,7 +72,7 @@ fn measure(name: &str, maps: usize, rows: usize, rounds: usize, turns: usize) {
     let c_path = CString::new(path.as_str()).unwrap();
     let total = maps * rows;
     let mut map_table = vec![0u8; maps * 12];
-    let mut entry_table = vec![0u8; total * 20];
+    let mut entry_table = vec![0u8; total * ENTRY];
     let mut copy = vec![0u8; clip.len()];
     let mut table_copy = entry_table.clone();
     let mut times = [const { Vec::new() }; 5];

@@ -1,6 +1,6 @@
 //! Writing and rewriting measured side by side: this library and the Rust, and a copy of the new file's bytes. libbluray doesn't write.
 use crate::file::{self, Layout};
-use crate::{median, ours as read, time};
+use crate::{ENTRY, median, ours as read, time};
 use oracle::bdmv::clpi::ClipInformation;
 
 /// The numbers of a record that stand in no table.
@@ -34,7 +34,7 @@ fn write(info: Info, maps: &[u8], entries: &[u8], output: &mut [u8]) -> Writing 
     unsafe {
         clpi_write(
             info, none, 0, 0, none, 0, 0, none, 0, 0, none, 0, 0,
-            maps.as_ptr(), maps.len(), rows(maps, 12), entries.as_ptr(), entries.len(), rows(entries, 20),
+            maps.as_ptr(), maps.len(), rows(maps, 12), entries.as_ptr(), entries.len(), rows(entries, ENTRY),
             output.as_mut_ptr(), output.len(),
         )
     }
@@ -49,7 +49,7 @@ fn rewrite(clip: &[u8], output: &mut [u8]) -> Writing {
 pub fn measure(name: &str, maps: usize, rows: usize, layout: Layout, rounds: usize, turns: usize) {
     let clip = file::clip(maps, rows, layout);
     let total = maps * rows;
-    let (mut map_table, mut entry_table) = (vec![0u8; maps * 12], vec![0u8; total * 20]);
+    let (mut map_table, mut entry_table) = (vec![0u8; maps * 12], vec![0u8; total * ENTRY]);
     let reading = read(&clip, &mut map_table, &mut entry_table);
     assert!(reading.refusal == 0);
     let info = Info(std::array::from_fn(|k| reading.rest[k + 2]));

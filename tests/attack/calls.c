@@ -154,6 +154,8 @@ CALL(transfer_duration_secs)
 /* ---- the table */
 
 #define BIT(refusal) (1u << (refusal))
+/* The bytes of a row of table 6. */
+#define ENTRY sizeof(struct clpi_ep_entry)
 #define FILES (BIT(1) | BIT(2) | BIT(3) | BIT(4) | BIT(5) | BIT(6) | BIT(7) | BIT(8) | BIT(20))
 #define NAMED(call) .name = "clpi_" #call, .run = run_##call
 
@@ -168,16 +170,16 @@ CALL(transfer_duration_secs)
     {NAMED(call), .table = of_table, .ins = 2, .numbers = 3, .row_bytes = {12, counted}, .count_at = {at}, \
      .kind = {ROW}, .refusals = BIT(22)}
 #define OF_ATC(call, first, second, of) QUESTION2(call, 1, 4, 16, first, second, of)
-#define OF_MAP(call, first, second, of) QUESTION2(call, 5, 8, 20, first, second, of)
+#define OF_MAP(call, first, second, of) QUESTION2(call, 5, 8, ENTRY, first, second, of)
 #define OF_NUMBERS(call, first, second) {NAMED(call), .numbers = 3, .kind = {first, second}, .row_of = -1, .finds = 1}
 
 const struct call calls[] = {
-    {NAMED(read), .ins = 1, .outs = 9, .numbers = 21, .row_of = -1, .out_bytes = {12, 16, 12, 20, 12, 20, 16, 12, 20},
+    {NAMED(read), .ins = 1, .outs = 9, .numbers = 21, .row_of = -1, .out_bytes = {12, 16, 12, 20, 12, ENTRY, 16, 12, 20},
      .out_count = 11, .refusals = FILES | BIT(21)},
     {NAMED(rewrite), .ins = 1, .outs = 1, .numbers = 3, .row_of = -1, .out_bytes = {1}, .out_count = 2,
      .refusals = FILES | BIT(23) | BIT(31)},
     {NAMED(rewritten_length), .ins = 1, .numbers = 2, .row_of = -1, .refusals = FILES | BIT(31)},
-    {NAMED(write), .ins = 6, .outs = 1, .numbers = 3, .row_bytes = {12, 16, 12, 20, 12, 20}, .count_at = {4, 0, 8, 0, 8, 0},
+    {NAMED(write), .ins = 6, .outs = 1, .numbers = 3, .row_bytes = {12, 16, 12, 20, 12, ENTRY}, .count_at = {4, 0, 8, 0, 8, 0},
      .row_of = -1, .out_bytes = {1}, .out_count = 2, .refusals = BIT(22) | BIT(23) | BIT(30) | BIT(31)},
     {NAMED(extension_data), .ins = 2, .numbers = 3, .row_bytes = {0, 16}, .kind = {ROW}, .row_of = 1, .refusals = BIT(22)},
     QUESTION1(extension_entry, 7, 16, WORD, WORD, -1),
@@ -207,7 +209,7 @@ const struct call calls[] = {
     OF_MAP(first_pts, ROW, NO_ARGUMENT, 0),
     OF_MAP(last_pts, ROW, NO_ARGUMENT, 0),
     OF_MAP(indexed_span_90k, ROW, NO_ARGUMENT, 0),
-    ROWS_OF(entries_of_map, 5, 8, 20),
+    ROWS_OF(entries_of_map, 5, 8, ENTRY),
     {NAMED(clip_byte_len), .numbers = 2, .kind = {CELL}, .row_of = -1},
     OF_NUMBERS(spn_to_byte, CELL, CELL),
     OF_NUMBERS(byte_to_spn, CELL, LONG),

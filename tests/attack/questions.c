@@ -4,7 +4,7 @@
 
 #include "attack.h"
 
-enum { MOST_ROWS = 4, MOST_BYTES = 20 * MOST_ROWS + 8, LENGTHS = 11, STATEMENTS = 8, ARGUMENTS = 7 };
+enum { MOST_ROWS = 4, MOST_BYTES = sizeof(struct clpi_ep_entry) * MOST_ROWS + 8, LENGTHS = 11, STATEMENTS = 8, ARGUMENTS = 7 };
 enum filling { ZEROS, ONES, ANY, SMALL, ADDING_UP, PASSING, FILLINGS };
 
 static uint8_t table[2][MOST_BYTES];

@@ -6,13 +6,13 @@
 enum { TABLES = 6, MOST_BYTES = 64 };
 
 static uint8_t table[TABLES][MOST_BYTES];
-static const uint8_t cells_of[TABLES] = {3, 4, 3, 5, 3, 5};
+static const uint8_t cells_of[TABLES] = {3, 4, 3, 5, 3, 6};
 
 /* A record of one row in each table, which can be written. */
 static struct ask good(void)
 {
-    static const uint32_t rows[TABLES][5] = {
-        {0, 1, 0}, {4097, 0, 16384, 65536}, {0, 256, 1}, {4352, 129, 49, 0, 0x656E67}, {4113, 1, 1}, {1, 7, 524288, 131079, 1}};
+    static const uint32_t rows[TABLES][6] = {
+        {0, 1, 0}, {4097, 0, 16384, 65536}, {0, 256, 1}, {4352, 129, 49, 0, 0x656E67}, {4113, 1, 1}, {1, 7, 524288, 0, 131079, 1}};
     struct ask a;
     memset(&a, 0, sizeof a);
     memset(table, 0, sizeof table);

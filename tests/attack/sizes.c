@@ -139,9 +139,9 @@ void attack_sizes(void)
         long_outputs(about_2_32[i]);
     }
     last_row("clpi_duration_45k", 16, 3, 0);
-    last_row("clpi_last_pts", 20, 2, 0);
+    last_row("clpi_last_pts", sizeof(struct clpi_ep_entry), 2, 0);
     last_row("clpi_stcs_of_atc", 16, 0, 0);
-    last_row("clpi_entries_of_map", 20, 0, 0);
+    last_row("clpi_entries_of_map", sizeof(struct clpi_ep_entry), 0, 0);
     last_row("clpi_streams_of_program", 20, 0, 0);
     last_row("clpi_extension_data", 16, 3, CLPI_ROWS);
 }

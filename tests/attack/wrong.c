@@ -52,8 +52,8 @@ static struct clpi_reading wrong_reading(struct clpi_reading r)
 /* What is wrong in the tables of a reading. */
 static void wrong_rows(const struct clpi_reading *r, uint8_t *a, size_t an, uint8_t *f, size_t fn)
 {
-    if (!r->refusal && is("a byte behind the rows") && fn > r->entries * 20u)
-        f[r->entries * 20u] = 0;
+    if (!r->refusal && is("a byte behind the rows") && fn > r->entries * sizeof(struct clpi_ep_entry))
+        f[r->entries * sizeof(struct clpi_ep_entry)] = 0;
     if (!r->refusal && is("a byte behind the table") && an > 0)
         a[an] = 0;
     if (r->refusal && is("a table zeroed by a refusal") && an > 0)

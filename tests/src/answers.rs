@@ -1,7 +1,8 @@
 //! The questions of include/clpi.h, the tables they are asked of, and what an answerer is to the comparison.
 
 use crate::record::{
-    ATCS, CELLS, ENTRIES, EXTENSIONS, LIST_PROGRAMS, LIST_STREAMS, MAPS, PROGRAMS, STCS, STREAMS, row_bytes,
+    ATCS, CELLS, ENTRIES, EXTENSIONS, LIST_PROGRAMS, LIST_STREAMS, MAPS, PROGRAMS, STCS, STREAMS, TIME, TIME_HIGH,
+    row_bytes,
 };
 
 /// What a question is answered with: the three numbers of `struct clpi_answer`. Those of `struct clpi_rows` are held
@@ -235,6 +236,12 @@ impl<'a> Input<'a> {
     pub fn cell(&self, table: usize, row: usize, column: usize) -> u32 {
         let at = 4 * (row * CELLS[table] + column);
         number(&self.tables[table].bytes[at..at + 4])
+    }
+
+    /// The time of a row of table 6.
+    #[inline]
+    pub fn time(&self, row: usize) -> u64 {
+        u64::from(self.cell(ENTRIES, row, TIME)) | u64::from(self.cell(ENTRIES, row, TIME_HIGH)) << 32
     }
 
     /// The counts of the first rows of a table of counts, added up.

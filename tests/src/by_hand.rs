@@ -7,7 +7,7 @@ use crate::guarded::Guarded;
 use crate::make::Maker;
 use crate::questions::Questions;
 use crate::random::Random;
-use crate::record::row_bytes;
+use crate::record::{entry_cells, row_bytes};
 use crate::rust_answers;
 use oracle::bdmv::clpi::ClipInformation;
 use std::hint::black_box;
@@ -36,6 +36,8 @@ struct Cells {
     offsets: [u32; 4],
     ids: [u32; 3],
     kinds: u32,
+    /// Whether entries may have times of 64 bits, which the Rust's have not.
+    long_times: bool,
 }
 
 impl ByHand {
@@ -125,7 +127,7 @@ impl ByHand {
             let times = cells.times_of_map(random);
             put(maps, &[random.pick(&cells.pids), map_type(random) & cells.kinds, times.len() as u32]);
             for time in times {
-                put(entries, &[cell(random), cell(random), time, cell(random), cell(random)]);
+                put(entries, &entry_cells(cell(random), cell(random), time, cell(random), cell(random)));
             }
         }
     }
@@ -146,6 +148,7 @@ impl Cells {
             offsets: std::array::from_fn(|_| cell(random) & random.pick(&[few, kinds])),
             ids: std::array::from_fn(|_| cell(random) & random.pick(&[few, wide])),
             kinds,
+            long_times: !narrow && random.one_in(2),
         }
     }
 
@@ -154,12 +157,14 @@ impl Cells {
         if random.one_in(4) { 0 } else { random.below(self.most) as u32 }
     }
 
-    /// The times of a map: none, any, many that are equal, or ascending strictly.
-    fn times_of_map(&self, random: &mut Random) -> Vec<u32> {
+    /// The times of a map: none, any, many that are equal, or ascending strictly; some over 32 bits where they may be.
+    fn times_of_map(&self, random: &mut Random) -> Vec<u64> {
         let count = if random.one_in(3) { 0 } else { random.below(self.most.max(7)) };
         let any = random.pick(&[1, 4, 8]);
-        let mut times: Vec<u32> =
-            (0..count).map(|_| if random.one_in(any) { cell(random) } else { random.pick(&self.times) }).collect();
+        let low = |random: &mut Random| if random.one_in(any) { cell(random) } else { random.pick(&self.times) };
+        let high = |random: &mut Random| if self.long_times && random.one_in(2) { cell(random) } else { 0 };
+        let mut times: Vec<u64> =
+            (0..count).map(|_| u64::from(high(random)) << 32 | u64::from(low(random))).collect();
         if random.one_in(3) {
             times.sort_unstable();
             times.dedup();

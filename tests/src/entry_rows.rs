@@ -6,7 +6,7 @@ use crate::guarded::Guarded;
 use crate::ours::Library;
 use crate::plain_answers::{self, Plain};
 use crate::random::Random;
-use crate::record::{ENTRIES, MAPS};
+use crate::record::{ENTRIES, MAPS, entry_cells, row_bytes};
 use crate::rust_answers;
 use crate::wrong_answers::WrongAnswer;
 use oracle::bdmv::clpi::{EpEntry, EpMap};
@@ -121,7 +121,7 @@ impl EntryRows {
         let [maps, entries] = &mut self.tables;
         let mut tables = [Table::default(); 9];
         tables[MAPS] = Table { bytes: maps.hold(&cells[0]), rows: (cells[0].len() / 12) as u32 };
-        tables[ENTRIES] = Table { bytes: entries.hold(&cells[1]), rows: (cells[1].len() / 20) as u32 };
+        tables[ENTRIES] = Table { bytes: entries.hold(&cells[1]), rows: (cells[1].len() / row_bytes(ENTRIES)) as u32 };
         let input = Input { rate: 0, packets: 0, tables, null: random.one_in(2) };
         let bytes = record_bytes(&made);
         let held = self.records.hold(&bytes);
@@ -195,7 +195,13 @@ fn tables(made: &[EpEntry], random: &mut Random) -> (u32, [Vec<u8>; 2]) {
         cells[0].extend([number(random), number(random), own.len() as u32]);
         cells[1].extend(own.iter().flat_map(|e| {
             let angle = u32::from(e.is_angle_change_point);
-            [angle, e.i_end_position_offset.into(), e.pts_ep_start, e.spn_ep_start, e.ep_stream_type.into()]
+            entry_cells(
+                angle,
+                e.i_end_position_offset.into(),
+                e.pts_ep_start.into(),
+                e.spn_ep_start,
+                e.ep_stream_type.into(),
+            )
         }));
     }
     (row, cells.map(|cells| cells.into_iter().flat_map(u32::to_le_bytes).collect()))

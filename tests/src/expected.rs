@@ -1,6 +1,6 @@
 //! What the Rust's record is as nine tables of cells.
 
-use crate::record::{ATCS, ENTRIES, EXTENSIONS, MAPS, Record, STCS, Scalars};
+use crate::record::{ATCS, ENTRIES, EXTENSIONS, MAPS, Record, STCS, Scalars, entry_cells};
 use oracle::bdmv::clpi::{ClipInformation, Cpi, ProgramInfo, SequenceInfo, StreamCodingInfo};
 use oracle::bdmv::extension::ExtensionDataEntry;
 
@@ -74,13 +74,13 @@ fn maps(cpi: &Cpi, out: &mut Record) {
     for map in &cpi.ep_map {
         out.tables[MAPS].extend([map.stream_pid.into(), map.ep_stream_type.into(), map.entries.len() as u32]);
         for entry in &map.entries {
-            out.tables[ENTRIES].extend([
+            out.tables[ENTRIES].extend(entry_cells(
                 entry.is_angle_change_point.into(),
                 entry.i_end_position_offset.into(),
-                entry.pts_ep_start,
+                entry.pts_ep_start.into(),
                 entry.spn_ep_start,
                 entry.ep_stream_type.into(),
-            ]);
+            ));
         }
     }
 }

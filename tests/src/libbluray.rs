@@ -8,7 +8,7 @@ use crate::make::{CLASSES, Maker};
 use crate::model;
 use crate::mutation::Mutation;
 use crate::ours::Library;
-use crate::record::{ATCS, ENTRIES, MAPS, PROGRAMS, Record, STCS, STREAMS};
+use crate::record::{ATCS, ENTRIES, MAPS, PROGRAMS, Record, STCS, STREAMS, entry_cells};
 use crate::writer::Writer;
 use data::{Clip, EpMapEntry, ProgStream, rows};
 use std::path::PathBuf;
@@ -191,7 +191,7 @@ fn map_entries(map: &EpMapEntry, out: &mut Vec<u32>) -> Result<(), Difference> {
             let time = ((run.pts_ep as u32 & !1) << 18) + ((entry.pts_ep as u32) << 8);
             let packet = (run.spn_ep & !0x1_FFFF) + entry.spn_ep as u32;
             let [angle, i_end] = [entry.is_angle_change_point, entry.i_end_position_offset].map(u32::from);
-            out.extend([angle, i_end, 2 * time, packet, map.ep_stream_type.into()]);
+            out.extend(entry_cells(angle, i_end, u64::from(2 * time), packet, map.ep_stream_type.into()));
         }
     }
     Ok(())

@@ -6,7 +6,7 @@ use crate::made::{Buffers, Made, of_the_rust, small};
 use crate::make::Maker;
 use crate::ours::{Library, Reader};
 use crate::random::Random;
-use crate::record::{ATCS, ENTRIES, MAPS, PROGRAMS, STCS, STREAMS, row_bytes};
+use crate::record::{ATCS, ENTRIES, KIND, MAPS, PACKET, PROGRAMS, STCS, STREAMS, row_bytes};
 use crate::writer::{TABLES, Writer, Writing};
 use crate::writing::Writings;
 
@@ -134,22 +134,25 @@ fn map_cells(cases: &mut Cases) {
     for (kind, wanted) in [(15, 0), (16, 30), (u32::MAX, 30)] {
         cases.add(format!("map type {kind}"), wanted, move |made| {
             made.set(MAPS, 2, 1, kind);
-            [3, 4].into_iter().for_each(|row| made.set(ENTRIES, row, 4, kind));
+            [3, 4].into_iter().for_each(|row| made.set(ENTRIES, row, KIND, kind));
         });
     }
     cases.add("map type 16 of an empty map", 30, |made| made.set(MAPS, 1, 1, 16));
     for kind in [0, 1, 9, 24, u32::MAX] {
-        cases.add(format!("entry type {kind} in a map of type 8"), 30, move |made| made.set(ENTRIES, 4, 4, kind));
+        cases.add(format!("entry type {kind} in a map of type 8"), 30, move |made| made.set(ENTRIES, 4, KIND, kind));
     }
     cases.add("the entry types of two maps swapped", 30, |made| {
-        (0..5).for_each(|row| made.set(ENTRIES, row, 4, if row < 3 { 8 } else { 1 }));
+        (0..5).for_each(|row| made.set(ENTRIES, row, KIND, if row < 3 { 8 } else { 1 }));
     });
     cases.cell("angle", ENTRIES, 4, 0, 1);
     cases.cell("I-end", ENTRIES, 4, 1, 7);
-    for (time, wanted) in [(0xFFFF_FE00, 0), (1, 30), (256, 30), (511, 30), (512, 0), (513, 30), (u32::MAX, 30)] {
-        cases.add(format!("time {time}"), wanted, move |made| made.set(ENTRIES, 4, 2, time));
+    for (time, wanted) in [(0xFFFF_FE00, 0), (1, 30), (256, 30), (511, 30), (512, 0), (513, 30), (0xFFFF_FFFF, 30)] {
+        cases.add(format!("time {time}"), wanted, move |made| made.set_time(4, time));
     }
-    cases.whole_cell("entry packet", ENTRIES, 4, 3);
+    for time in [1 << 32, (1 << 32) + 512, 1 << 33, 1 << 63, u64::MAX - 511, u64::MAX] {
+        cases.add(format!("time {time}"), 30, move |made| made.set_time(4, time));
+    }
+    cases.whole_cell("entry packet", ENTRIES, 4, PACKET);
 }
 
 /// 22: more rows stated than lent, of each table. The counts add up to the rows stated.

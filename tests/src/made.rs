@@ -5,7 +5,7 @@ use crate::compare::{Difference, must};
 use crate::guarded::Guarded;
 use crate::make::Maker;
 use crate::ours::{Reader, Reading};
-use crate::record::{ATCS, CELLS, ENTRIES, MAPS, PROGRAMS, Record, STCS, STREAMS, Scalars};
+use crate::record::{ATCS, CELLS, ENTRIES, MAPS, PROGRAMS, Record, STCS, STREAMS, Scalars, TIME, TIME_HIGH, entry_cells};
 use crate::rust_answers;
 use crate::writer::{Info, TABLES};
 use oracle::bdmv::clpi::ClipInformation;
@@ -46,8 +46,9 @@ pub fn small() -> Made {
     let audio = [[0x1100, 0x81, 0x61, 0, language(b"eng")], [0x1101, 0x83, 0x31, 0, 0]];
     made.cells[STREAMS] = [video[0], audio[0], [0x1200, 0x90, 0, 0, language(b"deu")], audio[1], video[1]].concat();
     made.cells[MAPS] = [[0x1011, 1, 3], [0x1012, 6, 0], [0x1013, 8, 2]].concat();
-    let three_runs = [[0, 1, 512, 7, 1], [1, 2, 524_288, 7, 1], [0, 3, 524_800, 131_079, 1]];
-    made.cells[ENTRIES] = [three_runs.concat(), [[1, 4, 1024, 0, 8], [0, 5, 2048, 99, 8]].concat()].concat();
+    let three_runs = [(0, 1, 512, 7, 1), (1, 2, 524_288, 7, 1), (0, 3, 524_800, 131_079, 1)];
+    let entries = three_runs.into_iter().chain([(1, 4, 1024, 0, 8), (0, 5, 2048, 99, 8)]);
+    made.cells[ENTRIES] = entries.flat_map(|(a, i, time, packet, kind)| entry_cells(a, i, time, packet, kind)).collect();
     made
 }
 
@@ -60,6 +61,12 @@ impl Made {
     /// Sets a cell.
     pub fn set(&mut self, table: usize, row: usize, column: usize, cell: u32) {
         self.cells[table][row * CELLS[table] + column] = cell;
+    }
+
+    /// Sets an entry's time.
+    pub fn set_time(&mut self, row: usize, time: u64) {
+        self.set(ENTRIES, row, TIME, time as u32);
+        self.set(ENTRIES, row, TIME_HIGH, (time >> 32) as u32);
     }
 
     /// Gives a table of counts so many rows: the first has every row that is counted, the others none.
@@ -85,7 +92,7 @@ impl Made {
         self.cells[ENTRIES].clear();
         for (map, entries) in of_maps.iter().enumerate() {
             self.cells[MAPS].extend([0x1011 + map as u32, 1, entries.len() as u32]);
-            entries.iter().for_each(|(time, packet)| self.cells[ENTRIES].extend([0, 1, *time, *packet, 1]));
+            entries.iter().for_each(|(time, packet)| self.cells[ENTRIES].extend(entry_cells(0, 1, (*time).into(), *packet, 1)));
         }
     }
 }

@@ -12,7 +12,18 @@ pub const LIST_PROGRAMS: usize = 7;
 pub const LIST_STREAMS: usize = 8;
 
 /// The cells of a row, table by table.
-pub const CELLS: [usize; 9] = [3, 4, 3, 5, 3, 5, 4, 3, 5];
+pub const CELLS: [usize; 9] = [3, 4, 3, 5, 3, 6, 4, 3, 5];
+
+/// The columns of an entry behind its angle and I-end: its time has two cells, the low 32 bits in the first.
+pub const TIME: usize = 2;
+pub const TIME_HIGH: usize = 3;
+pub const PACKET: usize = 4;
+pub const KIND: usize = 5;
+
+/// The cells of an entry.
+pub fn entry_cells(angle: u32, i_end: u32, time: u64, packet: u32, kind: u32) -> [u32; 6] {
+    [angle, i_end, time as u32, (time >> 32) as u32, packet, kind]
+}
 
 /// The longest file that is read.
 pub const MOST_BYTES: usize = 536_870_912;

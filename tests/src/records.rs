@@ -6,7 +6,7 @@ use crate::made::{Buffers, Made};
 use crate::ours::Reader;
 use crate::plain_writer::refusals;
 use crate::random::Random;
-use crate::record::{ATCS, CELLS, ENTRIES, MAPS, PROGRAMS, STCS, STREAMS, row_bytes};
+use crate::record::{ATCS, CELLS, ENTRIES, MAPS, PROGRAMS, STCS, STREAMS, entry_cells, row_bytes};
 use crate::writer::{Info, TABLES, Writer};
 use crate::writing::{Counts, Writings};
 use crate::wrong_writes::WrongWrite::Right;
@@ -123,7 +123,7 @@ fn stream(random: &mut Random) -> [u32; 5] {
 }
 
 /// An entry whose time and packet are near those given, so that some are in one run, or any.
-fn entry(near: [u32; 2], kind: u32, random: &mut Random) -> [u32; 5] {
+fn entry(near: [u32; 2], kind: u32, random: &mut Random) -> [u32; 6] {
     let [time, packet] = match random.below(4) {
         0 => [random.next() as u32, random.next() as u32],
         1 => [near[0], near[1].wrapping_add(0x2_0000)],
@@ -132,7 +132,7 @@ fn entry(near: [u32; 2], kind: u32, random: &mut Random) -> [u32; 5] {
             [near[0].wrapping_add(random.below(0x10_0000) as u32), near[1].wrapping_add(random.below(0x4_0000) as u32)]
         }
     };
-    [random.below(2) as u32, random.below(8) as u32, time & !511, packet, kind]
+    entry_cells(random.below(2) as u32, random.below(8) as u32, u64::from(time & !511), packet, kind)
 }
 
 /// One change that may be wrong: a cell, a number beside the tables, the rows stated, or the bytes lent.

@@ -1,7 +1,7 @@
 //! The Rust's answers, for the questions that it has and where the scope document compares it.
 
 use crate::answers::{Answer, Counted, Input, OF_ATCS, OF_MAPS, OF_PROGRAMS, Question, Question::*};
-use crate::record::{ATCS, ENTRIES, EXTENSIONS, MAPS, PROGRAMS, STCS, STREAMS};
+use crate::record::{ATCS, ENTRIES, EXTENSIONS, KIND, MAPS, PACKET, PROGRAMS, STCS, STREAMS, TIME};
 use oracle::bdmv::clpi::{AtcSequence, ClipExtension, ClipInfo, ClipInformation, Cpi, EpEntry, EpMap, EpStreamType};
 use oracle::bdmv::clpi::{ProgramEntry, ProgramInfo, SequenceInfo, StcSequence, StreamCodingInfo};
 use oracle::bdmv::extension::ExtensionDataEntry;
@@ -219,7 +219,7 @@ fn stream(input: &Input, row: usize) -> StreamCodingInfo {
 
 /// An entry of the Rust.
 fn entry(input: &Input, row: usize) -> EpEntry {
-    let [angle, i_end, time, packet, kind] = [0, 1, 2, 3, 4].map(|column| input.cell(ENTRIES, row, column));
+    let [angle, i_end, time, packet, kind] = [0, 1, TIME, PACKET, KIND].map(|column| input.cell(ENTRIES, row, column));
     EpEntry {
         is_angle_change_point: angle % 2 == 1,
         i_end_position_offset: i_end as u8,

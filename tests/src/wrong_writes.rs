@@ -223,7 +223,7 @@ pub fn by_hand() -> Vec<(WrongWrite, String)> {
 }
 
 /// The cells that have fewer than 32 bits in the file, by table and column; an entry's type is its map's.
-const NARROW: [(usize, usize); 15] = [
+const NARROW: [(usize, usize); 16] = [
     (ATCS, 1),
     (ATCS, 2),
     (STCS, 0),
@@ -239,4 +239,5 @@ const NARROW: [(usize, usize); 15] = [
     (MAPS, 2),
     (ENTRIES, 0),
     (ENTRIES, 1),
+    (ENTRIES, 3),
 ];

@@ -12,7 +12,7 @@ use Rattle.format.specs.ClipRecord.{extensionsStart, marksStart, marksFrom}
 use Rattle.format.specs.Extensions.{extensionRows}
 use Rattle.format.specs.Reading.{clipOf, recordOf}
 use Rattle.format.specs.Refusals.{refused, accepted, refusalOf, tablesOf, statedOf, tablesAnswer, readAnswer}
-use Rattle.format.specs.Tables.{Nine, rowRoom, extensionCells}
+use Rattle.format.specs.Tables.{Nine, rowRoom, extensionCells, entrySize}
 use Rattle.format.proofs.Tests.{ap-pick}
 use Rattle.extension.specs.declared.ListData.{ListData}
 use Rattle.clip_sections.specs.Infos.{clipInfoOf}
@@ -45,7 +45,7 @@ pub record Room-in-each (rows bytes : Rows) : Type 0 where
   pub programs-room : rows .programs ≤ bytes .programs / 12
   pub streams-room : rows .streams ≤ bytes .streams / 20
   pub maps-room : rows .maps ≤ bytes .maps / 12
-  pub entries-room : rows .entries ≤ bytes .entries / 20
+  pub entries-room : rows .entries ≤ bytes .entries / entrySize
   pub extensions-room : rows .extensions ≤ bytes .extensions / 16
   pub list-programs-room : rows .«list_programs» ≤ bytes .«list_programs» / 12
   pub list-streams-room : rows .«list_streams» ≤ bytes .«list_streams» / 20
@@ -64,7 +64,7 @@ room-in-each rows bytes h =
     let p3 = passed (leb (rows .programs) (bytes .programs / 12)) 3 (rows .programs) (p2 .1) in
     let p4 = passed (leb (rows .streams) (bytes .streams / 20)) 4 (rows .streams) (p3 .1) in
     let p5 = passed (leb (rows .maps) (bytes .maps / 12)) 5 (rows .maps) (p4 .1) in
-    let p6 = passed (leb (rows .entries) (bytes .entries / 20)) 6 (rows .entries) (p5 .1) in
+    let p6 = passed (leb (rows .entries) (bytes .entries / entrySize)) 6 (rows .entries) (p5 .1) in
     let p7 = passed (leb (rows .extensions) (bytes .extensions / 16)) 7 (rows .extensions) (p6 .1) in
     let p8 = passed (leb (rows .«list_programs») (bytes .«list_programs» / 12)) 8 (rows .«list_programs») (p7 .1) in
     let p9 = passed (leb (rows .«list_streams») (bytes .«list_streams» / 20)) 9 (rows .«list_streams») (p8 .1) in

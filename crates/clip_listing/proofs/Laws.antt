@@ -1,22 +1,29 @@
 -- What reading answered, told as text, is the listing.
-use Prim.Native.Nat.{ℕ, _≤_}
-use mathlib.Core.Path.{_≡_, sym, ap, _∙_}
+use Prim.Native.Nat.{ℕ, _+_, _*_, _^_, _<_, _≤_}
+use mathlib.Core.Path.{_≡_, sym, ap, subst, _∙_}
 use mathlib.Core.List.{List, [], _∷_}
 use mathlib.Core.Bool.{Bool}
 use native.Mathlib.Omega.{arith}
-use lib.ListN.{length}
+use lib.ListN.{length, getD}
 use lib.Dec.{lit≤}
 use borrow.Author.Tests.{le-leb, lt-leb}
 use Rattle.format.specs.Bytes.{IsBytes}
+use Rattle.format.specs.ClipRecord.{Row, time}
 use Rattle.format.specs.Reading.{clipOf, recordOf}
-use Rattle.format.specs.Refusals.{tablesOf, statedOf, readAnswer, tableBy}
+use Rattle.format.specs.Refusals.{tablesOf, statedOf, readAnswer, tableBy, entryBits}
+use Rattle.format.specs.Tables.{tableBytes, tableRows, cellsAt, overwritten, entryCells, entrySize}
 use Rattle.format.specs.Listing.{line, refusedWord, linesBy, listing, listingTables}
+use Rattle.format.proofs.Cell.{item-at}
+use Rattle.format.proofs.Fields.{Fit, one}
+use Rattle.format.proofs.Good.{Maps}
+use Rattle.format.proofs.Lists.{All, none, all-map, all-append, all-at}
+use Rattle.format.proofs.Read.{good-clip}
 use Rattle.format.proofs.Listing.{accepted-is, maps-back, entries-back, entries-add, maps-room, entries-room, few}
 use Rattle.clip_information.specs.Read.{answerOf}
 use Rattle.clip_sections.specs.declared.info.ClipInfo.{ClipInfo}
 use Rattle.nine_tables.specs.declared.Rows.{Rows}
 use Rattle.clip_information.specs.declared.read.Answer.{Answer}
-use Rattle.listing.specs.Text.{numbers, numbersOf}
+use Rattle.listing.specs.Text.{TimesFit, numbers, numbersOf}
 use Rattle.listing.proofs.Laws.{record-text, room-4096}
 use Rattle.clip_listing.specs.Told.{answerText, listingRoom, numbersBy, Shown, Tellable}
 
@@ -48,6 +55,29 @@ shown f info marks rows has h =
       entries = omega (arith, ap (λ s. s .rows .entries) e, r .entries);
     }
 
+-- an entry that fits has a time of 32 bits
+time-fits : (e : Row) → Fit entryBits e → time e < 2 ^ 32
+time-fits e (one a (one i (one t (one u f)))) = omega arith
+
+-- so have the entries of good maps
+times-few : {most : ℕ} {ms es : List Row} → Maps most ms es → All (λ e. time e < 2 ^ 32) es
+times-few Maps.none = none
+times-few (Maps.more g size good few later) = all-append (all-map (λ e h. time-fits e (h .cells)) good) (times-few later)
+
+-- so have those that stand in a table that was filled
+times-back : (f : List ℕ) → IsBytes f → (t : List ℕ) → TimesFit (overwritten (tableBytes (clipOf f .entries)) t) 0 (length (clipOf f .entries))
+unfolding tableRows
+times-back f bytes t = record { narrow = narrow }
+  where
+    es : List Row
+    es = clipOf f .entries
+
+    narrow : (k : ℕ) → k < length es → time (cellsAt (overwritten (tableBytes es) t) entryCells (0 + entrySize * k)) < 2 ^ 32
+    narrow k h =
+        let row = item-at (cellsAt (overwritten (tableBytes es) t) entryCells) [] entrySize 0 (length es) k h in
+        let same = ap (λ (rows : List Row). getD rows k []) (entries-back f bytes t) in
+        subst (λ (e : Row). time e < 2 ^ 32) (sym same ∙ row) (all-at [] (times-few (good-clip f bytes .maps-good)) k h)
+
 module _ (f : List ℕ) (bytes : IsBytes f) (maps entries : List ℕ) where
   -- the maps and the entries after reading
   abbrev mapsBy : Answer → List ℕ
@@ -72,6 +102,7 @@ module _ (f : List ℕ) (bytes : IsBytes f) (maps entries : List ℕ) where
             mapRows = rw (e .1) (maps-room f bytes maps);
             entryRows = rw (e .2) (entries-room f bytes entries);
             counts = rw (e .1, e .2, maps-back f bytes maps) (omega (arith, entries-add f bytes));
+            timesFit = rw (e .2) (times-back f bytes entries);
             room = omega (arith, room-4096 (rows .maps) (rows .entries) (s .maps) (s .entries));
           },
         );

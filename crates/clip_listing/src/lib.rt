@@ -6,6 +6,7 @@ ghost use Rattle.listing.specs.Text.{Shows};
 ghost use Rattle.clip_listing.specs.Told.{Tellable, answerText, listingRoom};
 use clip_information::read::Answer;
 use clip_information::read::read;
+use entry_rows::SIZE;
 use listing::put_record;
 use listing::put_refusal;
 use listing::put_too_short;
@@ -55,7 +56,7 @@ pub fn list(input: &[u8], out: &mut [u8]) -> usize
     let mut programs = [0; 49152];
     let mut streams = [0; 81920];
     let mut maps = [0; 49152];
-    let mut entries = [0; 81920];
+    let mut entries = [0; 4096 * SIZE];
     let mut extensions = [0; 65536];
     let mut programs2 = [0; 49152];
     let mut streams2 = [0; 81920];

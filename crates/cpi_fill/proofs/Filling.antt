@@ -8,7 +8,7 @@ use lib.Seq.{sets}
 use Rattle.format.specs.Bytes.{beAt, rowsAt, gather}
 use Rattle.format.specs.ClipRecord.{Row}
 use Rattle.format.specs.EntryPoints.{coarseAt, fineAt, nextCoarse, nextFine, mapTypeAt, coarseCountAt, fineCountAt, mapAt, nextMap, bodyAt, fineStart, entriesFor, entriesOf, mapCount, mapsFrom, entriesFrom}
-use Rattle.format.specs.Tables.{rowBytes, tableBytes, overwritten}
+use Rattle.format.specs.Tables.{rowBytes, tableBytes, overwritten, entryCells, entrySize}
 use Rattle.format.proofs.Lists.{none, more}
 use Rattle.format.proofs.Rows.{rows-all, gather-all}
 use Rattle.format.proofs.Read.{own-length}
@@ -19,19 +19,19 @@ use Rattle.cpi_fill.specs.Fill.{Fill}
 
 -- ---- how many bytes rows take
 
--- entries have five cells
-entries-cells : (type : ℕ) (cs : List Row) (k : ℕ) (xs : List Row) → HaveCells 5 (entriesFor type cs k xs)
+-- entries have as many cells as the rows of their table
+entries-cells : (type : ℕ) (cs : List Row) (k : ℕ) (xs : List Row) → HaveCells entryCells (entriesFor type cs k xs)
 entries-cells type cs k [] = none
 entries-cells type cs k (x ∷ xs) = more refl (entries-cells type cs (suc k) xs)
 
 -- so do a map's own
-own-cells : (f : List ℕ) (c p : ℕ) → HaveCells 5 (entriesOf f c p)
+own-cells : (f : List ℕ) (c p : ℕ) → HaveCells entryCells (entriesOf f c p)
 own-cells f c p =
     entries-cells (mapTypeAt f p) (rowsAt (coarseAt f) nextCoarse (bodyAt f c p + 4) (coarseCountAt f p)) 0 (rowsAt (fineAt f) nextFine (fineStart f c p) (fineCountAt f p))
 
 -- the bytes of a map's entries
-pub own-bytes : (f : List ℕ) (c p : ℕ) → length (tableBytes (entriesOf f c p)) ≡ 20 * fineCountAt f p
-own-bytes f c p = table-bytes 5 (own-cells f c p) ∙ ap (λ (n : ℕ). 20 * n) (own-length f c p)
+pub own-bytes : (f : List ℕ) (c p : ℕ) → length (tableBytes (entriesOf f c p)) ≡ entrySize * fineCountAt f p
+own-bytes f c p = table-bytes entryCells (own-cells f c p) ∙ ap (λ (n : ℕ). entrySize * n) (own-length f c p)
 
 -- ---- one map's row
 
@@ -60,7 +60,7 @@ filling-first f c count maps₀ entries₀ fill =
     record {
       left = left-first f c count (fill .section);
       maps-left = rw p (filling-front 3 (rowsAt (mapAt f) nextMap) maps₀ have (fill .maps-room) (ap (rowsAt (mapAt f) nextMap (c + 8)) counted));
-      entries-left = rw p (filling-front 5 (gather (entriesOf f c) nextMap) entries₀ own (fill .entries-room) (ap (gather (entriesOf f c) nextMap (c + 8)) counted));
+      entries-left = rw p (filling-front entryCells (gather (entriesOf f c) nextMap) entries₀ own (fill .entries-room) (ap (gather (entriesOf f c) nextMap (c + 8)) counted));
     }
 
 module _ {f : List ℕ} {c count : ℕ} {maps₀ entries₀ maps entries : List ℕ} {at k : ℕ} (i : Filling f c count maps₀ entries₀ maps entries at k) where
@@ -78,16 +78,16 @@ module _ {f : List ℕ} {c count : ℕ} {maps₀ entries₀ maps entries : List 
     map-room = row-room (mapAt f) nextMap (i .maps-left) h
 
     -- and for its entries
-    pub entries-room : at + 20 * fineCountAt f q ≤ length entries
+    pub entries-room : at + entrySize * fineCountAt f q ≤ length entries
     entries-room = group-room (entriesOf f c) nextMap (i .entries-left) h (own-bytes f c q)
 
     -- a turn
     pub filling-next : (n : ℕ) {maps′ entries′ : List ℕ} → n ≡ fineCountAt f q
         → maps′ ≡ sets maps (12 * k) (rowBytes (mapAt f q)) → entries′ ≡ sets entries at (tableBytes (entriesOf f c q))
-        → Filling f c count maps₀ entries₀ maps′ entries′ (at + 20 * n) (k + 1)
+        → Filling f c count maps₀ entries₀ maps′ entries′ (at + entrySize * n) (k + 1)
     filling-next n e em ee =
         let a : 12 * (k + 1) ≡ 12 * k + 12 = omega arith in
-        let w : length (tableBytes (entriesOf f c q)) ≡ 20 * n = own-bytes f c q ∙ ap (λ (x : ℕ). 20 * x) (sym e) in
+        let w : length (tableBytes (entriesOf f c q)) ≡ entrySize * n = own-bytes f c q ∙ ap (λ (x : ℕ). entrySize * x) (sym e) in
         record {
           left = left-next f c count k h (i .left);
           maps-left = rw a (row-put (mapAt f) nextMap (i .maps-left) h em (omega arith));

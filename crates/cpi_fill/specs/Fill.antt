@@ -3,13 +3,13 @@ use Prim.Native.Nat.{ℕ, _+_, _*_, _≤_}
 use mathlib.Core.List.{List}
 use lib.ListN.{length}
 use Rattle.format.specs.EntryPoints.{fineCountAt, mapsFrom, entriesFrom}
-use Rattle.format.specs.Tables.{rowRoom, mapCells, entryCells}
+use Rattle.format.specs.Tables.{rowRoom, mapCells, entryCells, entrySize}
 use Rattle.ep_entries.specs.Body.{CpiSection, MapAt}
 
 -- a map's header and body are in the file, and the table has room for its entries
 pub record OneMap (f : List ℕ) (c p room at : ℕ) : Type 0 where
   pub map-in : MapAt f c p
-  pub fits : at + 20 * fineCountAt f p ≤ room
+  pub fits : at + entrySize * fineCountAt f p ≤ room
 
 -- the section is in the file, and both tables have room
 pub record Fill (f : List ℕ) (c count : ℕ) (maps entries : List ℕ) : Type 0 where

@@ -7,6 +7,7 @@ ghost use Rattle.format.specs.EntryPoints.{mapAt, entriesOf, fineCountAt, mapsF
 ghost use Rattle.format.specs.Tables.{rowBytes, tableBytes, overwritten};
 ghost use Rattle.cpi_fill.specs.Fill.{OneMap, Fill};
 use cells::put_row3;
+use entry_rows::SIZE;
 use ep_entries::body::map_body;
 use ep_entries::entries::put_entries;
 use ep_rows::map_header;
@@ -46,7 +47,7 @@ pub fn fill(file: &[u8], start: usize, count: usize, maps: &mut [u8], entries: &
         let q = start + 8 + 12 * k;
         put_map(file, q, maps, 12 * k);
         let n = put_map_entries(file, start, q, entries, at);
-        at += 20 * n;
+        at += SIZE * n;
         k += 1;
     }
 }

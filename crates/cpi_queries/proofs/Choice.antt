@@ -94,7 +94,7 @@ module _ (t : List ℕ) (n : ℕ) where
       let is : x ≡ mapPid (cellsAt t mapCells (4 * mapCells * k)) = row-cell t mapCells (4 * mapCells * k) 0 (lit< tt) (omega arith) (c .same) in
       record {
         so-far = better less k x (i .so-far);
-        says = least-chosen k x (c .below) (i .says) chose;
+        says = least-chosen k x (omega (arith, c .below)) (i .says) chose;
         rest = rw add-one (rw (left-turn mapCells t n k h, ← is, add-one) at (i .rest));
       }
 

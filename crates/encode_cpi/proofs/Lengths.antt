@@ -11,7 +11,7 @@ use Rattle.format.specs.Bytes.{both, every, fieldBytes}
 use Rattle.format.specs.ClipRecord.{Row, mapType}
 use Rattle.format.specs.Refusals.{entryFits, everyMap}
 use Rattle.format.specs.Rewriting.{bodyBytes, bodies, headers, cpiBytesBy}
-use Rattle.format.specs.Tables.{tableRows, mapCells, entryCells}
+use Rattle.format.specs.Tables.{tableRows, mapCells, entryCells, entrySize}
 use Rattle.format.proofs.Cpi.{headers-length}
 use Rattle.format.proofs.Numbers.{bytes-length}
 use Rattle.format.proofs.Tests.{both-assoc, picked, not-picked}
@@ -80,10 +80,10 @@ module _ (maps : List ℕ) (n : ℕ) (entries : List ℕ) (m : ℕ) where
   }
 
   module _ (len : ℕ) (few : Bool) (j k : ℕ) (i : Measured len few j k) (h : k < n) {type c : ℕ} (kind : CellIs maps (12 * k + 4) type) (cell : CellIs maps (12 * k + 8) c)
-      {told : RunCount} (is : told ≡ runsFit type (entriesAt entries (20 * j) c)) where
+      {told : RunCount} (is : told ≡ runsFit type (entriesAt entries (entrySize * j) c)) where
     -- the map's own entries
     abbrev own : List Row
-    own = entriesAt entries (20 * j) c
+    own = entriesAt entries (entrySize * j) c
 
     -- its type
     type-is : type ≡ mapType (mapRow maps n entries m k)
@@ -104,7 +104,7 @@ module _ (maps : List ℕ) (n : ℕ) (entries : List ℕ) (m : ℕ) where
     module _ {r : ℕ} (counted : told ≡ RunCount.Runs r) where
       -- there are not more runs than entries
       pub runs-within-count : r ≤ c
-      runs-within-count = omega (arith, runs-told type own is counted .1, runs-within entries (20 * j) c)
+      runs-within-count = omega (arith, runs-told type own is counted .1, runs-within entries (entrySize * j) c)
 
       -- they fit
       pub measured-turn : {few′ : Bool} → few′ ≡ both few (leb r 65535) → Measured (len + (4 + 8 * r + 4 * c)) few′ (j + c) (k + 1)
@@ -112,7 +112,7 @@ module _ (maps : List ℕ) (n : ℕ) (entries : List ℕ) (m : ℕ) where
           let all = runs-told type own is counted in
           let later = bodies (mapsLeft maps n entries m (k + 1)) (entriesLeft maps n entries m (j + c)) in
           let behind = everyMap fewRuns (mapsLeft maps n entries m (k + 1)) (entriesLeft maps n entries m (j + c)) in
-          let size = body-size entries (20 * j) c in
+          let size = body-size entries (entrySize * j) c in
           let rest = rw (bodies-turn maps n entries m j k (i .walk) h cell, length-append (bodyBytes own) later, size, ← all .1) at (i .rest) in
           record {
             walk = walk-turn maps n entries m j k (i .walk) h cell;

@@ -10,7 +10,7 @@ use Rattle.format.specs.Bytes.{both, every, total}
 use Rattle.format.specs.ClipRecord.{Row, mapType, entryCount}
 use Rattle.format.specs.Refusals.{mapFits, everyMap}
 use Rattle.format.specs.Rewriting.{runs, bodyBytes, bodies, headerBytes, headers}
-use Rattle.format.specs.Tables.{cellsAt, tableRows, mapCells, entryCells}
+use Rattle.format.specs.Tables.{cellsAt, tableRows, mapCells, entryCells, entrySize}
 use Rattle.format.proofs.Cpi.{body-length}
 use Rattle.format.proofs.Fields.{Fit, one, fits-fit}
 use Rattle.format.proofs.Lists.{All, more, every-all, all-map}
@@ -93,7 +93,7 @@ module _ (maps : List ℕ) (n : ℕ) (entries : List ℕ) (m : ℕ) where
   map-room l k h = omega (arith, rows-room mapCells maps (l .maps-there))
 
   -- and so do all entries
-  pub entries-room : BothThere maps n entries m → 20 * m ≤ length entries
+  pub entries-room : BothThere maps n entries m → entrySize * m ≤ length entries
   entries-room l = omega (arith, rows-room entryCells entries (l .entries-there))
 
   -- after k maps and j entries the counts that are left add up to the entries that are left, and each map fits
@@ -137,16 +137,16 @@ module _ (maps : List ℕ) (n : ℕ) (entries : List ℕ) (m : ℕ) where
       own-within = omega (arith, counts, w .within)
 
       -- its entries
-      pub own-rows : take (entryCount (mapRow k)) (entriesLeft j) ≡ entriesAt entries (20 * j) c
+      pub own-rows : take (entryCount (mapRow k)) (entriesLeft j) ≡ entriesAt entries (entrySize * j) c
       own-rows =
-          rw (← count-is) (take-rows (cellsAt entries entryCells) (λ p. p + 4 * entryCells) (20 * j) (m - j) c (omega (arith, own-within)))
+          rw (← count-is) (take-rows (cellsAt entries entryCells) (λ p. p + 4 * entryCells) (entrySize * j) (m - j) c (omega (arith, own-within)))
 
       -- those behind them
       pub later-rows : drop (entryCount (mapRow k)) (entriesLeft j) ≡ entriesLeft (j + c)
       later-rows =
-          let e : 20 * j + c * 20 ≡ 20 * (j + c) = omega arith in
+          let e : entrySize * j + c * entrySize ≡ entrySize * (j + c) = omega arith in
           let f : m - j - c ≡ m - (j + c) = omega arith in
-          rw (← count-is, ← e, ← f) (drop-rows (cellsAt entries entryCells) 20 (20 * j) (m - j) c (omega (arith, own-within)))
+          rw (← count-is, ← e, ← f) (drop-rows (cellsAt entries entryCells) entrySize (entrySize * j) (m - j) c (omega (arith, own-within)))
 
       -- the walk goes on behind the map
       pub walk-turn : Walk (j + c) (k + 1)
@@ -159,15 +159,15 @@ module _ (maps : List ℕ) (n : ℕ) (entries : List ℕ) (m : ℕ) where
 
       -- a test of each map: of this one with its own entries, and of those behind it
       pub every-turn : (test : Row → List Row → Bool)
-          → everyMap test (mapsLeft k) (entriesLeft j) ≡ both (test (mapRow k) (entriesAt entries (20 * j) c)) (everyMap test (mapsLeft (k + 1)) (entriesLeft (j + c)))
+          → everyMap test (mapsLeft k) (entriesLeft j) ≡ both (test (mapRow k) (entriesAt entries (entrySize * j) c)) (everyMap test (mapsLeft (k + 1)) (entriesLeft (j + c)))
       every-turn test = rw (left-turn mapCells maps n k h, own-rows, later-rows)
 
       -- its body, and those behind it
-      pub bodies-turn : bodies (mapsLeft k) (entriesLeft j) ≡ bodyBytes (entriesAt entries (20 * j) c) ++ bodies (mapsLeft (k + 1)) (entriesLeft (j + c))
+      pub bodies-turn : bodies (mapsLeft k) (entriesLeft j) ≡ bodyBytes (entriesAt entries (entrySize * j) c) ++ bodies (mapsLeft (k + 1)) (entriesLeft (j + c))
       bodies-turn = rw (left-turn mapCells maps n k h, own-rows, later-rows)
 
       -- its header, and those behind it, whose addresses are behind its body
       pub headers-turn : (address : ℕ) → headers (mapsLeft k) (entriesLeft j) address
-          ≡ headerBytes (mapRow k) (entriesAt entries (20 * j) c) address
-          ++ headers (mapsLeft (k + 1)) (entriesLeft (j + c)) (address + length (bodyBytes (entriesAt entries (20 * j) c)))
+          ≡ headerBytes (mapRow k) (entriesAt entries (entrySize * j) c) address
+          ++ headers (mapsLeft (k + 1)) (entriesLeft (j + c)) (address + length (bodyBytes (entriesAt entries (entrySize * j) c)))
       headers-turn address = rw (left-turn mapCells maps n k h, own-rows, later-rows)

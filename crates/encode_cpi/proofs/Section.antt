@@ -12,7 +12,7 @@ use Rattle.format.specs.Bytes.{bytesOf, fieldBytes, total}
 use Rattle.format.specs.ClipRecord.{Row, mapType, entryCount}
 use Rattle.format.specs.Refusals.{everyMap}
 use Rattle.format.specs.Rewriting.{runs, bodyBytes, bodies, headerBytes, headers, cpiBytesBy}
-use Rattle.format.specs.Tables.{cellAt, tableRows, mapCells, entryCells}
+use Rattle.format.specs.Tables.{cellAt, tableRows, mapCells, entryCells, entrySize}
 use Rattle.format.proofs.Cell.{row-cell}
 use Rattle.format.proofs.Cpi.{header-length, headers-length}
 use Rattle.format.proofs.Numbers.{bytes-length}
@@ -72,13 +72,13 @@ module _ (maps : List ℕ) (n : ℕ) (entries : List ℕ) (m : ℕ) where
   module _ (j k : ℕ) (i : Reached j k) (h : k < n) {c : ℕ} (cell : CellIs maps (12 * k + 8) c) where
     -- what a test of each map says of this one
     pub here : (test : Row → List Row → Bool) → everyMap test (mapsLeft maps n entries m k) (entriesLeft maps n entries m j) ≡ true
-        → (test (mapRow maps n entries m k) (entriesAt entries (20 * j) c) ≡ true) × (everyMap test (mapsLeft maps n entries m (k + 1)) (entriesLeft maps n entries m (j + c)) ≡ true)
+        → (test (mapRow maps n entries m k) (entriesAt entries (entrySize * j) c) ≡ true) × (everyMap test (mapsLeft maps n entries m (k + 1)) (entriesLeft maps n entries m (j + c)) ≡ true)
     here test t = both-true (rw (every-turn maps n entries m j k (i .walk) h cell test) at t)
 
     -- the body and those behind it
     pub sizes : length (bodies (mapsLeft maps n entries m k) (entriesLeft maps n entries m j))
-        ≡ length (bodyBytes (entriesAt entries (20 * j) c)) + length (bodies (mapsLeft maps n entries m (k + 1)) (entriesLeft maps n entries m (j + c)))
-    sizes = ap length (bodies-turn maps n entries m j k (i .walk) h cell) ∙ length-append (bodyBytes (entriesAt entries (20 * j) c)) (bodies (mapsLeft maps n entries m (k + 1)) (entriesLeft maps n entries m (j + c)))
+        ≡ length (bodyBytes (entriesAt entries (entrySize * j) c)) + length (bodies (mapsLeft maps n entries m (k + 1)) (entriesLeft maps n entries m (j + c)))
+    sizes = ap length (bodies-turn maps n entries m j k (i .walk) h cell) ∙ length-append (bodyBytes (entriesAt entries (entrySize * j) c)) (bodies (mapsLeft maps n entries m (k + 1)) (entriesLeft maps n entries m (j + c)))
 
     -- behind this map
     reached-turn : Reached (j + c) (k + 1)
@@ -166,7 +166,7 @@ module _ (maps : List ℕ) (n : ℕ) (entries : List ℕ) (m : ℕ) (o₀ : List
     row-within = back .0
 
     -- they lie inside their table
-    pub own-there : 20 * (j - c) + 20 * c ≤ length entries
+    pub own-there : entrySize * (j - c) + entrySize * c ≤ length entries
     own-there = omega (arith, entries-room maps n entries m (room .rows-there), i .reached .walk .within, row-within)
 
     -- behind them are those that were there before
@@ -175,15 +175,15 @@ module _ (maps : List ℕ) (n : ℕ) (entries : List ℕ) (m : ℕ) (o₀ : List
 
     -- the bodies from this map on
     parts : length (bodies (mapsLeft maps n entries m k) (entriesLeft maps n entries m (j - c)))
-        ≡ length (bodyBytes (entriesAt entries (20 * (j - c)) c)) + length (bodies (mapsLeft maps n entries m (k + 1)) (entriesLeft maps n entries m j))
+        ≡ length (bodyBytes (entriesAt entries (entrySize * (j - c)) c)) + length (bodies (mapsLeft maps n entries m (k + 1)) (entriesLeft maps n entries m j))
     parts = sizes maps n entries m (j - c) k (back .1) h cell ∙ rw again
 
     -- the map can be stored
-    pub putting-room : MapRoom maps k entries (20 * (j - c)) c (length o) at body
+    pub putting-room : MapRoom maps k entries (entrySize * (j - c)) c (length o) at body
     putting-room = record {
       row-there = map-room maps n entries m (room .rows-there) k h;
       kind-fits = row-fits maps n entries m (j - c) k (back .1 .walk) h .kind-fits;
-      runs-fit = omega (arith, leb-true (runs (entriesAt entries (20 * (j - c)) c)) 65535 (here maps n entries m (j - c) k (back .1) h cell fewRuns (back .1 .runs-few) .0));
+      runs-fit = omega (arith, leb-true (runs (entriesAt entries (entrySize * (j - c)) c)) 65535 (here maps n entries m (j - c) k (back .1) h cell fewRuns (back .1 .runs-few) .0));
       body-room = record {
         there = own-there;
         few = count-few maps n entries m (j - c) k (back .1 .walk) h cell;
@@ -196,11 +196,11 @@ module _ (maps : List ℕ) (n : ℕ) (entries : List ℕ) (m : ℕ) (o₀ : List
     }
 
     -- it is stored
-    pub putting-turn : {body′ : ℕ} {o′ : List ℕ} → body′ + length (bodyBytes (entriesAt entries (20 * (j - c)) c)) ≡ body
-        → o′ ≡ sets (sets o body′ (bodyBytes (entriesAt entries (20 * (j - c)) c))) (at + 8 + 12 * k) (headerBytes (mapRow maps n entries m k) (entriesAt entries (20 * (j - c)) c) (body′ - (at + 6)))
+    pub putting-turn : {body′ : ℕ} {o′ : List ℕ} → body′ + length (bodyBytes (entriesAt entries (entrySize * (j - c)) c)) ≡ body
+        → o′ ≡ sets (sets o body′ (bodyBytes (entriesAt entries (entrySize * (j - c)) c))) (at + 8 + 12 * k) (headerBytes (mapRow maps n entries m k) (entriesAt entries (entrySize * (j - c)) c) (body′ - (at + 6)))
         → Putting end o′ body′ (j - c) k
     putting-turn {body′} {o′} e put =
-        let own = entriesAt entries (20 * (j - c)) c in
+        let own = entriesAt entries (entrySize * (j - c)) c in
         let ms = mapsLeft maps n entries m (k + 1) in
         let es = entriesLeft maps n entries m j in
         let address = body′ - (at + 6) in

@@ -10,15 +10,14 @@ ghost use Rattle.format.specs.Rewriting.{headers, bodies, cpiBytesBy};
 ghost use Rattle.encode_cpi.specs.Cpi.{BothThere, Counted, mapRows, entryRows, testedOf, MapsRoom, CpiRoom};
 use cells::cell_at;
 use encode_map::put_map;
+use entry_rows::SIZE;
 use entry_runs::RunCount;
 use entry_runs::count_runs;
 use numbers::put_u8;
 use numbers::put_u16;
 use numbers::put_u32;
 
-// The bytes of an entry in its table, and of a map in its table; a map's header has as many in the file.
-const ENTRY: usize = 20;
-
+// The bytes of a map in its table; its header has as many in the file.
 const MAP: usize = 12;
 
 // The most coarse rows that a map can count.
@@ -61,7 +60,7 @@ pub fn cpi_length(maps: &[u8], n: u32, entries: &[u8], m: u32) -> Tested
     while k < (n as usize) {
         let map_type = cell_at(maps, MAP * k + 4);
         let count = cell_at(maps, MAP * k + 8) as usize;
-        let RunCount::Runs(runs) = count_runs(entries, ENTRY * row, count, map_type) else {
+        let RunCount::Runs(runs) = count_runs(entries, SIZE * row, count, map_type) else {
             return Tested::Unfit;
         };
         few = still_few(few, runs);
@@ -87,7 +86,7 @@ fn put_maps(maps: &[u8], n: usize, entries: &[u8], m: u32, out: &mut [u8], at: u
         k -= 1;
         let count = cell_at(maps, MAP * k + 8) as usize;
         row -= count;
-        body = put_map(maps, k, entries, ENTRY * row, count, out, at, body);
+        body = put_map(maps, k, entries, SIZE * row, count, out, at, body);
     }
 }
 

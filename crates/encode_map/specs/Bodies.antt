@@ -8,8 +8,9 @@ use Rattle.format.specs.Bytes.{every}
 use Rattle.format.specs.ClipRecord.{Row, mapType}
 use Rattle.format.specs.Refusals.{entryFits}
 use Rattle.format.specs.Rewriting.{sameRun, unlessSame, coarseRow, runs, bodyBytes}
-use Rattle.format.specs.Tables.{cellsAt, mapCells, entryCells}
-use Rattle.runs.specs.Runs.{entriesAt, pairRow, PairIs}
+use Rattle.format.specs.Tables.{cellsAt, mapCells, entryCells, entrySize}
+use Rattle.runs.specs.Runs.{entriesAt, sameKeys, coarseBy, PairIs}
+use Rattle.runs.specs.declared.Pair.{Pair}
 
 -- entries of one type, each of which fits
 pub record EntriesFit (es : List Row) : Type 0 where
@@ -17,8 +18,8 @@ pub record EntriesFit (es : List Row) : Type 0 where
   pub fit : every (entryFits type) es ≡ true
 
 -- the entry at byte q, with its time and packet as a pair, of which the fine row has room from `at` in so many bytes
-pub record FineRoom (t : List ℕ) (q pair size at : ℕ) : Type 0 where
-  pub there : q + 20 ≤ length t
+pub record FineRoom (t : List ℕ) (q : ℕ) (pair : Pair) (size at : ℕ) : Type 0 where
+  pub there : q + entrySize ≤ length t
   pub is : PairIs t q pair
   pub type : ℕ
   pub fit : entryFits type (cellsAt t entryCells q) ≡ true
@@ -28,15 +29,20 @@ pub record FineRoom (t : List ℕ) (q pair size at : ℕ) : Type 0 where
 abbrev pub ownCoarse : ℕ → Row → Row → List Row
 ownCoarse k before e = unlessSame (sameRun before e) (coarseRow k e) []
 
--- it has room below `to`
-pub record CoarseRoom (k before pair size to : ℕ) : Type 0 where
+-- the same by the times and packets of the two
+abbrev pub ownBy : ℕ → Pair → Pair → List Row
+ownBy k before pair = unlessSame (sameKeys (before .time) (before .packet) (pair .time) (pair .packet)) (coarseBy k (pair .time) (pair .packet)) []
+
+-- it has room below `to`, and the time fits the row
+pub record CoarseRoom (k : ℕ) (before pair : Pair) (size to : ℕ) : Type 0 where
   pub few : k < 2 ^ 18
-  pub below : 8 * length (ownCoarse k (pairRow before) (pairRow pair)) ≤ to
+  pub narrow : pair .time < 2 ^ 33
+  pub below : 8 * length (ownBy k before pair) ≤ to
   pub room : to ≤ size
 
 -- n entries at byte p, of which the fine rows have room from `fine` and the coarse rows below
 pub record RowsRoom (t : List ℕ) (p n size fine : ℕ) : Type 0 where
-  pub there : p + 20 * n ≤ length t
+  pub there : p + entrySize * n ≤ length t
   pub few : n ≤ 262143
   pub fit : EntriesFit (entriesAt t p n)
   pub below : 8 * runs (entriesAt t p n) ≤ fine
@@ -44,7 +50,7 @@ pub record RowsRoom (t : List ℕ) (p n size fine : ℕ) : Type 0 where
 
 -- the same of the body, which ends at `end`
 pub record BodyRoom (t : List ℕ) (p n size end : ℕ) : Type 0 where
-  pub there : p + 20 * n ≤ length t
+  pub there : p + entrySize * n ≤ length t
   pub few : n ≤ 262143
   pub fit : EntriesFit (entriesAt t p n)
   pub below : length (bodyBytes (entriesAt t p n)) ≤ end

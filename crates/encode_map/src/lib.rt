@@ -7,47 +7,43 @@ ghost use lib.Seq.{sets};
 ghost use Rattle.format.specs.Bytes.{flat};
 ghost use Rattle.format.specs.Rewriting.{coarseRows, runs, coarseBytes, fineBytes, bodyBytes, headerBytes};
 ghost use Rattle.format.specs.Tables.{cellsAt, mapCells, entryCells};
-ghost use Rattle.runs.specs.Runs.{entriesAt, pairRow};
-ghost use Rattle.encode_map.specs.Bodies.{ownCoarse, FineRoom, CoarseRoom, RowsRoom, BodyRoom, MapRoom};
+ghost use Rattle.runs.specs.Runs.{entriesAt};
+ghost use Rattle.encode_map.specs.Bodies.{ownBy, FineRoom, CoarseRoom, RowsRoom, BodyRoom, MapRoom};
 use cells::cell_at;
+use entry_rows::SIZE;
+use entry_rows::angle_at;
+use entry_rows::i_end_at;
 use map_rows::put_coarse_row;
 use map_rows::put_fine_row;
 use map_rows::put_header;
 use numbers::put_u32;
+use runs::Pair;
 use runs::pair_at;
-use runs::pair_packet;
-use runs::pair_time;
-use runs::same_pairs;
+use runs::same_run;
 
-// The bytes of an entry in its table, and of a map in its table; a map's header has as many in the file.
-const ENTRY: usize = 20;
-
+// The bytes of a map in its table; its header has as many in the file.
 const MAP: usize = 12;
 
 // The fine row of the entry at byte q, from `at`. Its time and packet are handed over as a pair.
-fn put_fine(entries: &[u8], q: usize, pair: u64, out: &mut [u8], at: usize)
+fn put_fine(entries: &[u8], q: usize, pair: Pair, out: &mut [u8], at: usize)
     requires { ⌜ FineRoom (now entries) q pair (length (now out)) at ⌝ }
     ensures { λ _. ⌜ now (out .exit) ≡ sets (now (out .entry)) at (fineBytes (cellsAt (now (entries .entry)) entryCells q)) ⌝ }
 {
-    let angle = cell_at(entries, q);
-    let i_end = cell_at(entries, q + 4);
-    let time = pair_time(pair);
-    let packet = pair_packet(pair);
-    put_fine_row(angle, i_end, time, packet, out, at);
+    let angle = angle_at(entries, q);
+    let i_end = i_end_at(entries, q);
+    put_fine_row(angle, i_end, pair.time, pair.packet, out, at);
 }
 
 // The coarse row of entry k right below `to`; none where the entry is in the run of the entry before it. Both are handed over as pairs. Answers the place of the row, or `to`.
-fn put_coarse(k: usize, before: u64, pair: u64, out: &mut [u8], to: usize) -> usize
+fn put_coarse(k: usize, before: Pair, pair: Pair, out: &mut [u8], to: usize) -> usize
     requires { ⌜ CoarseRoom k before pair (length (now out)) to ⌝ }
-    ensures { λ r. ⌜ r + 8 * length (ownCoarse k (pairRow before) (pairRow pair)) ≡ to ⌝ }
-    ensures { λ r. ⌜ now (out .exit) ≡ sets (now (out .entry)) r (flat coarseBytes (ownCoarse k (pairRow before) (pairRow pair))) ⌝ }
+    ensures { λ r. ⌜ r + 8 * length (ownBy k before pair) ≡ to ⌝ }
+    ensures { λ r. ⌜ now (out .exit) ≡ sets (now (out .entry)) r (flat coarseBytes (ownBy k before pair)) ⌝ }
 {
-    if same_pairs(before, pair) {
+    if same_run(before.time, before.packet, pair.time, pair.packet) {
         return to;
     }
-    let time = pair_time(pair);
-    let packet = pair_packet(pair);
-    put_coarse_row(k as u32, time, packet, out, to - 8);
+    put_coarse_row(k as u32, pair.time, pair.packet, out, to - 8);
     to - 8
 }
 
@@ -62,19 +58,17 @@ fn put_rows(entries: &[u8], p: usize, n: usize, out: &mut [u8], fine: usize) -> 
     }
     let mut to = fine;
     let mut k = n - 1;
-    let mut pair = pair_at(entries, p + ENTRY * k);
+    let mut pair = pair_at(entries, p + SIZE * k);
     while k > 0 {
-        let q = p + ENTRY * k;
-        let before = pair_at(entries, q - ENTRY);
+        let q = p + SIZE * k;
+        let before = pair_at(entries, q - SIZE);
         put_fine(entries, q, pair, out, fine + 4 * k);
         to = put_coarse(k, before, pair, out, to);
         pair = before;
         k -= 1;
     }
     put_fine(entries, p, pair, out, fine);
-    let time = pair_time(pair);
-    let packet = pair_packet(pair);
-    put_coarse_row(0, time, packet, out, to - 8);
+    put_coarse_row(0, pair.time, pair.packet, out, to - 8);
     to - 8
 }
 

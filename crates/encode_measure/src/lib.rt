@@ -14,6 +14,7 @@ use encode_cpi::Length;
 use encode_cpi::Tested;
 use encode_cpi::cpi_length;
 use encode_sections::section_length;
+use entry_rows::CELLS;
 use limits::tables::StatedRows;
 use limits::tables::cells_fit;
 use section_heads::Section;
@@ -50,7 +51,7 @@ fn counts_add(
     if !adds_up(programs, rows.programs, streams, rows.streams, 2, 5) {
         return false;
     }
-    adds_up(maps, rows.maps, entries, rows.entries, 2, 5)
+    adds_up(maps, rows.maps, entries, rows.entries, 2, CELLS)
 }
 
 // Whether the scalars fit their fields, else 30. A field of 32 bits holds any number.

@@ -11,12 +11,12 @@ use Rattle.format.specs.Bytes.{both, pick, every}
 use Rattle.format.specs.ClipRecord.{Row}
 use Rattle.format.specs.Refusals.{entryFits}
 use Rattle.format.specs.Rewriting.{timeKey, packetKey, sameRun, coarseRow, coarseAfter, runs}
-use Rattle.format.specs.Tables.{cellsAt}
+use Rattle.format.specs.Tables.{cellsAt, entryCells, entrySize}
 use Rattle.format.proofs.Rows.{rows-length, drop-rows, left-all, left-turn, left-done}
 use Rattle.format.proofs.Tests.{true-both, left-fails, picked, not-picked}
-use Rattle.runs.specs.Runs.{entriesAt, entriesFrom, pairRow, PairIs, runEnd, endFrom, coarseFrom}
-use Rattle.format.proofs.Cell.{row-cell}
-use Rattle.runs.proofs.Runs.{run-ends, after-run, coarse-all}
+use Rattle.runs.specs.Runs.{entriesAt, entriesFrom, sameKeys, PairIs, runEnd, endFrom, coarseFrom}
+use Rattle.runs.specs.declared.Pair.{Pair}
+use Rattle.runs.proofs.Runs.{same-pairs, run-ends, after-run, coarse-all}
 use Rattle.entry_runs.specs.Fitting.{fitUntil, endFit, runsFit}
 use Rattle.entry_runs.specs.declared.RunEnd.{RunEnd}
 use Rattle.entry_runs.specs.declared.RunCount.{RunCount}
@@ -28,15 +28,15 @@ same-self e = true-both (eq-eqb (timeKey e) (timeKey e) refl) (eq-eqb (packetKey
 
 module _ (t : List ℕ) (p n type : ℕ) where
   -- row k
-  abbrev pub entryRow : ℕ → Row
-  entryRow k = cellsAt t 5 (p + 20 * k)
+  abbrev pub rowAt : ℕ → Row
+  rowAt k = cellsAt t entryCells (p + entrySize * k)
 
   -- those behind some of them
   left-drop : (k r : ℕ) → k ≤ r → r ≤ n → drop (r - k) (entriesFrom t p n k) ≡ entriesFrom t p n r
   left-drop k r h g =
-      let e : p + 20 * k + (r - k) * 20 ≡ p + 20 * r = omega arith in
+      let e : p + entrySize * k + (r - k) * entrySize ≡ p + entrySize * r = omega arith in
       let m : n - k - (r - k) ≡ n - r = omega arith in
-      rw (← e, ← m) (drop-rows (cellsAt t 5) 20 (p + 20 * k) (n - k) (r - k) (omega arith))
+      rw (← e, ← m) (drop-rows (cellsAt t entryCells) entrySize (p + entrySize * k) (n - k) (r - k) (omega arith))
 
   -- ---- the search for the end of the run that begins at row `from`
 
@@ -49,13 +49,13 @@ module _ (t : List ℕ) (p n type : ℕ) where
     pub record Along (k : ℕ) : Type 0 where
       pub past : from ≤ k
       pub within : k ≤ n
-      pub rest : runEnd (entryRow from) k (entriesFrom t p n k) ≡ itsEnd
+      pub rest : runEnd (rowAt from) k (entriesFrom t p n k) ≡ itsEnd
       pub fit : fitUntil type itsEnd k (entriesFrom t p n k) ≡ endFit type from (entriesFrom t p n from)
 
     -- before its first entry nothing is known
     pub along-first : from < n → Along from
     unfolding runEnd endFit
-    along-first h = record { past = omega arith; within = omega arith; rest = rw (left-turn (cellsAt t 5) 20 p n from h, same-self (entryRow from)); fit = refl }
+    along-first h = record { past = omega arith; within = omega arith; rest = rw (left-turn (cellsAt t entryCells) entrySize p n from h, same-self (rowAt from)); fit = refl }
 
     -- where it ends, its end is told
     at-end : (k : ℕ) → Along k → k ≡ itsEnd → RunEnd.At k ≡ endFit type from (entriesFrom t p n from)
@@ -63,49 +63,48 @@ module _ (t : List ℕ) (p n type : ℕ) where
         let none : itsEnd - k ≡ 0 = omega arith in
         ap RunEnd.At e ∙ rw none at (i .fit)
 
-    module _ (k : ℕ) (i : Along k) (h : k < n) {a b : ℕ} {s : Bool} (one : PairIs t (p + 20 * from) a) (two : PairIs t (p + 20 * k) b) (is : s ≡ sameRun (pairRow a) (pairRow b)) where
+    module _ (k : ℕ) (i : Along k) (h : k < n) {a b : Pair} {s : Bool} (one : PairIs t (p + entrySize * from) a) (two : PairIs t (p + entrySize * k) b) (is : s ≡ sameKeys (a .time) (a .packet) (b .time) (b .packet)) where
       -- row k is compared with the run's first
-      same-as : s ≡ sameRun (entryRow from) (entryRow k)
-      same-as =
-          is ∙ rw (row-cell t 5 (p + 20 * from) 2 (omega arith) refl (one .time .same), row-cell t 5 (p + 20 * from) 3 (omega arith) refl (one .packet .same), row-cell t 5 (p + 20 * k) 2 (omega arith) refl (two .time .same), row-cell t 5 (p + 20 * k) 3 (omega arith) refl (two .packet .same))
+      same-as : s ≡ sameRun (rowAt from) (rowAt k)
+      same-as = is ∙ same-pairs t (p + entrySize * from) (p + entrySize * k) one two
 
       -- it is the first behind the run
       pub along-stop : not s ≡ true → RunEnd.At k ≡ endFit type from (entriesFrom t p n from)
       unfolding runEnd
       along-stop y =
-          let differs : sameRun (entryRow from) (entryRow k) ≡ false = sym same-as ∙ not-true s y in
-          at-end k i (rw (left-turn (cellsAt t 5) 20 p n k h, differs) at (i .rest))
+          let differs : sameRun (rowAt from) (rowAt k) ≡ false = sym same-as ∙ not-true s y in
+          at-end k i (rw (left-turn (cellsAt t entryCells) entrySize p n k h, differs) at (i .rest))
 
       module _ (y : not s ≡ false) where
         -- it is in the run
-        later : runEnd (entryRow from) (suc k) (entriesFrom t p n (k + 1)) ≡ itsEnd
+        later : runEnd (rowAt from) (suc k) (entriesFrom t p n (k + 1)) ≡ itsEnd
         unfolding runEnd
         later =
-            let same : sameRun (entryRow from) (entryRow k) ≡ true = sym same-as ∙ not-false s y in
-            rw (left-turn (cellsAt t 5) 20 p n k h, same) at (i .rest)
+            let same : sameRun (rowAt from) (rowAt k) ≡ true = sym same-as ∙ not-false s y in
+            rw (left-turn (cellsAt t entryCells) entrySize p n k h, same) at (i .rest)
 
         -- so it is tested with those behind it
-        tested : pick (both (entryFits type (entryRow k)) (every (entryFits type) (take (itsEnd - (k + 1)) (entriesFrom t p n (k + 1))))) (RunEnd.At itsEnd) RunEnd.Unfit
+        tested : pick (both (entryFits type (rowAt k)) (every (entryFits type) (take (itsEnd - (k + 1)) (entriesFrom t p n (k + 1))))) (RunEnd.At itsEnd) RunEnd.Unfit
             ≡ endFit type from (entriesFrom t p n from)
         tested =
             let e = later in
-            let more : itsEnd - k ≡ suc (itsEnd - (k + 1)) = omega (arith, run-ends (entryRow from) (suc k) (entriesFrom t p n (k + 1)) .past) in
-            rw (left-turn (cellsAt t 5) 20 p n k h, more) at (i .fit)
+            let more : itsEnd - k ≡ suc (itsEnd - (k + 1)) = omega (arith, run-ends (rowAt from) (suc k) (entriesFrom t p n (k + 1)) .past) in
+            rw (left-turn (cellsAt t entryCells) entrySize p n k h, more) at (i .fit)
 
         -- it does not fit
-        pub along-unfit : {f : Bool} → f ≡ entryFits type (entryRow k) → not f ≡ true → RunEnd.Unfit ≡ endFit type from (entriesFrom t p n from)
-        along-unfit {f} js g = let fails : entryFits type (entryRow k) ≡ false = sym js ∙ not-true f g in rw fails at tested
+        pub along-unfit : {f : Bool} → f ≡ entryFits type (rowAt k) → not f ≡ true → RunEnd.Unfit ≡ endFit type from (entriesFrom t p n from)
+        along-unfit {f} js g = let fails : entryFits type (rowAt k) ≡ false = sym js ∙ not-true f g in rw fails at tested
 
         -- it fits
-        pub along-turn : {f : Bool} → f ≡ entryFits type (entryRow k) → not f ≡ false → Along (k + 1)
+        pub along-turn : {f : Bool} → f ≡ entryFits type (rowAt k) → not f ≡ false → Along (k + 1)
         along-turn {f} js g =
-            let fits : entryFits type (entryRow k) ≡ true = sym js ∙ not-false f g in
+            let fits : entryFits type (rowAt k) ≡ true = sym js ∙ not-false f g in
             record { past = omega (arith, i .past); within = omega arith; rest = rw add-one (rw add-one at later); fit = rw fits at tested }
 
     -- the run ends with the entries
     pub along-done : (k : ℕ) → Along k → n ≤ k → RunEnd.At k ≡ endFit type from (entriesFrom t p n from)
     unfolding runEnd
-    along-done k i h = at-end k i (rw (left-done (cellsAt t 5) 20 p n k h) at (i .rest))
+    along-done k i h = at-end k i (rw (left-done (cellsAt t entryCells) entrySize p n k h) at (i .rest))
 
   -- ---- from run to run
 
@@ -113,7 +112,7 @@ module _ (t : List ℕ) (p n type : ℕ) where
   pub record NextRun (k r : ℕ) : Type 0 where
     pub past : k < r
     pub within : r ≤ n
-    pub rows : coarseFrom k (entriesFrom t p n k) ≡ coarseRow k (entryRow k) ∷ coarseFrom r (entriesFrom t p n r)
+    pub rows : coarseFrom k (entriesFrom t p n k) ≡ coarseRow k (rowAt k) ∷ coarseFrom r (entriesFrom t p n r)
     pub fit : every (entryFits type) (entriesFrom t p n k) ≡ every (entryFits type) (entriesFrom t p n r)
 
   module _ (k : ℕ) (h : k < n) {x : RunEnd} (is : x ≡ endFit type k (entriesFrom t p n k)) where
@@ -124,11 +123,11 @@ module _ (t : List ℕ) (p n type : ℕ) where
         let es = entriesFrom t p n k in
         let p′ = picked (every (entryFits type) (take (endFrom k es - k) es)) (λ e. let z : _≡_ {A = ℕ} 0 1 = cc in omega arith) (sym is ∙ told) in
         let e : r ≡ endFrom k es = cc (p′ .1) in
-        let first = entryRow k in
+        let first = rowAt k in
         let xs = entriesFrom t p n (k + 1) in
-        let end : r ≡ runEnd first (suc k) xs = rw (left-turn (cellsAt t 5) 20 p n k h) at e in
+        let end : r ≡ runEnd first (suc k) xs = rw (left-turn (cellsAt t entryCells) entrySize p n k h) at e in
         let ends = run-ends first (suc k) xs in
-        let size : length xs ≡ n - (k + 1) = rows-length (cellsAt t 5) (λ q. q + 20) (p + 20 * (k + 1)) (n - (k + 1)) in
+        let size : length xs ≡ n - (k + 1) = rows-length (cellsAt t entryCells) (λ q. q + entrySize) (p + entrySize * (k + 1)) (n - (k + 1)) in
         let past : k < r = omega (arith, end, ends .past) in
         let within : r ≤ n = omega (arith, end, ends .within, size) in
         let left : r - suc k ≡ r - (k + 1) = omega arith in
@@ -138,7 +137,7 @@ module _ (t : List ℕ) (p n type : ℕ) where
         record {
           past = past;
           within = within;
-          rows = rw (left-turn (cellsAt t 5) 20 p n k h) (ap (λ (l : List Row). coarseRow k first ∷ l) behind);
+          rows = rw (left-turn (cellsAt t entryCells) entrySize p n k h) (ap (λ (l : List Row). coarseRow k first ∷ l) behind);
           fit = sym (every-parts (entryFits type) (r - k) es) ∙ rw (own, left-drop k r (omega arith) within);
         }
 
@@ -164,8 +163,8 @@ module _ (t : List ℕ) (p n type : ℕ) where
   counted-first = record {
     within = omega arith;
     small = omega arith;
-    rest = rw (left-all (cellsAt t 5) 20 p n, coarse-all (entriesAt t p n)) (omega arith);
-    fit = rw (left-all (cellsAt t 5) 20 p n);
+    rest = rw (left-all (cellsAt t entryCells) entrySize p n, coarse-all (entriesAt t p n)) (omega arith);
+    fit = rw (left-all (cellsAt t entryCells) entrySize p n);
   }
 
   module _ (count k : ℕ) (i : Counted count k) where
@@ -184,7 +183,7 @@ module _ (t : List ℕ) (p n type : ℕ) where
     pub counted-done : n ≤ k → RunCount.Runs count ≡ runsFit type (entriesAt t p n)
     unfolding runsFit
     counted-done h =
-        let rest = rw (left-done (cellsAt t 5) 20 p n k h) at (i .rest) in
-        let fits = rw (left-done (cellsAt t 5) 20 p n k h) at (i .fit) in
+        let rest = rw (left-done (cellsAt t entryCells) entrySize p n k h) at (i .rest) in
+        let fits = rw (left-done (cellsAt t entryCells) entrySize p n k h) at (i .fit) in
         let e : count ≡ runs (entriesAt t p n) = omega arith in
         rw (← fits, e)

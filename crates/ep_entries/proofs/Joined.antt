@@ -8,7 +8,7 @@ use lib.Seq.{sets}
 use Rattle.format.specs.Bytes.{beAt, unpacked, rowsAt}
 use Rattle.format.specs.ClipRecord.{Row}
 use Rattle.format.specs.EntryPoints.{fineWidths, fineAt, nextFine, joinTime, joinPacket}
-use Rattle.format.specs.Tables.{rowBytes, tableBytes}
+use Rattle.format.specs.Tables.{rowBytes, tableBytes, entryCells, entrySize}
 use Rattle.format.proofs.Loops.{one-left, none-left, put-more}
 use Rattle.format.proofs.Rows as Rows
 use Rattle.format.proofs.Sweep.{row-bytes, rows-bytes}
@@ -58,14 +58,14 @@ module _ (f : List ℕ) (m : MapBody) where
 
     -- a turn stores a run; what is left goes behind it
     pub run-put : (k end : ℕ) (t : List ℕ) (at : ℕ) {t′ whole : List ℕ} → k ≤ end → end ≡ min (w .next) (m .«num_fine») → IsWalk f (coarseIn f m) k w
-        → t′ ≡ sets t (at + 20 * k) (runBytes f (m .kind) (w .time) (w .packet) (m .fine) k end)
-        → sets t (at + 20 * k) (tableBytes (entriesLeft f m k)) ≡ whole → sets t′ (at + 20 * end) (tableBytes (entriesLeft f m end)) ≡ whole
+        → t′ ≡ sets t (at + entrySize * k) (runBytes f (m .kind) (w .time) (w .packet) (m .fine) k end)
+        → sets t (at + entrySize * k) (tableBytes (entriesLeft f m k)) ≡ whole → sets t′ (at + entrySize * end) (tableBytes (entriesLeft f m end)) ≡ whole
     run-put k end t at h e i p whole =
         let back : k + (end - k) ≡ end = omega arith in
         let split = rw back at (run-left (end - k) k (omega arith) (omega arith) i) in
-        let place : at + 20 * k + 20 * (end - k) ≡ at + 20 * end = omega arith in
-        let size = rows-bytes 5 row nextFine (λ q. refl) (m .fine + 4 * k) (end - k) in
-        rw place at (put-more t (at + 20 * k) (20 * (end - k)) (runBytes f (m .kind) (w .time) (w .packet) (m .fine) k end) (tableBytes (entriesLeft f m end)) size p (rw split at whole))
+        let place : at + entrySize * k + entrySize * (end - k) ≡ at + entrySize * end = omega arith in
+        let size = rows-bytes entryCells row nextFine (λ q. refl) (m .fine + 4 * k) (end - k) in
+        rw place at (put-more t (at + entrySize * k) (entrySize * (end - k)) (runBytes f (m .kind) (w .time) (w .packet) (m .fine) k end) (tableBytes (entriesLeft f m end)) size p (rw split at whole))
 
   -- with no row left all is stored
   pub entries-done : (k : ℕ) (t : List ℕ) (at : ℕ) {whole : List ℕ} → m .«num_fine» ≤ k → sets t at (tableBytes (entriesLeft f m k)) ≡ whole → t ≡ whole
@@ -76,16 +76,16 @@ module _ (f : List ℕ) (m : MapBody) where
 module _ (f : List ℕ) (type time packet fine end k : ℕ) where
   -- a turn stores the entry of fine row k
   pub run-turn : (t : List ℕ) (at x : ℕ) {t′ whole : List ℕ} → k < end → x ≡ beAt f (fine + 4 * k) 4
-      → t′ ≡ sets t (at + 20 * k) (rowBytes (entryBy type time packet (unpacked fineWidths x)))
-      → sets t (at + 20 * k) (runBytes f type time packet fine k end) ≡ whole → sets t′ (at + 20 * (k + 1)) (runBytes f type time packet fine (k + 1) end) ≡ whole
+      → t′ ≡ sets t (at + entrySize * k) (rowBytes (entryBy type time packet (unpacked fineWidths x)))
+      → sets t (at + entrySize * k) (runBytes f type time packet fine k end) ≡ whole → sets t′ (at + entrySize * (k + 1)) (runBytes f type time packet fine (k + 1) end) ≡ whole
   run-turn t at x h e p i =
       let q = fine + 4 * k in
       let one = entryBy type time packet (fineAt f q) in
       let rest = tableBytes (rowsAt (λ q. entryBy type time packet (fineAt f q)) nextFine (q + 4) (end - (k + 1))) in
       let p′ = rw e at p in
       let i′ = rw (one-left end k h) at i in
-      let done = put-more t (at + 20 * k) 20 (rowBytes one) rest (row-bytes one) p′ i′ in
-      let a : at + 20 * (k + 1) ≡ at + 20 * k + 20 = omega arith in
+      let done = put-more t (at + entrySize * k) entrySize (rowBytes one) rest (row-bytes one) p′ i′ in
+      let a : at + entrySize * (k + 1) ≡ at + entrySize * k + entrySize = omega arith in
       let b : fine + 4 * (k + 1) ≡ fine + 4 * k + 4 = omega arith in
       rw (a, b) done
 

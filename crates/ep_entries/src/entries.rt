@@ -5,14 +5,15 @@ ghost use lib.ListN.{length};
 ghost use lib.Seq.{sets};
 ghost use Rattle.format.specs.Bytes.{unpacked};
 ghost use Rattle.format.specs.EntryPoints.{fineWidths};
-ghost use Rattle.format.specs.Tables.{rowBytes, tableBytes};
+ghost use Rattle.format.specs.Tables.{rowBytes, tableBytes, entrySize};
 ghost use Rattle.ep_entries.specs.Body.{entriesIn};
 ghost use Rattle.ep_entries.specs.Entries.{joined, entryBy, runBytes, Run, Fill};
 use crate::body::MapBody;
 use crate::walk::Walk;
 use crate::walk::reach;
 use crate::walk::start;
-use cells::put_row5;
+use entry_rows::SIZE;
+use entry_rows::put_row;
 use ep_rows::entry_packet;
 use ep_rows::entry_time;
 use ep_rows::fine_row;
@@ -22,7 +23,7 @@ use numbers::u32_at;
 pub struct Entry {
     pub angle: u32,
     pub i_end: u32,
-    pub time: u32,
+    pub time: u64,
     pub packet: u32,
 }
 
@@ -43,21 +44,27 @@ pub fn join(word: u32, w: Walk) -> Entry
 
 // That entry as the row of a table from `at`.
 fn put_entry(word: u32, w: Walk, kind: u32, table: &mut [u8], at: usize)
-    requires { ⌜ at + 20 ≤ length (now table) ⌝ }
+    requires { ⌜ at + entrySize ≤ length (now table) ⌝ }
     ensures { λ _. ⌜ now (table .exit) ≡ sets (now (table .entry)) at (rowBytes (entryBy kind (w .time) (w .packet) (unpacked fineWidths word))) ⌝ }
 {
     let e = join(word, w);
-    put_row5(table, at, e.angle, e.i_end, e.time, e.packet, kind);
+    put_row(table, at, e.angle, e.i_end, e.time, e.packet, kind);
 }
 
 // The entries of the fine rows from number `from` up to `end`, all under the walk's coarse row; the table's row for fine row 0 is at `at`.
 fn put_run(file: &[u8], m: MapBody, from: usize, end: usize, w: Walk, table: &mut [u8], at: usize)
     requires { ⌜ Run (length (now file)) (m .fine) from end (length (now table)) at ⌝ }
-    ensures { λ _. ⌜ now (table .exit) ≡ sets (now (table .entry)) (at + 20 * from) (runBytes (now (file .entry)) (m .kind) (w .time) (w .packet) (m .fine) from end) ⌝ }
+    ensures { λ _. ⌜ now (table .exit) ≡ sets (now (table .entry)) (at + entrySize * from) (runBytes (now (file .entry)) (m .kind) (w .time) (w .packet) (m .fine) from end) ⌝ }
 {
     let mut k = from;
     while k < end {
-        put_entry(u32_at(file, m.fine + 4 * k), w, m.kind, table, at + 20 * k);
+        put_entry(
+            u32_at(file, m.fine + 4 * k),
+            w,
+            m.kind,
+            table,
+            at + SIZE * k,
+        );
         k += 1;
     }
 }

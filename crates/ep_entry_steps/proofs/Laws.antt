@@ -1,5 +1,5 @@
 -- What the steps find in a row of records is what the definitions answer for its rows.
-use Prim.Native.Nat.{ℕ, zero, suc, _-_, _<_}
+use Prim.Native.Nat.{ℕ, zero, suc, _-_, _^_, _<_, _≤_}
 use mathlib.Core.Path.{_≡_, refl, sym, ap, _∙_, subst}
 use mathlib.Core.List.{List, [], _∷_, map}
 use mathlib.Core.Bool.{Bool, true, false}
@@ -10,6 +10,7 @@ use Rattle.format.specs.Bytes.{pick}
 use Rattle.format.specs.ClipRecord.{Row, time, packet, entryTime}
 use Rattle.format.specs.Ticks.{Ticks90, less90}
 use Rattle.format.specs.Questions.{Answer, none, number, ofRow, lastOf, spanOf}
+use Rattle.format.proofs.Fields.{time-cells}
 use Rattle.nearest.specs.Nearest.{far, noneYet, closerOf, rowFound, rowIn}
 use Rattle.nearest.specs.declared.Nearest.{Nearest}
 use Rattle.nearest.proofs.Steps.{Scan, scan-first, scan-turn, scan-done, found-is}
@@ -80,11 +81,12 @@ module _ (es : List EpEntry) (side : Bool) (at : ℕ) where
   look-first = scan-first (timesOf es) side at
 
   -- a record more
-  pub look-turn : at < far → (k : ℕ) (n r : Nearest) (e : EpEntry) → k < length es → e ≡ getD es k noEntry → time (asRow e) < far → r ≡ closerOf side at n k (time (asRow e)) → Looked k n → Looked (suc k) r
+  pub look-turn : at < 2 ^ 32 → (k : ℕ) (n r : Nearest) (e : EpEntry) → k < length es → e ≡ getD es k noEntry → e .«pts_ep_start» < 2 ^ 32 → r ≡ closerOf side at n k (time (asRow e)) → Looked k n → Looked (suc k) r
   look-turn small k n r e h is below chose i =
       let l : k < length (timesOf es) = subst (λ (m : ℕ). k < m) (sym (times-length es)) h in
       let x : time (asRow e) ≡ getD (timesOf es) k 0 = ap (λ (y : EpEntry). time (asRow y)) is ∙ sym (time-at es k) in
-      rw chose (scan-turn (timesOf es) side at small k n l x below i)
+      let near : time (asRow e) ≤ far = rw (time-cells (e .«pts_ep_start»)) (omega arith) in
+      rw chose (scan-turn (timesOf es) side at (omega arith) k n l x near i)
 
   -- all are looked at
   pub look-done : (isPacket : Bool) (k : ℕ) (n : Nearest) (e : EpEntry) → k ≡ length es → Looked k n → e ≡ getD es (n .row) noEntry → rowOrPacket isPacket (asRow e) (rowFound side k n) ≡ lookUp side isPacket (asRows es) at

@@ -1,8 +1,8 @@
 -- A record of an entry as a row of table 6.
 use Prim.Native.Nat.{ℕ}
-use mathlib.Core.List.{List, [], _∷_, map}
+use mathlib.Core.List.{List, map}
 use mathlib.Core.Bool.{Bool, true, false}
-use Rattle.format.specs.ClipRecord.{Row}
+use Rattle.format.specs.ClipRecord.{Row, entryRow}
 use Rattle.ep_entry_steps.specs.declared.EpEntry.{EpEntry}
 
 -- 1 for an angle change point, else 0
@@ -12,7 +12,7 @@ bit false = 0
 
 -- angle, I-end, time, packet, type
 abbrev pub asRow : EpEntry → Row
-asRow e = bit (e .«is_angle_change_point») ∷ e .«i_end_position_offset» ∷ e .«pts_ep_start» ∷ e .«spn_ep_start» ∷ e .«ep_stream_type» ∷ []
+asRow e = entryRow (bit (e .«is_angle_change_point»)) (e .«i_end_position_offset») (e .«pts_ep_start») (e .«spn_ep_start») (e .«ep_stream_type»)
 
 -- records as rows, in the same order
 abbrev pub asRows : List EpEntry → List Row

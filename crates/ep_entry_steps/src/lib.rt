@@ -44,7 +44,7 @@ pub fn no_entry() -> EpEntry
 pub fn look_at(so_far: Nearest, k: usize, entry: EpEntry, is_after: bool, at: u32) -> Nearest
     ensures { λ r. ⌜ r ≡ closerOf «is_after» at «so_far» k (time (asRow entry)) ⌝ }
 {
-    look_at_time(so_far, k, is_after, at, entry.pts_ep_start)
+    look_at_time(so_far, k, is_after, at as u64, entry.pts_ep_start as u64)
 }
 
 // The row that was found, or the packet of its entry.

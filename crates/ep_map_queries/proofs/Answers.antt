@@ -4,15 +4,14 @@ use mathlib.Core.Path.{_≡_, refl, sym, ap, _∙_}
 use mathlib.Core.List.{List, [], _∷_, map}
 use mathlib.Core.Bool.{Bool, true, false}
 use native.Mathlib.Omega.{arith}
-use lib.Dec.{lit<}
 use lib.ListN.{length}
 use Rattle.format.specs.ClipRecord.{Row, entryCount, time, packet}
 use Rattle.format.specs.Questions.{Question, partsOf, Answer, refused, number, ofRow, ownRows, ofMap, answer, ask}
 use Rattle.format.specs.Questions as of
-use Rattle.format.specs.Tables.{Table, rowsOf, cellsAt, clipIn, mapCells, entryCells}
-use Rattle.format.proofs.Cell.{row-cell, item-at}
+use Rattle.format.specs.Tables.{Table, rowsOf, cellsAt, clipIn, mapCells, entryCells, entrySize}
+use Rattle.format.proofs.Cell.{item-at}
 use Rattle.format.proofs.Lookups.{before-row, after-row}
-use Rattle.cells.specs.Reads.{CellIs}
+use Rattle.entry_rows.specs.Reads.{EntryHas}
 use Rattle.queries.specs.Asked.{mapsAndEntries}
 use Rattle.table_rows.specs.OwnRows.{refusal, owns}
 use Rattle.table_rows.proofs.OwnRows.{own-rows, behindTests, tests-fail, tests-pass}
@@ -43,7 +42,7 @@ module _ {q : Question} {maps entries : Table} {m : ℕ} {f : List Row → Answe
       ∙ tests-pass 2 entryCells maps entries m (f (ownRows entryCount (rowsOf mapCells maps) (rowsOf entryCells entries) m)) h ∙ by-tests
 
 -- the entries of a map stand in the table
-pub inside : (maps entries : Table) (m : ℕ) {first count : ℕ} → owns first count ≡ entriesOf maps entries m → 20 * (first + count) ≤ length (entries .bytes)
+pub inside : (maps entries : Table) (m : ℕ) {first count : ℕ} → owns first count ≡ entriesOf maps entries m → entrySize * (first + count) ≤ length (entries .bytes)
 inside maps entries m h = let o = own-rows 2 entryCells maps entries m h in omega (arith, o .inside, o .room)
 
 -- the questions about one map
@@ -68,9 +67,9 @@ module _ (t : List ℕ) (first count at : ℕ) where
   found-below true k h = rw (times-length t first count) at (after-row (map time (entriesAt t first count)) at k (sym h))
   found-below false k h = rw (times-length t first count) at (before-row (map time (entriesAt t first count)) at k (sym h))
 
-  -- the packet of entry k of the map is the number in its fourth cell
-  pub packet-is : (k : ℕ) {v : ℕ} → k < count → CellIs t (20 * (first + k) + 12) v → number v ≡ ofRow packet (entriesAt t first count) (number k)
+  -- the packet that was read of entry k of the map
+  pub packet-is : (k : ℕ) {v : ℕ} → k < count → EntryHas packet 32 t (entrySize * (first + k)) v → number v ≡ ofRow packet (entriesAt t first count) (number k)
   packet-is k h c =
-      let row = item-at (cellsAt t entryCells) [] (4 * entryCells) (4 * entryCells * first) count k h in
-      let cell = row-cell t entryCells (4 * entryCells * first + 4 * entryCells * k) 3 (lit< tt) (omega arith) (c .same) in
-      ap (λ (x : ℕ). number x) (cell ∙ ap (λ (r : Row). packet r) (sym row))
+      let row = item-at (cellsAt t entryCells) [] entrySize (entrySize * first) count k h in
+      let place : entrySize * (first + k) ≡ entrySize * first + entrySize * k = omega arith in
+      ap (λ (x : ℕ). number x) (rw place at (c .same) ∙ ap (λ (r : Row). packet r) (sym row))

@@ -5,13 +5,12 @@ use mathlib.Core.List.{List, [], map}
 use mathlib.Core.Bool.{Bool}
 use native.Mathlib.Numerals.{add-one}
 use native.Mathlib.Omega.{arith}
-use lib.Dec.{lit<}
 use lib.ListN.{length, getD, length-map, List·getD-map}
 use Rattle.format.specs.ClipRecord.{Row, time}
-use Rattle.format.specs.Tables.{cellsAt, entryCells}
-use Rattle.format.proofs.Cell.{row-cell, item-at}
+use Rattle.format.specs.Tables.{cellsAt, entryCells, entrySize}
+use Rattle.format.proofs.Cell.{item-at}
 use Rattle.format.proofs.Rows.{rows-length}
-use Rattle.cells.specs.Reads.{CellIs}
+use Rattle.entry_rows.specs.Reads.{TimeIs}
 use Rattle.nearest.specs.Nearest.{far, noneYet, closerOf, rowFound, NearestIn}
 use Rattle.nearest.specs.declared.Nearest.{Nearest}
 use Rattle.nearest.proofs.Steps.{Scan, scan-first, scan-turn, scan-done, found-is}
@@ -26,12 +25,11 @@ module _ (entries : List ℕ) (first count : ℕ) where
   pub times-length : length times ≡ count
   times-length = length-map (entriesAt entries first count) time ∙ rows-length (cellsAt entries entryCells) (λ p. p + 4 * entryCells) (4 * entryCells * first) count
 
-  -- the time of an entry by its cell
-  time-at : (k : ℕ) {x : ℕ} → k < count → CellIs entries (20 * first + 8 + 20 * k) x → x ≡ getD times k 0
+  -- the time that was read of an entry
+  time-at : (k : ℕ) {x : ℕ} → k < count → TimeIs entries (entrySize * first + entrySize * k) x → x ≡ getD times k 0
   time-at k h c =
-      let row = item-at (cellsAt entries entryCells) [] (4 * entryCells) (4 * entryCells * first) count k h in
-      let cell = row-cell entries entryCells (4 * entryCells * first + 4 * entryCells * k) 2 (lit< tt) (omega arith) (c .same) in
-      cell ∙ ap (λ (r : Row). time r) (sym row) ∙ sym (List·getD-map time (entriesAt entries first count) k [])
+      let row = item-at (cellsAt entries entryCells) [] entrySize (entrySize * first) count k h in
+      c .same ∙ ap (λ (r : Row). time r) (sym row) ∙ sym (List·getD-map time (entriesAt entries first count) k [])
 
   module _ (side : Bool) (at : ℕ) where
     -- k entries are looked at
@@ -43,10 +41,10 @@ module _ (entries : List ℕ) (first count : ℕ) where
     look-first e = rw e (scan-first times side at)
 
     -- an entry more
-    pub look-turn : at < far → (k : ℕ) (n : Nearest) {x : ℕ} {r : Nearest} → k < count → CellIs entries (20 * first + 8 + 20 * k) x → r ≡ closerOf side at n k x → Looked k n → Looked (k + 1) r
+    pub look-turn : at < far → (k : ℕ) (n : Nearest) {x : ℕ} {r : Nearest} → k < count → TimeIs entries (entrySize * first + entrySize * k) x → r ≡ closerOf side at n k x → Looked k n → Looked (k + 1) r
     look-turn small k n {x} {r} h c chose i =
         let l : k < length times = rw times-length h in
-        let next = scan-turn times side at small k n l (time-at k h c) (c .below) i in
+        let next = scan-turn times side at small k n l (time-at k h c) (omega (arith, c .below)) i in
         rw (add-one, chose) next
 
     -- behind the last

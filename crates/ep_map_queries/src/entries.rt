@@ -1,17 +1,20 @@
 // Entry points by their times, one scan each, for maps in any order.
 ghost use mathlib.Core.Path.{_≡_};
-ghost use Prim.Native.Nat.{_+_, _*_, _≤_};
+ghost use Prim.Native.Nat.{_+_, _*_, _≤_, _<_};
 ghost use mathlib.Core.List.{map};
 ghost use lib.ListN.{length};
 ghost use Rattle.format.specs.ClipRecord.{time};
 ghost use Rattle.format.specs.Questions.{ask, entryPointAtOrBefore, entryPointAfter, seekSpn, nextSeekSpn};
+ghost use Rattle.format.specs.Tables.{entrySize};
 ghost use Rattle.queries.specs.Answers.{foundOf};
 ghost use Rattle.queries.specs.Asked.{stated, mapsAndEntries};
 ghost use Rattle.ticks.specs.Times.{asPts};
-ghost use Rattle.nearest.specs.Nearest.{NearestIn};
+ghost use Rattle.nearest.specs.Nearest.{far, NearestIn};
 ghost use Rattle.ep_map_queries.specs.InMap.{entriesAt, findIn, seekIn, findQuestion, seekQuestion};
 use crate::own::entries_of_map;
-use cells::cell_at;
+use entry_rows::SIZE;
+use entry_rows::packet_at;
+use entry_rows::time_at;
 use nearest::Nearest;
 use nearest::found_row;
 use nearest::look_at_time;
@@ -21,15 +24,15 @@ use table_rows::own::Own;
 use ticks::Pts90;
 
 // The nearest of `count` entries from the one with the number `first`.
-fn scan(entries: &[u8], first: u64, count: u32, is_after: bool, at: u32) -> Nearest
-    requires { ⌜ 20 * (first + count) ≤ length (now entries) ⌝ }
+fn scan(entries: &[u8], first: u64, count: u32, is_after: bool, at: u64) -> Nearest
+    requires { ⌜ (entrySize * (first + count) ≤ length (now entries)) × (at < far) ⌝ }
     ensures { λ r. ⌜ NearestIn «is_after» (map time (entriesAt (now (entries .entry)) first count)) at r ⌝ }
 {
-    let start = 20 * (first as usize) + 8;
+    let start = SIZE * (first as usize);
     let mut nearest = none_yet();
     let mut k: u32 = 0;
     while k < count {
-        let time = cell_at(entries, start + 20 * (k as usize));
+        let time = time_at(entries, start + SIZE * (k as usize));
         nearest = look_at_time(nearest, k as usize, is_after, at, time);
         k += 1;
     }
@@ -37,8 +40,8 @@ fn scan(entries: &[u8], first: u64, count: u32, is_after: bool, at: u32) -> Near
 }
 
 // Of `count` entries from the one with the number `first`: the one after a time, or at or before it.
-fn find_in(entries: &[u8], first: u64, count: u32, is_after: bool, at: u32) -> Found
-    requires { ⌜ 20 * (first + count) ≤ length (now entries) ⌝ }
+fn find_in(entries: &[u8], first: u64, count: u32, is_after: bool, at: u64) -> Found
+    requires { ⌜ (entrySize * (first + count) ≤ length (now entries)) × (at < far) ⌝ }
     ensures { λ r. ⌜ foundOf r ≡ findIn «is_after» (entriesAt (now (entries .entry)) first count) at ⌝ }
 {
     found_row(
@@ -49,15 +52,15 @@ fn find_in(entries: &[u8], first: u64, count: u32, is_after: bool, at: u32) -> F
 }
 
 // The packet of that entry.
-fn seek_in(entries: &[u8], first: u64, count: u32, is_after: bool, at: u32) -> Found
-    requires { ⌜ 20 * (first + count) ≤ length (now entries) ⌝ }
+fn seek_in(entries: &[u8], first: u64, count: u32, is_after: bool, at: u64) -> Found
+    requires { ⌜ (entrySize * (first + count) ≤ length (now entries)) × (at < far) ⌝ }
     ensures { λ r. ⌜ foundOf r ≡ seekIn «is_after» (entriesAt (now (entries .entry)) first count) at ⌝ }
 {
     match find_in(entries, first, count, is_after, at) {
         Found::Refused(refusal) => Found::Refused(refusal),
         Found::Nothing => Found::Nothing,
         Found::Number(row) => {
-            Found::Number(cell_at(entries, 20 * ((first + row) as usize) + 12) as u64)
+            Found::Number(packet_at(entries, SIZE * ((first + row) as usize)) as u64)
         }
     }
 }
@@ -76,7 +79,7 @@ fn find(
 {
     match entries_of_map(maps, map_rows, entries, entry_rows, map) {
         Own::Refused => Found::Refused(22),
-        Own::Rows { first, count } => find_in(entries, first, count, is_after, at.0),
+        Own::Rows { first, count } => find_in(entries, first, count, is_after, at.0 as u64),
     }
 }
 
@@ -94,7 +97,7 @@ pub fn seek(
 {
     match entries_of_map(maps, map_rows, entries, entry_rows, map) {
         Own::Refused => Found::Refused(22),
-        Own::Rows { first, count } => seek_in(entries, first, count, is_after, at.0),
+        Own::Rows { first, count } => seek_in(entries, first, count, is_after, at.0 as u64),
     }
 }
 

@@ -1,32 +1,29 @@
 -- The last time of some entries less the first, one end alone, and the questions that ask for them.
-use Prim.Native.Nat.{ℕ, zero, suc, _+_, _*_, _-_, _<_}
+use Prim.Native.Nat.{ℕ, zero, suc, _+_, _*_, _-_}
 use mathlib.Core.Path.{_≡_, refl, sym, ap, _∙_}
 use mathlib.Core.List.{List}
 use mathlib.Core.Bool.{Bool, true, false}
 use native.Mathlib.Omega.{arith}
-use lib.Dec.{lit<}
 use Rattle.format.specs.Bytes.{rowsAt}
 use Rattle.format.specs.ClipRecord.{entryTime}
 use Rattle.format.specs.Ticks.{Ticks90, less90}
 use Rattle.format.specs.Questions.{none, ticks90, lastOf, spanOf, indexedSpan90k, answer}
-use Rattle.format.specs.Tables.{Table, cellsAt, clipIn, entryCells}
-use Rattle.cells.specs.Reads.{CellIs}
-use Rattle.format.proofs.Cell.{row-cell}
+use Rattle.format.specs.Tables.{Table, cellsAt, clipIn, entryCells, entrySize}
+use Rattle.entry_rows.specs.Reads.{TimeIs}
 use Rattle.ep_map_queries.specs.InMap.{entriesAt}
 use Rattle.ep_map_queries.proofs.Answers.{AsksMap}
 use Rattle.ep_map_times.specs.Ends.{endIn, endQuestion}
 
--- an entry's time by its cell
-pub time-is : (t : List ℕ) (entry : ℕ) {x : ℕ} → CellIs t (20 * entry + 8) x → record { ticks = x } ≡ entryTime (cellsAt t entryCells (4 * entryCells * entry))
-time-is t entry c =
-    ap (λ (x : ℕ). record { ticks = x }) (row-cell t entryCells (4 * entryCells * entry) 2 (lit< tt) (omega arith) (c .same))
+-- the time that was read of an entry
+pub time-is : (t : List ℕ) (entry : ℕ) {x : ℕ} → TimeIs t (entrySize * entry) x → record { ticks = x } ≡ entryTime (cellsAt t entryCells (entrySize * entry))
+time-is t entry c = ap (λ (x : ℕ). record { ticks = x }) (c .same)
 
 -- the last of rows behind a row
-last-is : (t : List ℕ) (p n : ℕ) → lastOf (entryTime (cellsAt t entryCells p)) (rowsAt (cellsAt t entryCells) (λ q. q + 4 * entryCells) (p + 20) n) ≡ entryTime (cellsAt t entryCells (p + 20 * n))
-last-is t p zero = let e : p + 20 * 0 ≡ p = omega arith in rw e
+last-is : (t : List ℕ) (p n : ℕ) → lastOf (entryTime (cellsAt t entryCells p)) (rowsAt (cellsAt t entryCells) (λ q. q + entrySize) (p + entrySize) n) ≡ entryTime (cellsAt t entryCells (p + entrySize * n))
+last-is t p zero = let e : p + entrySize * 0 ≡ p = omega arith in rw e
 last-is t p (suc n) =
-    let e : p + 20 + 20 * n ≡ p + 20 * suc n = omega arith in
-    last-is t (p + 20) n ∙ ap (λ (q : ℕ). entryTime (cellsAt t entryCells q)) e
+    let e : p + entrySize + entrySize * n ≡ p + entrySize * suc n = omega arith in
+    last-is t (p + entrySize) n ∙ ap (λ (q : ℕ). entryTime (cellsAt t entryCells q)) e
 
 module _ (t : List ℕ) (first count : ℕ) where
   -- without entries the span is 0
@@ -35,14 +32,14 @@ module _ (t : List ℕ) (first count : ℕ) where
   no-span e = rw e
 
   -- with entries, the time of the last less that of the first is the span
-  pub span-is : (count ≡ 0 → ⊥) → {last start r : Ticks90} → last ≡ entryTime (cellsAt t entryCells (4 * entryCells * (first + (count - 1))))
-      → start ≡ entryTime (cellsAt t entryCells (4 * entryCells * first)) → r ≡ less90 last start → r ≡ spanOf (entriesAt t first count)
+  pub span-is : (count ≡ 0 → ⊥) → {last start r : Ticks90} → last ≡ entryTime (cellsAt t entryCells (entrySize * (first + (count - 1))))
+      → start ≡ entryTime (cellsAt t entryCells (entrySize * first)) → r ≡ less90 last start → r ≡ spanOf (entriesAt t first count)
   unfolding spanOf
   span-is some l s r =
       let e : count ≡ suc (count - 1) = omega arith in
-      let p : 4 * entryCells * first + 20 * (count - 1) ≡ 4 * entryCells * (first + (count - 1)) = omega arith in
-      let last = last-is t (4 * entryCells * first) (count - 1) ∙ ap (λ (q : ℕ). entryTime (cellsAt t entryCells q)) p in
-      r ∙ rw (l, s) (ap (λ (x : Ticks90). less90 x (entryTime (cellsAt t entryCells (4 * entryCells * first)))) (sym last)) ∙ ap (λ (n : ℕ). spanOf (entriesAt t first n)) (sym e)
+      let p : entrySize * first + entrySize * (count - 1) ≡ entrySize * (first + (count - 1)) = omega arith in
+      let last = last-is t (entrySize * first) (count - 1) ∙ ap (λ (q : ℕ). entryTime (cellsAt t entryCells q)) p in
+      r ∙ rw (l, s) (ap (λ (x : Ticks90). less90 x (entryTime (cellsAt t entryCells (entrySize * first)))) (sym last)) ∙ ap (λ (n : ℕ). spanOf (entriesAt t first n)) (sym e)
 
   -- ---- one end alone
 
@@ -52,16 +49,16 @@ module _ (t : List ℕ) (first count : ℕ) where
   no-end false e = rw e
 
   -- the time of the last entry, where the last is asked for
-  pub last-end : (side : Bool) → side ≡ true → (count ≡ 0 → ⊥) → {last : Ticks90} → last ≡ entryTime (cellsAt t entryCells (4 * entryCells * (first + (count - 1)))) → ticks90 last ≡ endIn side (entriesAt t first count)
+  pub last-end : (side : Bool) → side ≡ true → (count ≡ 0 → ⊥) → {last : Ticks90} → last ≡ entryTime (cellsAt t entryCells (entrySize * (first + (count - 1)))) → ticks90 last ≡ endIn side (entriesAt t first count)
   last-end false e some l = let z : _≡_ {A = ℕ} 0 1 = cc in absurd (omega arith)
   last-end true o some l =
       let e : count ≡ suc (count - 1) = omega arith in
-      let p : 4 * entryCells * first + 20 * (count - 1) ≡ 4 * entryCells * (first + (count - 1)) = omega arith in
-      let last = last-is t (4 * entryCells * first) (count - 1) ∙ ap (λ (q : ℕ). entryTime (cellsAt t entryCells q)) p in
+      let p : entrySize * first + entrySize * (count - 1) ≡ entrySize * (first + (count - 1)) = omega arith in
+      let last = last-is t (entrySize * first) (count - 1) ∙ ap (λ (q : ℕ). entryTime (cellsAt t entryCells q)) p in
       ap (λ (x : Ticks90). ticks90 x) (l ∙ sym last) ∙ ap (λ (n : ℕ). endIn true (entriesAt t first n)) (sym e)
 
   -- the time of the first entry, where the first is asked for
-  pub first-end : (side : Bool) → side ≡ false → (count ≡ 0 → ⊥) → {start : Ticks90} → start ≡ entryTime (cellsAt t entryCells (4 * entryCells * first)) → ticks90 start ≡ endIn side (entriesAt t first count)
+  pub first-end : (side : Bool) → side ≡ false → (count ≡ 0 → ⊥) → {start : Ticks90} → start ≡ entryTime (cellsAt t entryCells (entrySize * first)) → ticks90 start ≡ endIn side (entriesAt t first count)
   first-end true e some s = let z : _≡_ {A = ℕ} 0 1 = cc in absurd (omega arith)
   first-end false o some s =
       let e : count ≡ suc (count - 1) = omega arith in

@@ -4,13 +4,14 @@ ghost use Prim.Native.Nat.{_+_, _*_, _≤_};
 ghost use lib.ListN.{length};
 ghost use Rattle.format.specs.ClipRecord.{entryTime};
 ghost use Rattle.format.specs.Questions.{ask, indexedSpan90k, spanOf, firstPts, lastPts};
-ghost use Rattle.format.specs.Tables.{cellsAt, entryCells};
+ghost use Rattle.format.specs.Tables.{cellsAt, entryCells, entrySize};
 ghost use Rattle.ticks.specs.Times.{as90};
 ghost use Rattle.queries.specs.Answers.{time90Of};
 ghost use Rattle.queries.specs.Asked.{stated, mapsAndEntries};
 ghost use Rattle.ep_map_queries.specs.InMap.{entriesAt};
 ghost use Rattle.ep_map_times.specs.Ends.{endIn, endQuestion};
-use cells::cell_at;
+use entry_rows::SIZE;
+use entry_rows::time_at;
 use ep_map_queries::own::entries_of_map;
 use queries::Time90;
 use table_rows::own::Own;
@@ -18,15 +19,15 @@ use ticks::Ticks90;
 
 // The time of the entry with this number.
 fn time_of(entries: &[u8], entry: u64) -> Ticks90
-    requires { ⌜ 20 * (entry + 1) ≤ length (now entries) ⌝ }
-    ensures { λ r. ⌜ as90 r ≡ entryTime (cellsAt (now (entries .entry)) entryCells (4 * entryCells * entry)) ⌝ }
+    requires { ⌜ entrySize * (entry + 1) ≤ length (now entries) ⌝ }
+    ensures { λ r. ⌜ as90 r ≡ entryTime (cellsAt (now (entries .entry)) entryCells (entrySize * entry)) ⌝ }
 {
-    Ticks90(cell_at(entries, 20 * (entry as usize) + 8) as u64)
+    Ticks90(time_at(entries, SIZE * (entry as usize)))
 }
 
 // The last time of some entries less the first, not below 0; 0 without any.
 fn span(entries: &[u8], first: u64, count: u32) -> Ticks90
-    requires { ⌜ 20 * (first + count) ≤ length (now entries) ⌝ }
+    requires { ⌜ entrySize * (first + count) ≤ length (now entries) ⌝ }
     ensures { λ r. ⌜ as90 r ≡ spanOf (entriesAt (now (entries .entry)) first count) ⌝ }
 {
     if count == 0 {
@@ -54,7 +55,7 @@ pub fn indexed_span_90k(
 
 // The last time of some entries, or the first; nothing without any.
 fn end_time(entries: &[u8], first: u64, count: u32, is_last: bool) -> Time90
-    requires { ⌜ 20 * (first + count) ≤ length (now entries) ⌝ }
+    requires { ⌜ entrySize * (first + count) ≤ length (now entries) ⌝ }
     ensures { λ r. ⌜ time90Of r ≡ endIn «is_last» (entriesAt (now (entries .entry)) first count) ⌝ }
 {
     if count == 0 {

@@ -95,11 +95,11 @@ pub fn fine_row_word(f: FineRow) -> u32
 }
 
 // The coarse time at bit 19 or the fine time at bit 9: bit 19 is shared.
-pub fn entry_time(coarse: u32, fine: u32) -> u32
+pub fn entry_time(coarse: u32, fine: u32) -> u64
     requires { ⌜ fine < 2 ^ 11 ⌝ }
     ensures { λ r. ⌜ r ≡ joinTime coarse fine ⌝ }
 {
-    (coarse << 19) | (fine << 9)
+    ((coarse << 19) | (fine << 9)) as u64
 }
 
 // The coarse packet with its 17 lowest bits replaced by the fine packet.
@@ -110,18 +110,19 @@ pub fn entry_packet(coarse: u32, fine: u32) -> u32
     (coarse & 0xfffe0000) | fine
 }
 
-// The coarse time of an entry.
-pub fn coarse_time_of(time: u32) -> u32
+// The coarse time of an entry, which has 14 bits.
+pub fn coarse_time_of(time: u64) -> u32
+    requires { ⌜ time < 2 ^ 33 ⌝ }
     ensures { λ r. ⌜ r ≡ time / 524288 ⌝ }
 {
-    time >> 19
+    (time / 524288) as u32
 }
 
 // The fine time of an entry.
-pub fn fine_time_of(time: u32) -> u32
+pub fn fine_time_of(time: u64) -> u32
     ensures { λ r. ⌜ r ≡ time / 512 % 2048 ⌝ }
 {
-    (time >> 9) & 0x7ff
+    (time / 512 % 2048) as u32
 }
 
 // The fine packet of an entry.

@@ -36,12 +36,12 @@ three a b c ha hb hc = more ha (more hb (more hc none))
 rows-shaped : (ws : List ℕ) → All (λ w. w ≤ 32) ws → {rows : List Row} → All (Fit ws) rows → All (Cells (length ws)) rows
 rows-shaped ws h rs = all-map (λ row f. fit-cells h f) rs
 
--- the entries of good maps have five cells of 32 bits each
+-- the entries of good maps have six cells of 32 bits each
 entries-shaped : {most : ℕ} {ms es : List Row} → Maps most ms es → All (Cells entryCells) es
 entries-shaped Maps.none = none
 entries-shaped (Maps.more g size good few later) =
     all-append
-    (all-map (λ e h. fit-cells (more (lit≤ tt) (more (lit≤ tt) (more (lit≤ tt) (more (lit≤ tt) (more (lit≤ tt) none))))) (h .cells)) good)
+    (all-map (λ e h. fit-cells (more (lit≤ tt) (more (lit≤ tt) (more (lit≤ tt) (more (lit≤ tt) (more (lit≤ tt) (more (lit≤ tt) none)))))) (h .cells)) good)
     (entries-shaped later)
 
 -- so with the rows of all six tables

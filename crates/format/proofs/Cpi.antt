@@ -11,6 +11,7 @@ use borrow.Author.Tests.{lt-ltb, le-leb, ne-eqb}
 use Rattle.format.specs.Bytes.{both, pick, every, beAt, bytesOf, fieldBytes, unpacked, packed, fits, rowsAt, gather, flat}
 use Rattle.format.specs.ClipRecord.{Row, mapType, entryCount, present}
 use Rattle.format.specs.EntryPoints.{coarseWidths, coarseAt, nextCoarse, fineWidths, fineAt, nextFine, headerWidths, mapTypeAt, coarseCountAt, fineCountAt, mapAt, nextMap, entriesOf, cpiEnd, hasMaps, mapCount, mapsFrom, entriesFrom, cpiIn, mapIn, mapsIn}
+use Rattle.format.specs.Refusals.{entryBits}
 use Rattle.format.specs.Rewriting.{sameRun, coarseRow, unlessSame, coarseAfter, coarseRows, runs, coarseBytes, fineRow, fineBytes, bodyBytes, bodies, headerBytes, headers, cpiBytesBy}
 use Rattle.format.proofs.Fields.{Fit, fit, packed-below, unpack, one}
 use Rattle.format.proofs.Good.{GoodMap, Maps, none, more}
@@ -27,9 +28,9 @@ abbrev pub GoodCoarse : Row → Type 0
 GoodCoarse = Fit coarseWidths
 
 -- the coarse row of an entry fits, where the number of the entry has 18 bits
-row-good : (type k : ℕ) (x : Row) → k < 2 ^ 18 → Fit (1 ∷ 3 ∷ 32 ∷ 32 ∷ 4 ∷ []) x → GoodCoarse (coarseRow k x)
-row-good type k x h (one ha (one hi (one {v = t} ht (one {v = p} hp (one hy Fit.none))))) =
-    fit 18 k h (fit 14 (t / 524288) (omega arith) (fit 32 p hp Fit.none))
+row-good : (type k : ℕ) (x : Row) → k < 2 ^ 18 → Fit entryBits x → GoodCoarse (coarseRow k x)
+row-good type k x h (one ha (one hi (one {v = t} ht (one {v = u} hu (one {v = p} hp (one hy Fit.none)))))) =
+    fit 18 k h (fit 14 ((t + u * 2 ^ 32) / 524288) (omega arith) (fit 32 p hp Fit.none))
 
 -- so with the coarse rows of the entries behind e, where the number of the last has 18 bits
 after-good : (type : ℕ) (e : Row) (k : ℕ) {xs : List Row} → All (GoodEntry type) xs → k + length xs ≤ 2 ^ 18 → All GoodCoarse (coarseAfter e k xs)
@@ -60,9 +61,9 @@ abbrev pub GoodFine : Row → Type 0
 GoodFine = Fit fineWidths
 
 -- the fine row of an entry whose cells fit has cells that fit
-one-fine : (e : Row) → Fit (1 ∷ 3 ∷ 32 ∷ 32 ∷ 4 ∷ []) e → GoodFine (fineRow e)
-one-fine e (one {v = a} ha (one {v = i} hi (one {v = t} ht (one {v = p} hp (one hy Fit.none))))) =
-    fit 1 a ha (fit 3 i hi (fit 11 (t / 512 % 2048) (omega arith) (fit 17 (p % 131072) (omega arith) Fit.none)))
+one-fine : (e : Row) → Fit entryBits e → GoodFine (fineRow e)
+one-fine e (one {v = a} ha (one {v = i} hi (one {v = t} ht (one {v = u} hu (one {v = p} hp (one hy Fit.none)))))) =
+    fit 1 a ha (fit 3 i hi (fit 11 ((t + u * 2 ^ 32) / 512 % 2048) (omega arith) (fit 17 (p % 131072) (omega arith) Fit.none)))
 
 -- so with the fine rows of a map's entries
 pub fines-good : (type : ℕ) {es : List Row} → All (GoodEntry type) es → All GoodFine (finesOf es)

@@ -150,6 +150,14 @@ time-back t h m =
     time-is (t / 524288) (t / 512 % 2048) (omega arith)
     ∙ rw (c, a, b, d) (halves (t / 512 / 1024) (t / 512 % 1024) ∙ omega arith)
 
+-- a time is its two cells
+pub time-cells : (t : ℕ) → t % 2 ^ 32 + t / 2 ^ 32 * 2 ^ 32 ≡ t
+time-cells t = omega arith
+
+-- a time of 32 bits is its lower cell, and its upper cell is 0
+pub narrow-cells : (t : ℕ) → t < 2 ^ 32 → (t % 2 ^ 32 ≡ t) × (t / 2 ^ 32 ≡ 0)
+narrow-cells t h = (omega arith, omega arith)
+
 -- a packet's low bits under any packet with the same high bits
 pub packet-back : (c p : ℕ) → c / 131072 ≡ p / 131072 → joinPacket c (p % 131072) ≡ p
 unfolding joinPacket

@@ -1,5 +1,5 @@
 -- Runs, coarse rows, fine rows: joined by the stepping rule they give the entries back.
-use Prim.Native.Nat.{ℕ, suc, _/_, _%_, _<_, _≤_}
+use Prim.Native.Nat.{ℕ, suc, _+_, _*_, _/_, _%_, _^_, _<_, _≤_}
 use mathlib.Core.Path.{_≡_, refl, ap₂, _∙_}
 use mathlib.Core.List.{List, [], _∷_}
 use mathlib.Core.Bool.{Bool, true, false}
@@ -9,6 +9,7 @@ use lib.ListN.{getD}
 use borrow.Author.Tests.{le-leb, lt-leb, eqb-true}
 use Rattle.format.specs.ClipRecord.{Row, time, entryType}
 use Rattle.format.specs.EntryPoints.{coarseTime, coarsePacket, entryOf, stepOn, coarseFor, entriesFor}
+use Rattle.format.specs.Refusals.{entryBits}
 use Rattle.format.specs.Rewriting.{timeKey, packetKey, sameRun, coarseRow, unlessSame, coarseAfter, coarseRows, fineRow}
 use Rattle.format.proofs.Fields.{Fit, time-back, packet-back, one}
 use Rattle.format.proofs.Lists.{All, none, more}
@@ -39,14 +40,18 @@ record Covers (c e : Row) : Type 0 where
 
 -- an entry of a map of this type
 pub record GoodEntry (type : ℕ) (e : Row) : Type 0 where
-  pub cells : Fit (1 ∷ 3 ∷ 32 ∷ 32 ∷ 4 ∷ []) e
+  pub cells : Fit entryBits e
   pub step : time e % 512 ≡ 0
   pub type-same : entryType e ≡ type
 
 -- an entry whose time is a multiple of 512 comes back from its fine row and any coarse row with its key
-joined-by : (type : ℕ) (c e : Row) → Fit (1 ∷ 3 ∷ 32 ∷ 32 ∷ 4 ∷ []) e → time e % 512 ≡ 0 → entryType e ≡ type → Covers c e → entryOf type c (fineRow e) ≡ e
-joined-by type c e (one {v = a} ha (one {v = i} hi (one {v = t} ht (one {v = p} hp (one {v = y} hy Fit.none))))) m ts k =
-    rw (k .same-time, time-back t ht m, packet-back (getD c 2 0) p (k .same-packet), ts)
+joined-by : (type : ℕ) (c e : Row) → Fit entryBits e → time e % 512 ≡ 0 → entryType e ≡ type → Covers c e → entryOf type c (fineRow e) ≡ e
+joined-by type c e (one {v = a} ha (one {v = i} hi (one {v = t} ht (one {v = u} hu (one {v = p} hp (one {v = y} hy Fit.none)))))) m ts k =
+    let none : u ≡ 0 = omega arith in
+    let below : t + u * 2 ^ 32 < 2 ^ 32 = omega arith in
+    let low : (t + u * 2 ^ 32) % 2 ^ 32 ≡ t = omega arith in
+    let high : (t + u * 2 ^ 32) / 2 ^ 32 ≡ u = omega arith in
+    rw (k .same-time, time-back (t + u * 2 ^ 32) below m, low, high, packet-back (getD c 2 0) p (k .same-packet), ts)
 
 module _ (type : ℕ) (whole : List Row) where
   -- from entry k on: the rule reaches, for every j from k on, what it reaches from row c

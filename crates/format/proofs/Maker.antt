@@ -10,7 +10,7 @@ use lib.Dec.{leb}
 use borrow.Author.Tests.{eqb-true, leb-true}
 use Rattle.format.specs.Bytes.{every, unless, fits, total}
 use Rattle.format.specs.ClipRecord.{Row, Clip, atcStcCount, streamCount, mapType, entryCount, time, entryType}
-use Rattle.format.specs.Refusals.{countsAdd, streamFits, entryFits, everyMap, cellsFit, runsFit, writeRefusal}
+use Rattle.format.specs.Refusals.{countsAdd, streamFits, entryBits, entryFits, everyMap, cellsFit, runsFit, writeRefusal}
 use Rattle.format.specs.Rewriting.{runs}
 use Rattle.format.proofs.Fields.{Fit, fits-fit}
 use Rattle.format.proofs.Good.{GoodStream, Maps, GoodClip}
@@ -26,7 +26,7 @@ entry-made type e h =
     let a = both-true h in
     let b = both-true (a .1) in
     record {
-      cells = fits-fit (1 ∷ 3 ∷ 32 ∷ 32 ∷ 4 ∷ []) e (a .0);
+      cells = fits-fit entryBits e (a .0);
       step = eqb-true (time e % 512) 0 (b .0);
       type-same = eqb-true (entryType e) type (b .1);
     }

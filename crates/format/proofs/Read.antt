@@ -15,7 +15,7 @@ use Rattle.format.specs.Programs.{isVideo, lower, lowered, codingAt, for
 use Rattle.format.specs.Reading.{clipOf}
 use Rattle.format.specs.Refusals.{everyMap, runsFit}
 use Rattle.format.specs.Rewriting.{sameRun, coarseRow, unlessSame, coarseAfter, runs}
-use Rattle.format.proofs.Fields.{Fit, fit, time-is}
+use Rattle.format.proofs.Fields.{Fit, fit, time-is, time-cells}
 use Rattle.format.proofs.Good.{GoodAtc, GoodStc, GoodProgram, GoodStream, GoodMap, Maps, GoodClip, none, more}
 use Rattle.format.proofs.Join.{GoodEntry}
 use Rattle.format.proofs.Lists.{All, none, more}
@@ -85,7 +85,7 @@ coarse-packet none k = lit< tt
 coarse-packet (more {x = c} h hs) k = reach-all {P = HasPacket} c h hs k
 
 -- a time joined with a fine time of 11 bits has 32 bits and is a multiple of 512
-time-facts : (c t : ℕ) → t < 2048 → (joinTime c t < 2 ^ 32) × (joinTime c t % 512 ≡ 0)
+pub time-facts : (c t : ℕ) → t < 2048 → (joinTime c t < 2 ^ 32) × (joinTime c t % 512 ≡ 0)
 time-facts c t h = rw (time-is c t h) (go (c % 8192 / 2) (c % 2) (t / 1024) (t % 1024) (omega arith) (omega arith) (omega arith) (omega arith))
   where
     go : (a b d e : ℕ) → a < 4096 → b < 2 → d < 2 → e < 1024
@@ -101,11 +101,12 @@ packet-facts c p h k = omega arith
 entry-good : (type : ℕ) (c x : Row) → type < 2 ^ 4 → HasPacket c → getD x 0 0 < 2 → getD x 1 0 < 8 → getD x 2 0 < 2048 → getD x 3 0 < 2 ^ 17
     → GoodEntry type (entryOf type c x)
 entry-good type c x ht hc h0 h1 h2 h3 =
+    let j = joinTime (getD c 1 0) (getD x 2 0) in
     let t = time-facts (getD c 1 0) (getD x 2 0) h2 in
     record {
-      cells = fit 1 (getD x 0 0) h0 (fit 3 (getD x 1 0) h1 (fit 32 (joinTime (getD c 1 0) (getD x 2 0)) (t .0)
-          (fit 32 (joinPacket (getD c 2 0) (getD x 3 0)) (packet-facts (getD c 2 0) (getD x 3 0) hc h3) (fit 4 type ht Fit.none))));
-      step = t .1;
+      cells = fit 1 (getD x 0 0) h0 (fit 3 (getD x 1 0) h1 (fit 32 (j % 2 ^ 32) (omega arith) (fit 0 (j / 2 ^ 32) (omega (arith, t .0))
+          (fit 32 (joinPacket (getD c 2 0) (getD x 3 0)) (packet-facts (getD c 2 0) (getD x 3 0) hc h3) (fit 4 type ht Fit.none)))));
+      step = rw (time-cells j) (t .1);
       type-same = refl;
     }
 

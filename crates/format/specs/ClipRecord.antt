@@ -1,5 +1,5 @@
 -- "The clip record": what a record is, the header, ClipInfo, the sequences and the marks.
-use Prim.Native.Nat.{ℕ, _+_}
+use Prim.Native.Nat.{ℕ, _+_, _*_, _/_, _%_, _^_}
 use mathlib.Core.List.{List, [], _∷_}
 use mathlib.Core.Bool.{Bool, true, not}
 use lib.ListN.{length, getD}
@@ -31,7 +31,7 @@ pub record Clip : Type 0 where
   pub programs : List Row  -- table 3: packet, PID, stream count
   pub streams : List Row  -- table 4: PID, coding type, format, aspect, language (first byte highest, 0 is none)
   pub maps : List Row  -- table 5: PID, type, entry count
-  pub entries : List Row  -- table 6: angle, I-end, time (90 kHz), packet, type
+  pub entries : List Row  -- table 6: angle, I-end, time (90 kHz; 64 bits), packet, type
 
 -- an extension row counts by its ids and its data's bytes, not by their place
 pub record Extension : Type 0 where
@@ -102,19 +102,23 @@ angle entry = getD entry 0 0
 abbrev pub iEnd : Row → ℕ
 iEnd entry = getD entry 1 0
 
--- an entry's time as the cell that is read and written, and as what it counts
+-- an entry of these five numbers. Its time is the one number of a table that has 64 bits: two cells, its low 32 bits in the first
+abbrev pub entryRow : (angle iEnd time packet type : ℕ) → Row
+entryRow a i t p y = a ∷ i ∷ t % 2 ^ 32 ∷ t / 2 ^ 32 ∷ p ∷ y ∷ []
+
+-- an entry's time as the number that is read and written, and as what it counts
 abbrev pub time : Row → ℕ
-time entry = getD entry 2 0
+time entry = getD entry 2 0 + getD entry 3 0 * 2 ^ 32
 
 abbrev pub entryTime : Row → Ticks90
 entryTime entry = record { ticks = time entry }
 
 -- an entry's last two cells: its packet, and its type, which is to be its map's
 abbrev pub packet : Row → ℕ
-packet entry = getD entry 3 0
+packet entry = getD entry 4 0
 
 abbrev pub entryType : Row → ℕ
-entryType entry = getD entry 4 0
+entryType entry = getD entry 5 0
 
 -- ---- the header: letters, version, five starts
 

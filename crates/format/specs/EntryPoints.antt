@@ -6,7 +6,7 @@ use lib.ListN.{length, getD}
 use lib.Bits.{bitOr}
 use lib.Dec.{leb, ltb, eqb}
 use Rattle.format.specs.Bytes.{both, pick, every, beAt, unpacked, rowsAt, gather}
-use Rattle.format.specs.ClipRecord.{Row, present}
+use Rattle.format.specs.ClipRecord.{Row, entryRow, present}
 
 -- ---- rows of a map
 
@@ -60,7 +60,7 @@ joinPacket coarse fine = coarse / 2 ^ 17 * 2 ^ 17 + fine
 -- an entry of a map of this type: angle, I-end, time, packet, type
 abbrev pub entryOf : ℕ → Row → Row → Row
 entryOf type coarse fine =
-    getD fine 0 0 ∷ getD fine 1 0 ∷ joinTime (coarseTime coarse) (fineTime fine) ∷ joinPacket (coarsePacket coarse) (finePacket fine) ∷ type ∷ []
+    entryRow (getD fine 0 0) (getD fine 1 0) (joinTime (coarseTime coarse) (fineTime fine)) (joinPacket (coarsePacket coarse) (finePacket fine)) type
 
 -- from coarse row c, with `behind` behind it: step on while the next one's first fine row is at most k
 abbrev pub stepOn : Row → List Row → ℕ → Row

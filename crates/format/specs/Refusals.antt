@@ -204,9 +204,13 @@ streamFits s =
 abbrev pub mapFits : Row → Bool
 mapFits = fits (16 ∷ 4 ∷ 18 ∷ [])
 
--- angle; I-end at most 7; time, packet, type. The time is a multiple of 512, the type its map's
+-- angle; I-end at most 7; time, of which the upper cell has no bits; packet, type
+abbrev pub entryBits : List ℕ
+entryBits = 1 ∷ 3 ∷ 32 ∷ 0 ∷ 32 ∷ 4 ∷ []
+
+-- its cells fit, the time is a multiple of 512, the type its map's
 abbrev pub entryFits : ℕ → Row → Bool
-entryFits type e = both (fits (1 ∷ 3 ∷ 32 ∷ 32 ∷ 4 ∷ []) e) (both (eqb (time e % 512) 0) (eqb (entryType e) type))
+entryFits type e = both (fits entryBits e) (both (eqb (time e % 512) 0) (eqb (entryType e) type))
 
 -- a test of each map with its own entries
 abbrev pub everyMap : (Row → List Row → Bool) → List Row → List Row → Bool

@@ -71,7 +71,11 @@ abbrev pub mapCells : ℕ
 mapCells = 3
 
 abbrev pub entryCells : ℕ
-entryCells = 5
+entryCells = 6
+
+-- the bytes of an entry's row
+abbrev pub entrySize : ℕ
+entrySize = 4 * entryCells
 
 abbrev pub extensionCells : ℕ
 extensionCells = 4

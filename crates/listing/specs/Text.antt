@@ -1,11 +1,11 @@
 -- The text of a record in its numbers and rows, at the front of a lent output.
-use Prim.Native.Nat.{ℕ, _+_, _*_, _≤_}
+use Prim.Native.Nat.{ℕ, _+_, _*_, _^_, _≤_, _<_}
 use mathlib.Core.Path.{_≡_}
 use mathlib.Core.List.{List, [], _∷_, _++_}
 use lib.ListN.{length}
-use Rattle.format.specs.ClipRecord.{Row, Record, entryCount}
+use Rattle.format.specs.ClipRecord.{Row, Record, entryCount, time}
 use Rattle.format.specs.Bytes.{rowsAt, total}
-use Rattle.format.specs.Tables.{cellsAt, tableRows, rowRoom, overwritten, mapCells, entryCells}
+use Rattle.format.specs.Tables.{cellsAt, tableRows, rowRoom, overwritten, mapCells, entryCells, entrySize}
 use Rattle.format.specs.Listing.{line, clipWord, seqWord, progWord, markWord, mapLines}
 
 -- the first r bytes of e are the text s, and what stands beyond them is what d had
@@ -19,7 +19,11 @@ abbrev pub mapsFrom : List ℕ → ℕ → ℕ → List Row
 mapsFrom t p n = rowsAt (cellsAt t mapCells) (λ q. q + 4 * mapCells) p n
 
 abbrev pub entriesFrom : List ℕ → ℕ → ℕ → List Row
-entriesFrom t p n = rowsAt (cellsAt t entryCells) (λ q. q + 4 * entryCells) p n
+entriesFrom t p n = rowsAt (cellsAt t entryCells) (λ q. q + entrySize) p n
+
+-- their times have 32 bits each, as those of a file do: a line has room for ten digits
+pub record TimesFit (t : List ℕ) (p n : ℕ) : Type 0 where
+  pub narrow : (k : ℕ) → k < n → time (cellsAt t entryCells (p + entrySize * k)) < 2 ^ 32
 
 -- the numbers of a record that its text shows beside its maps and entries
 pub record Numbers : Type 0 where
@@ -73,9 +77,10 @@ recordRoom n m = 118 + 37 * n + 25 * m
 abbrev pub refusalRoom : ℕ
 refusalRoom = 30
 
--- what a caller shows: the stated rows are lent, the maps have no more entries than stated, and the output is long enough
+-- what a caller shows: the stated rows are lent, the maps have no more entries than stated, the times fit their lines, and the output is long enough
 pub record Listable (maps : List ℕ) (n : ℕ) (entries : List ℕ) (m : ℕ) (out : List ℕ) : Type 0 where
   pub mapRows : n ≤ rowRoom mapCells maps
   pub entryRows : m ≤ rowRoom entryCells entries
   pub counts : total entryCount (tableRows mapCells maps n) ≤ m
+  pub timesFit : TimesFit entries 0 m
   pub room : recordRoom n m ≤ length out

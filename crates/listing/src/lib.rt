@@ -1,30 +1,33 @@
 // The listing's text, into an output that the caller lends: the lines of a record, and of a refusal.
 ghost use mathlib.Core.List.{[], _∷_};
-ghost use Prim.Native.Nat.{_+_, _*_, _≤_};
+ghost use Prim.Native.Nat.{_+_, _*_, _^_, _≤_, _<_};
 ghost use lib.ListN.{length};
 ghost use Rattle.format.specs.Bytes.{flat, total};
-ghost use Rattle.format.specs.ClipRecord.{entryCount};
-ghost use Rattle.format.specs.Tables.{tableRows, cellsAt, rowRoom, mapCells, entryCells};
+ghost use Rattle.format.specs.ClipRecord.{entryCount, time};
+ghost use Rattle.format.specs.Tables.{tableRows, cellsAt, rowRoom, mapCells, entryCells, entrySize};
 ghost use Rattle.format.specs.Listing.{line, refusedWord, epLine, mapLine, mapLines};
 ghost use Rattle.text_lines.specs.Stored.{WroteIn};
-ghost use Rattle.listing.specs.Text.{Shows, Listable, mapsFrom, entriesFrom, numbers, recordText, refusalRoom};
+ghost use Rattle.listing.specs.Text.{Shows, Listable, mapsFrom, entriesFrom, TimesFit, numbers, recordText, refusalRoom};
 use cells::cell_at;
+use entry_rows::SIZE;
+use entry_rows::packet_at;
+use entry_rows::time_at;
 use text_lines::put_line;
 
 // Stores the line of the entry whose row stands at `row`.
 fn put_entry(out: &mut [u8], at: usize, entries: &[u8], row: usize) -> usize
-    requires { ⌜ (row + 20 ≤ length (now entries)) × (at + 25 ≤ length (now out)) ⌝ }
+    requires { ⌜ (row + entrySize ≤ length (now entries)) × (time (cellsAt (now entries) entryCells row) < 2 ^ 32) × (at + 25 ≤ length (now out)) ⌝ }
     ensures { λ r. ⌜ WroteIn 25 (now (out .entry)) at (epLine (cellsAt (now (entries .entry)) entryCells row)) r (now (out .exit)) ⌝ }
 {
-    let time = cell_at(entries, row + 8);
-    let packet = cell_at(entries, row + 12);
+    let time = time_at(entries, row) as u32;
+    let packet = packet_at(entries, row);
     let numbers = [time, packet];
     put_line(out, at, b"ep", &numbers)
 }
 
 // Stores the lines of `count` entries from the row at `row`.
 fn put_entries(out: &mut [u8], at: usize, entries: &[u8], row: usize, count: u32) -> usize
-    requires { ⌜ (row + 20 * count ≤ length (now entries)) × (at + 25 * count ≤ length (now out)) ⌝ }
+    requires { ⌜ (row + entrySize * count ≤ length (now entries)) × (at + 25 * count ≤ length (now out)) × TimesFit (now entries) row count ⌝ }
     ensures { λ r. ⌜ WroteIn (25 * count) (now (out .entry)) at (flat epLine (entriesFrom (now (entries .entry)) row count)) r (now (out .exit)) ⌝ }
 {
     let mut p = at;
@@ -32,7 +35,7 @@ fn put_entries(out: &mut [u8], at: usize, entries: &[u8], row: usize, count: u32
     let mut i = 0;
     while i < count {
         p = put_entry(out, p, entries, q);
-        q += 20;
+        q += SIZE;
         i += 1;
     }
     p
@@ -52,7 +55,7 @@ fn put_map(out: &mut [u8], at: usize, maps: &[u8], row: usize) -> usize
 
 // Stores each map's line with those of its own entries behind it.
 fn put_maps(out: &mut [u8], at: usize, maps: &[u8], n: u32, entries: &[u8], m: u32) -> usize
-    requires { ⌜ (n ≤ rowRoom mapCells (now maps)) × (m ≤ rowRoom entryCells (now entries)) × (total entryCount (mapsFrom (now maps) 0 n) ≤ m) × (at + (37 * n + 25 * m) ≤ length (now out)) ⌝ }
+    requires { ⌜ (n ≤ rowRoom mapCells (now maps)) × (m ≤ rowRoom entryCells (now entries)) × (total entryCount (mapsFrom (now maps) 0 n) ≤ m) × (at + (37 * n + 25 * m) ≤ length (now out)) × TimesFit (now entries) 0 m ⌝ }
     ensures { λ r. ⌜ WroteIn (37 * n + 25 * m) (now (out .entry)) at (mapLines (mapsFrom (now (maps .entry)) 0 n) (entriesFrom (now (entries .entry)) 0 m)) r (now (out .exit)) ⌝ }
 {
     let mut p = at;
@@ -62,7 +65,7 @@ fn put_maps(out: &mut [u8], at: usize, maps: &[u8], n: u32, entries: &[u8], m: u
     while i < n {
         let count = cell_at(maps, q + 8);
         let behind = put_map(out, p, maps, q);
-        p = put_entries(out, behind, entries, k * 20, count);
+        p = put_entries(out, behind, entries, SIZE * k, count);
         k += count as usize;
         q += 12;
         i += 1;

@@ -7,12 +7,12 @@ use lib.ListN.{length, set}
 use lib.Seq.{sets, set-comm}
 use Rattle.format.specs.Bytes.{bytesOf, fieldBytes, packed}
 use Rattle.format.specs.EntryPoints.{headerWidths, coarseWidths, fineWidths}
-use Rattle.format.specs.Rewriting.{coarseRow, coarseBytes, fineRow, fineBytes}
+use Rattle.format.specs.Rewriting.{coarseBytes}
 use Rattle.format.proofs.Fields.{Fit, fit}
 use Rattle.format.proofs.Stores.{sets-append, field-then, field-last, bytes-parts, bytes-low}
 use Rattle.bits.specs.Words.{lowBits}
 use Rattle.bits.proofs.Laws.{low-same}
-use Rattle.runs.specs.Runs.{keyed}
+use Rattle.runs.specs.Runs.{coarseBy, fineBy}
 
 -- ---- stores
 
@@ -59,20 +59,20 @@ header-stored o at pid kind coarse fine address {word} {t} {t′} a b c w p q r 
     (field-last t′ (at + 8) 4 address r))
 
 -- a coarse row of which the number fits
-pub coarse-stored : (o : List ℕ) (at first time packet : ℕ) {key word : ℕ} {t : List ℕ} → first < 2 ^ 18 → time < 2 ^ 32 → packet < 2 ^ 32
+pub coarse-stored : (o : List ℕ) (at first time packet : ℕ) {key word : ℕ} {t : List ℕ} → first < 2 ^ 18 → time < 2 ^ 33 → packet < 2 ^ 32
     → key ≡ time / 524288 → word ≡ packed coarseWidths (lowBits coarseWidths (first ∷ key ∷ packet ∷ []))
-    → t ≡ sets o at (bytesOf 8 word) → t ≡ sets o at (coarseBytes (coarseRow first (keyed time packet)))
+    → t ≡ sets o at (bytesOf 8 word) → t ≡ sets o at (coarseBytes (coarseBy first time packet))
 coarse-stored o at first time packet {key} a b c k w p =
     let f = fit 18 first a (fit 14 key (omega arith) (fit 32 packet c Fit.none)) in
-    let row : first ∷ key ∷ packet ∷ [] ≡ coarseRow first (keyed time packet) = rw k in
+    let row : first ∷ key ∷ packet ∷ [] ≡ coarseBy first time packet = rw k in
     p ∙ ap (λ (v : ℕ). sets o at (bytesOf 8 v)) (w ∙ ap (packed coarseWidths) (low-same f ∙ row))
 
 -- a fine row of which angle and I-end fit
 pub fine-stored : (o : List ℕ) (at angle end time packet : ℕ) {low-time low-packet word : ℕ} {t : List ℕ} → angle < 2 ^ 1 → end < 2 ^ 3
     → low-time ≡ time / 512 % 2048 → low-packet ≡ packet % 131072
     → word ≡ packed fineWidths (lowBits fineWidths (angle ∷ end ∷ low-time ∷ low-packet ∷ []))
-    → t ≡ sets o at (bytesOf 4 word) → t ≡ sets o at (fineBytes (angle ∷ end ∷ time ∷ packet ∷ []))
+    → t ≡ sets o at (bytesOf 4 word) → t ≡ sets o at (bytesOf 4 (packed fineWidths (fineBy angle end time packet)))
 fine-stored o at angle end time packet {low-time} {low-packet} a b x y w p =
     let f = fit 1 angle a (fit 3 end b (fit 11 low-time (omega arith) (fit 17 low-packet (omega arith) Fit.none))) in
-    let row : angle ∷ end ∷ low-time ∷ low-packet ∷ [] ≡ fineRow (angle ∷ end ∷ time ∷ packet ∷ []) = rw (x, y) in
+    let row : angle ∷ end ∷ low-time ∷ low-packet ∷ [] ≡ fineBy angle end time packet = rw (x, y) in
     p ∙ ap (λ (v : ℕ). sets o at (bytesOf 4 v)) (w ∙ ap (packed fineWidths) (low-same f ∙ row))

@@ -5,9 +5,9 @@ ghost use Prim.Native.Nat.{_+_, _^_, _≤_, _<_};
 ghost use lib.ListN.{length};
 ghost use lib.Seq.{sets};
 ghost use Rattle.format.specs.Bytes.{bytesOf, fieldBytes, packed};
-ghost use Rattle.format.specs.EntryPoints.{headerWidths};
-ghost use Rattle.format.specs.Rewriting.{coarseRow, coarseBytes, fineBytes};
-ghost use Rattle.runs.specs.Runs.{keyed};
+ghost use Rattle.format.specs.EntryPoints.{headerWidths, fineWidths};
+ghost use Rattle.format.specs.Rewriting.{coarseBytes};
+ghost use Rattle.runs.specs.Runs.{coarseBy, fineBy};
 use ep_rows::CoarseRow;
 use ep_rows::FineRow;
 use ep_rows::MapHeader;
@@ -54,9 +54,9 @@ pub fn put_header(
 }
 
 // The coarse row of a run from `at`: the number of its first row, and that entry's time and full packet.
-pub fn put_coarse_row(first_fine: u32, time: u32, packet: u32, out: &mut [u8], at: usize)
-    requires { ⌜ («first_fine» < 2 ^ 18) × (at + 8 ≤ length (now out)) ⌝ }
-    ensures { λ _. ⌜ now (out .exit) ≡ sets (now (out .entry)) at (coarseBytes (coarseRow «first_fine» (keyed time packet))) ⌝ }
+pub fn put_coarse_row(first_fine: u32, time: u64, packet: u32, out: &mut [u8], at: usize)
+    requires { ⌜ («first_fine» < 2 ^ 18) × (time < 2 ^ 33) × (at + 8 ≤ length (now out)) ⌝ }
+    ensures { λ _. ⌜ now (out .exit) ≡ sets (now (out .entry)) at (coarseBytes (coarseBy «first_fine» time packet)) ⌝ }
 {
     let word = coarse_row_word(CoarseRow {
         first_fine,
@@ -67,9 +67,9 @@ pub fn put_coarse_row(first_fine: u32, time: u32, packet: u32, out: &mut [u8], a
 }
 
 // The fine row of an entry from `at`.
-pub fn put_fine_row(angle: u32, i_end: u32, time: u32, packet: u32, out: &mut [u8], at: usize)
+pub fn put_fine_row(angle: u32, i_end: u32, time: u64, packet: u32, out: &mut [u8], at: usize)
     requires { ⌜ (angle < 2 ^ 1) × («i_end» < 2 ^ 3) × (at + 4 ≤ length (now out)) ⌝ }
-    ensures { λ _. ⌜ now (out .exit) ≡ sets (now (out .entry)) at (fineBytes (angle ∷ «i_end» ∷ time ∷ packet ∷ [])) ⌝ }
+    ensures { λ _. ⌜ now (out .exit) ≡ sets (now (out .entry)) at (bytesOf 4 (packed fineWidths (fineBy angle «i_end» time packet))) ⌝ }
 {
     let word = fine_row_word(FineRow {
         angle,

@@ -1,34 +1,44 @@
 -- The loops that store the coarse rows and the fine rows of a map from the file.
-use Prim.Native.Nat.{ℕ, _+_, _*_, _<_, _≤_}
+use Prim.Native.Nat.{ℕ, _+_, _*_, _^_, _<_, _≤_}
 use mathlib.Core.Path.{_≡_, refl, ap, _∙_}
 use mathlib.Core.List.{List, [], _∷_}
 use native.Mathlib.Omega.{arith}
 use lib.ListN.{length}
 use lib.Seq.{sets, length-sets}
-use Rattle.format.specs.Bytes.{packed, flat}
-use Rattle.format.specs.ClipRecord.{Row}
-use Rattle.format.specs.EntryPoints.{coarseWidths, fineWidths}
+use Rattle.format.specs.Bytes.{bytesOf, packed, flat}
+use Rattle.format.specs.ClipRecord.{Row, angle, iEnd}
+use Rattle.format.specs.EntryPoints.{coarseWidths, fineWidths, fineAt, fineTime, coarseTime, coarseFor, joinTime}
 use Rattle.format.specs.Rewriting.{coarseRow, coarseRows, runs, coarseBytes, fineRow, fineBytes}
+use Rattle.format.proofs.Fields.{time-cells}
 use Rattle.format.proofs.Loops.{put-more}
 use Rattle.format.proofs.Numbers.{bytes-length}
+use Rattle.format.proofs.Read.{time-facts}
 use Rattle.ep_entries.specs.Body.{coarseIn, entriesIn, entriesLeft, entryIn}
 use Rattle.ep_entries.specs.Entries.{rowOf}
 use Rattle.ep_entries.specs.Walks.{IsWalk}
 use Rattle.ep_entries.specs.declared.body.MapBody.{MapBody}
 use Rattle.ep_entries.specs.declared.walk.Walk.{Walk}
 use Rattle.ep_entries.proofs.Joined.{left-all, left-turn, left-done}
-use Rattle.runs.specs.Runs.{keyed, endFrom, coarseFrom}
+use Rattle.runs.specs.Runs.{coarseBy, fineBy, endFrom, coarseFrom}
 use Rattle.runs.proofs.Runs.{coarse-all}
 use Rattle.encode_map.proofs.Bodies.{Narrow}
 use Rattle.map_runs.specs.Entries.{IsMet, IsEnd}
 use Rattle.map_runs.specs.declared.walked.Met.{Met}
 use Rattle.map_runs.specs.declared.walked.RunEnd.{RunEnd}
 use Rattle.map_runs.proofs.Entries.{next-run}
-use Rattle.map_runs.proofs.Turns.{later}
+use Rattle.map_runs.proofs.Turns.{met-time, met-packet, later}
 
--- angle and I-end of a fine row that was read are as narrow as one that is stored wants them
+-- angle, I-end and time of an entry that was read are as narrow as the rows that are stored want them
 pub met-narrow : (f : List ℕ) (m : MapBody) (k : ℕ) (r : Met) → IsMet f m k r → Narrow (rowOf (m .kind) (r .entry))
-met-narrow f m k r i = rw (i .entry-is) (record { angle-fits = omega arith; end-fits = omega arith })
+met-narrow f m k r i =
+    let coarse = coarseTime (coarseFor (coarseIn f m) k) in
+    let fine = fineTime (fineAt f (m .fine + 4 * k)) in
+    let below = time-facts coarse fine (omega arith) .0 in
+    rw (i .entry-is) (record { angle-fits = omega arith; end-fits = omega arith; time-fits = rw (time-cells (joinTime coarse fine)) (omega (arith, below)) })
+
+-- so with its time by itself
+pub met-below : (f : List ℕ) (m : MapBody) (k : ℕ) (r : Met) → IsMet f m k r → r .entry .time < 2 ^ 33
+met-below f m k r i = rw (time-cells (r .entry .time)) at (met-narrow f m k r i .time-fits)
 
 module _ (f : List ℕ) (m : MapBody) (o₀ : List ℕ) (at : ℕ) where
   -- ---- coarse rows
@@ -62,12 +72,12 @@ module _ (f : List ℕ) (m : MapBody) (o₀ : List ℕ) (at : ℕ) where
 
     -- it is stored
     pub coarse-turn : (first : Met) (r : RunEnd) {o′ : List ℕ} → IsMet f m k first → IsEnd f m k r
-        → o′ ≡ sets o to (coarseBytes (coarseRow k (keyed (first .entry .time) (first .entry .packet)))) → Coarse o′ (r .walk) (to + 8) (r .row)
+        → o′ ≡ sets o to (coarseBytes (coarseBy k (first .entry .time) (first .entry .packet))) → Coarse o′ (r .walk) (to + 8) (r .row)
     coarse-turn first r {o′ = o′} known e put =
         let next = next-run f m k (r .row) h (e .row-is) in
         let x = entryIn f m k in
         let rest = flat coarseBytes (coarseFrom (r .row) (entriesLeft f m (r .row))) in
-        let put′ : o′ ≡ sets o to (coarseBytes (coarseRow k x)) = put ∙ ap (λ (y : Row). sets o to (coarseBytes (coarseRow k y))) (known .entry-is) in
+        let put′ : o′ ≡ sets o to (coarseBytes (coarseRow k x)) = put ∙ rw (met-time f m k first known, met-packet f m k first known) in
         record {
           within = next .within;
           walk-is = e .walk-is;
@@ -85,6 +95,14 @@ module _ (f : List ℕ) (m : MapBody) (o₀ : List ℕ) (at : ℕ) where
 
   -- ---- fine rows
 
+  -- the angle that was met is the entry's
+  met-angle : (k : ℕ) (r : Met) → IsMet f m k r → r .entry .angle ≡ angle (entryIn f m k)
+  met-angle k r i = ap angle (i .entry-is)
+
+  -- so is the I-end
+  met-end : (k : ℕ) (r : Met) → IsMet f m k r → r .entry .«i_end» ≡ iEnd (entryIn f m k)
+  met-end k r i = ap iEnd (i .entry-is)
+
   -- the fine rows of k entries are stored
   pub record Fine (o : List ℕ) (walk : Walk) (k : ℕ) : Type 0 where
     pub within : k ≤ m .«num_fine»
@@ -98,11 +116,12 @@ module _ (f : List ℕ) (m : MapBody) (o₀ : List ℕ) (at : ℕ) where
 
   -- the row of entry k is stored
   pub fine-turn : (o : List ℕ) (walk : Walk) (k : ℕ) (met : Met) {o′ : List ℕ} → Fine o walk k → k < m .«num_fine» → IsMet f m k met
-      → o′ ≡ sets o (at + 4 * k) (fineBytes (met .entry .angle ∷ met .entry .«i_end» ∷ met .entry .time ∷ met .entry .packet ∷ [])) → Fine o′ (met .walk) (k + 1)
+      → o′ ≡ sets o (at + 4 * k) (bytesOf 4 (packed fineWidths (fineBy (met .entry .angle) (met .entry .«i_end») (met .entry .time) (met .entry .packet)))) → Fine o′ (met .walk) (k + 1)
   fine-turn o walk k met {o′ = o′} i h known put =
       let x = entryIn f m k in
       let rest = flat fineBytes (entriesLeft f m (k + 1)) in
-      let put′ : o′ ≡ sets o (at + 4 * k) (fineBytes x) = put ∙ ap (λ (y : Row). sets o (at + 4 * k) (fineBytes y)) (known .entry-is) in
+      let put′ : o′ ≡ sets o (at + 4 * k) (fineBytes x) =
+      put ∙ rw (met-angle k met known, met-end k met known, met-time f m k met known, met-packet f m k met known) in
       let e : at + 4 * (k + 1) ≡ at + 4 * k + 4 = omega arith in
       record {
         within = omega arith;

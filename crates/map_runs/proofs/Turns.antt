@@ -1,6 +1,6 @@
 -- Entries met one by one: what a turn shows, up to the end of a run and from run to run.
 use Prim.Native.Nat.{ℕ, _+_, _*_, _<_, _≤_}
-use mathlib.Core.Path.{_≡_, sym, ap₂, _∙_}
+use mathlib.Core.Path.{_≡_, sym, ap, _∙_}
 use mathlib.Core.List.{List}
 use mathlib.Core.Bool.{Bool, true, false, not}
 use native.Mathlib.Numerals.{add-one}
@@ -8,8 +8,10 @@ use native.Mathlib.Omega.{arith}
 use borrow.Author.Tests.{not-true, not-false}
 use lib.ListN.{length}
 use Rattle.format.specs.Bytes.{beAt, unpacked}
+use Rattle.format.specs.ClipRecord.{time, packet}
 use Rattle.format.specs.EntryPoints.{fineWidths}
 use Rattle.format.specs.Rewriting.{sameRun, runs}
+use Rattle.format.proofs.Fields.{time-cells}
 use Rattle.ep_entries.specs.Body.{coarseIn, entriesIn, entriesLeft, entryIn}
 use Rattle.ep_entries.specs.Entries.{joined}
 use Rattle.ep_entries.specs.Walks.{IsWalk, Reached}
@@ -18,7 +20,7 @@ use Rattle.ep_entries.specs.declared.entries.Entry.{Entry}
 use Rattle.ep_entries.specs.declared.walk.Walk.{Walk}
 use Rattle.ep_entries.proofs.Walks.{walk-stop, walk-later}
 use Rattle.ep_entries.proofs.Joined.{left-all, left-turn, left-done}
-use Rattle.runs.specs.Runs.{keyed, runEnd, endFrom, coarseFrom}
+use Rattle.runs.specs.Runs.{sameKeys, runEnd, endFrom, coarseFrom}
 use Rattle.runs.proofs.Runs.{coarse-all}
 use Rattle.map_runs.specs.Entries.{AtRow, IsMet, IsEnd}
 use Rattle.map_runs.specs.declared.walked.Met.{Met}
@@ -34,6 +36,14 @@ module _ (f : List ℕ) (m : MapBody) where
       let is = r .reached (coarseIn f m) (a .walk-is) in
       let at = walk-stop f (coarseIn f m) k walk is (r .beyond) in
       record { walk-is = is; entry-is = rw (e, w, at .0, at .1) }
+
+  -- its time is that of the entry
+  pub met-time : (k : ℕ) (r : Met) → IsMet f m k r → r .entry .time ≡ time (entryIn f m k)
+  met-time k r i = sym (time-cells (r .entry .time)) ∙ ap time (i .entry-is)
+
+  -- so is its packet
+  pub met-packet : (k : ℕ) (r : Met) → IsMet f m k r → r .entry .packet ≡ packet (entryIn f m k)
+  met-packet k r i = ap packet (i .entry-is)
 
   -- a walk that is right for row k is right for those behind it
   pub later : (k r : ℕ) (w : Walk) → k ≤ r → IsWalk f (coarseIn f m) k w → IsWalk f (coarseIn f m) r w
@@ -60,12 +70,12 @@ module _ (f : List ℕ) (m : MapBody) where
 
     module _ (first : Met) (known : IsMet f m from first) (walk : Walk) (k : ℕ) (i : Along walk k) (h : k < m .«num_fine») (met : Met) (here : IsMet f m k met) where
       -- row k is compared with the run's first
-      same-as : {s : Bool} → s ≡ sameRun (keyed (first .entry .time) (first .entry .packet)) (keyed (met .entry .time) (met .entry .packet))
+      same-as : {s : Bool} → s ≡ sameKeys (first .entry .time) (first .entry .packet) (met .entry .time) (met .entry .packet)
           → s ≡ sameRun (entryIn f m from) (entryIn f m k)
-      same-as e = e ∙ ap₂ sameRun (known .entry-is) (here .entry-is)
+      same-as e = e ∙ rw (met-time from first known, met-packet from first known, met-time k met here, met-packet k met here)
 
       -- it is in the run
-      pub along-turn : {s : Bool} → s ≡ sameRun (keyed (first .entry .time) (first .entry .packet)) (keyed (met .entry .time) (met .entry .packet))
+      pub along-turn : {s : Bool} → s ≡ sameKeys (first .entry .time) (first .entry .packet) (met .entry .time) (met .entry .packet)
           → not s ≡ false → Along (met .walk) (k + 1)
       unfolding runEnd
       along-turn {s = s} e y =
@@ -78,7 +88,7 @@ module _ (f : List ℕ) (m : MapBody) where
           }
 
       -- it is the first behind the run
-      pub along-stop : {s : Bool} → s ≡ sameRun (keyed (first .entry .time) (first .entry .packet)) (keyed (met .entry .time) (met .entry .packet))
+      pub along-stop : {s : Bool} → s ≡ sameKeys (first .entry .time) (first .entry .packet) (met .entry .time) (met .entry .packet)
           → not s ≡ true → IsEnd f m from (record { row = k; walk = met .walk })
       unfolding runEnd
       along-stop {s = s} e y =

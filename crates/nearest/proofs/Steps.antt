@@ -24,8 +24,8 @@ ltb-same a b c d f g = go (ltb a b) refl
 
 -- how far a time is, by its tests
 module _ {side : Bool} (t x : ℕ) where
-  -- where one after t is asked for, a later time is as far as it is later
-  pub after-it : side ≡ true → t < x → x - t ≡ distanceTo side t x
+  -- where one after t is asked for, a later time is as far as it is later, less one
+  pub after-it : side ≡ true → t < x → x - t - 1 ≡ distanceTo side t x
   after-it e h = rw (e, lt-ltb t x h)
 
   -- and any other is far
@@ -42,11 +42,11 @@ module _ {side : Bool} (t x : ℕ) where
 
 module _ (t : ℕ) (small : t < far) where
   -- a time on the side that is asked for is not far, and no other is near
-  test-is : (side : Bool) (x : ℕ) → x < far → onSide side t x ≡ ltb (distanceTo side t x) far
+  test-is : (side : Bool) (x : ℕ) → x ≤ far → onSide side t x ≡ ltb (distanceTo side t x) far
   test-is true x h = go (ltb t x) refl
     where
-      go : (b : Bool) → ltb t x ≡ b → b ≡ ltb (pick b (x - t) far) far
-      go true e = sym (lt-ltb (x - t) far (omega arith))
+      go : (b : Bool) → ltb t x ≡ b → b ≡ ltb (pick b (x - t - 1) far) far
+      go true e = let later = ltb-true t x e in sym (lt-ltb (x - t - 1) far (omega arith))
       go false e = refl
   test-is false x h = go (leb x t) refl
     where
@@ -59,7 +59,7 @@ module _ (t : ℕ) (small : t < far) where
   nearer-is true x y h g =
       let a = ltb-true t x h in
       let b = ltb-true t y g in
-      rw (h, g) (ltb-same x y (x - t) (y - t) (λ l. omega arith) (λ l. omega arith))
+      rw (h, g) (ltb-same x y (x - t - 1) (y - t - 1) (λ l. omega arith) (λ l. omega arith))
   nearer-is false x y h g =
       let a = leb-true x t h in
       let b = leb-true y t g in
@@ -67,7 +67,7 @@ module _ (t : ℕ) (small : t < far) where
 
   -- ---- a turn
 
-  module _ (side : Bool) (k x : ℕ) (below : x < far) where
+  module _ (side : Bool) (k x : ℕ) (below : x ≤ far) where
     -- the best with row k
     abbrev with-row : Best → Best
     with-row b = pick (onSide side t x) (better (nearer side) k x b) b
@@ -120,7 +120,7 @@ module _ (times : List ℕ) (side : Bool) (at : ℕ) where
   scan-first = record { so-far = nothing; says = Says.none; rest = refl }
 
   -- a row more
-  pub scan-turn : at < far → (k : ℕ) (n : Nearest) {x : ℕ} → k < length times → x ≡ getD times k 0 → x < far → Scan k n → Scan (suc k) (closerOf side at n k x)
+  pub scan-turn : at < far → (k : ℕ) (n : Nearest) {x : ℕ} → k < length times → x ≡ getD times k 0 → x ≤ far → Scan k n → Scan (suc k) (closerOf side at n k x)
   scan-turn small k n {x} h e below i =
       record {
         so-far = pick (onSide side at x) (better (nearer side) k x (i .so-far)) (i .so-far);

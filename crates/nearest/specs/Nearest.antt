@@ -1,5 +1,5 @@
 -- The nearest of some times, before a time or after it.
-use Prim.Native.Nat.{ℕ, _-_, _<_}
+use Prim.Native.Nat.{ℕ, _-_, _<_, _≤_}
 use mathlib.Core.Path.{_≡_}
 use mathlib.Core.List.{List}
 use mathlib.Core.Bool.{Bool, true, false}
@@ -32,13 +32,13 @@ bestIn side times at = bestOf (onSide side at) (nearer side) 0 times nothing
 
 -- ---- by distances
 
--- farther than any time of 32 bits is from another
+-- farther than any time of 64 bits is from one that is asked for and is below this number
 abbrev pub far : ℕ
-far = 4294967296
+far = 18446744073709551615
 
--- how far a time x is from t, on the side that is asked for
+-- how far a time x is from t, on the side that is asked for; the one right after t is at 0, so that none is far
 abbrev pub distanceTo : Bool → ℕ → ℕ → ℕ
-distanceTo true t x = pick (ltb t x) (x - t) far
+distanceTo true t x = pick (ltb t x) (x - t - 1) far
 distanceTo false t x = pick (leb x t) (t - x) far
 
 -- before any row
@@ -63,7 +63,7 @@ rowFound false rows n = pick (eqb rows 0) of.none (number (n .row))
 -- a row and a distance that say what is best: far and row 0 where nothing is
 pub data Says (side : Bool) (at : ℕ) : Best → ℕ → ℕ → Type 0 where
   none : Says side at nothing 0 far
-  some : (k x d : ℕ) → x < far → d ≡ distanceTo side at x → d < far → Says side at (best k x) k d
+  some : (k x d : ℕ) → x ≤ far → d ≡ distanceTo side at x → d < far → Says side at (best k x) k d
 
 -- the nearest of these times
 abbrev pub NearestIn : Bool → List ℕ → ℕ → Nearest → Type 0

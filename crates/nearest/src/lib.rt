@@ -4,21 +4,21 @@ ghost use Rattle.queries.specs.Answers.{foundOf};
 ghost use Rattle.nearest.specs.Nearest.{distanceTo, noneYet, closerAt, closerOf, rowFound};
 use queries::Found;
 
-// Farther than any time of 32 bits is from another.
-pub const FAR: u64 = 4294967296;
+// Farther than any time of 64 bits is from one that is asked for. A time after that one counts from 0, so that the distance of no time is this number.
+pub const FAR: u64 = 18446744073709551615;
 
-// How far a time is from the one asked for: before it or at it, or after it. A time on the other side is far.
-fn distance(is_after: bool, at: u32, time: u32) -> u64
+// How far a time is from the one asked for: before it or at it; or after it, where the very next is at 0. A time on the other side is far.
+fn distance(is_after: bool, at: u64, time: u64) -> u64
     ensures { λ r. ⌜ r ≡ distanceTo «is_after» at time ⌝ }
 {
     if is_after {
         if at < time {
-            return (time - at) as u64;
+            return time - at - 1;
         }
         return FAR;
     }
     if time <= at {
-        return (at - time) as u64;
+        return at - time;
     }
     FAR
 }
@@ -53,7 +53,7 @@ pub fn closer(so_far: Nearest, k: usize, d: u64) -> Nearest
 }
 
 // The nearest so far, or row k with this time where that is nearer.
-pub fn look_at_time(so_far: Nearest, k: usize, is_after: bool, at: u32, time: u32) -> Nearest
+pub fn look_at_time(so_far: Nearest, k: usize, is_after: bool, at: u64, time: u64) -> Nearest
     ensures { λ r. ⌜ r ≡ closerOf «is_after» at «so_far» k time ⌝ }
 {
     closer(so_far, k, distance(is_after, at, time))

@@ -1,6 +1,7 @@
 // The nine lent tables: how many rows each needs, and the lowest that is too short.
 ghost use mathlib.Core.Path.{_≡_};
 ghost use Rattle.nine_tables.specs.Room.{roomOf, roomBehind};
+use entry_rows::SIZE;
 
 // A number for each of tables 1 to 9.
 pub struct Rows {
@@ -25,7 +26,7 @@ pub enum Room {
 fn room_behind(rows: Rows, bytes: Rows) -> Room
     ensures { λ r. ⌜ r ≡ roomBehind rows bytes ⌝ }
 {
-    if bytes.entries / 20 < rows.entries {
+    if bytes.entries / SIZE < rows.entries {
         return Room::Short {
             table: 6,
             rows: rows.entries,

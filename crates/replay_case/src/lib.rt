@@ -3,7 +3,7 @@ ghost use mathlib.Core.Path.{_≡_};
 ghost use Prim.Native.Nat.{_<_};
 ghost use Rattle.format.specs.Extensions.{extensionOf};
 ghost use Rattle.format.specs.Refusals.{extensionRow};
-ghost use Rattle.format.specs.Tables.{rowBytes, rowsOf, extensionCells};
+ghost use Rattle.format.specs.Tables.{rowBytes, rowsOf, extensionCells, entryCells};
 ghost use Rattle.extension_entry.specs.Part.{tableOf};
 ghost use Rattle.clpi_reading.specs.Numbers.{readingNumbers};
 ghost use Rattle.replay_bytes.specs.Parts.{sameBytes, behind};
@@ -11,6 +11,7 @@ ghost use Rattle.replay_case.specs.Expected.{extensionBytes, expected};
 ghost use Rattle.replay_case.specs.Places.{behindRows, behindStreams, behindLists, extensionsBytes, DataInside};
 use clpi::read::clpi_read;
 use clpi_reading::ClpiReading;
+use entry_rows::SIZE;
 use replay_bytes::DIFFERENT;
 use replay_bytes::pass;
 use replay_bytes::pass_numbers;
@@ -95,6 +96,13 @@ fn pass_rows5(answer: &[u8], at: usize, table: &[u8], rows: u32) -> usize
     pass(answer, at, table, 0, 20 * (rows as usize))
 }
 
+// Of an entry each.
+fn pass_entries(answer: &[u8], at: usize, table: &[u8], rows: u32) -> usize
+    ensures { λ r. ⌜ r ≡ behindRows (now (answer .entry)) at entryCells (now (table .entry)) rows ⌝ }
+{
+    pass(answer, at, table, 0, SIZE * (rows as usize))
+}
+
 // The place behind the numbers and tables 1 to 4.
 fn pass_streams(
     answer: &[u8],
@@ -126,7 +134,7 @@ fn pass_lists(
     ensures { λ p. ⌜ p ≡ behindLists (now (answer .entry)) at r (now (maps .entry)) (now (entries .entry)) (now (programs2 .entry)) (now (streams2 .entry)) ⌝ }
 {
     let mut p = pass_rows3(answer, at, maps, r.maps);
-    p = pass_rows5(answer, p, entries, r.entries);
+    p = pass_entries(answer, p, entries, r.entries);
     p = pass_rows3(answer, p, programs2, r.list_programs);
     pass_rows5(answer, p, streams2, r.list_streams)
 }
@@ -140,7 +148,7 @@ pub fn is_same(file: &[u8], answer: &[u8]) -> bool
     let mut programs = [0; 3072];
     let mut streams = [0; 5120];
     let mut maps = [0; 3072];
-    let mut entries = [0; 5120];
+    let mut entries = [0; 256 * SIZE];
     let mut extensions = [0; 4096];
     let mut programs2 = [0; 3072];
     let mut streams2 = [0; 5120];

@@ -1,15 +1,16 @@
 -- Tests one behind the other, and rows read cell by cell.
-use Prim.Native.Nat.{ℕ, _+_, _*_, _/_, _%_, _^_, _<_, _≤_}
-use mathlib.Core.Path.{_≡_, refl, ap, _∙_}
+use Prim.Native.Nat.{ℕ, _+_, _*_, _-_, _/_, _%_, _^_, _<_, _≤_}
+use mathlib.Core.Path.{_≡_, refl, ap, ap₂, _∙_}
 use mathlib.Core.List.{List, [], _∷_}
 use mathlib.Core.Bool.{Bool, true, false}
+use native.Mathlib.Nat.{mod-eq-of-lt}
 use native.Mathlib.Omega.{arith}
-use lib.Bits.{bitAnd}
+use lib.Bits.{bitAnd, and-mask, and-block}
 use lib.Dec.{eqb, ltb}
-use borrow.Author.Tests.{lt-ltb, ltb-true, ltb-false, eqb-true, eq-eqb, ne-eqb}
+use borrow.Author.Tests.{lt-ltb, ltb-true, ltb-false, eqb-true, eqb-false, eq-eqb, ne-eqb}
 use Rattle.format.specs.Bytes.{IsBytes, both}
 use Rattle.format.specs.ClipRecord.{Row, time, entryType}
-use Rattle.format.specs.Refusals.{entryFits}
+use Rattle.format.specs.Refusals.{entryBits, entryFits}
 use Rattle.format.specs.Tables.{cellAt, cellsAt}
 use Rattle.format.proofs.Cells.{low-below}
 use Rattle.format.proofs.Fields.{Fit, one, fits-fit, words-masked}
@@ -44,9 +45,36 @@ angle-masked angle end h g = rw (words-masked end angle 3 1 (omega arith) (omega
     go true a false e = let y = ltb-false end 8 e in ne-eqb (end / 8 * 8 * 4294967296 + angle / 2 * 2) 0 (λ z. omega arith)
     go false a c e = let x = ltb-false angle 2 a in ne-eqb (end / 8 * 8 * 4294967296 + angle / 2 * 2) 0 (λ z. omega arith)
 
+-- a time, with 23 bits of its lower word cleared, is 0 where it fits
+pub time-masked : (time : ℕ) → time < 2 ^ 64 → eqb (bitAnd time 0xffffffff000001ff) 0 ≡ both (ltb (time / 4294967296) 1) (eqb (time % 512) 0)
+time-masked time h = rw masked (go (ltb (time / 4294967296) 1) refl (eqb (time % 512) 0) refl)
+  where
+    masked : bitAnd time 0xffffffff000001ff ≡ time / 4294967296 * 4294967296 + time % 512
+    masked =
+        let parts : time ≡ time / 4294967296 * 4294967296 + time % 4294967296 = omega arith in
+        let upper : bitAnd (time / 4294967296) (2 ^ 32 - 1) ≡ time / 4294967296 = and-mask (time / 4294967296) 32 ∙ mod-eq-of-lt (omega arith) in
+        let lower : bitAnd (time % 4294967296) (2 ^ 9 - 1) ≡ time % 512 = and-mask (time % 4294967296) 9 ∙ omega arith in
+        ap (λ (x : ℕ). bitAnd x 0xffffffff000001ff) parts
+        ∙ and-block 32 (time / 4294967296) (2 ^ 32 - 1) (time % 4294967296) (2 ^ 9 - 1) (omega arith) (omega arith)
+        ∙ ap₂ (λ (u l : ℕ). u * 4294967296 + l) upper lower
+
+    go : (b : Bool) → ltb (time / 4294967296) 1 ≡ b → (c : Bool) → eqb (time % 512) 0 ≡ c → eqb (time / 4294967296 * 4294967296 + time % 512) 0 ≡ both b c
+    go true a true e =
+        let x = ltb-true (time / 4294967296) 1 a in
+        let y = eqb-true (time % 512) 0 e in
+        eq-eqb (time / 4294967296 * 4294967296 + time % 512) 0 (omega arith)
+    go true a false e = ne-eqb (time / 4294967296 * 4294967296 + time % 512) 0 (λ z. eqb-false (time % 512) 0 e (omega arith))
+    go false a c e = let x = ltb-false (time / 4294967296) 1 a in ne-eqb (time / 4294967296 * 4294967296 + time % 512) 0 (λ z. omega arith)
+
+-- a time does not fit
+pub time-fails : (a b fields more : Bool) → both a b ≡ false → false ≡ both (both a fields) (both b more)
+time-fails true true fields more h = let z : _≡_ {A = ℕ} 0 1 = cc in absurd (omega arith)
+time-fails true false fields more h = last-fails fields
+time-fails false b fields more h = refl
+
 -- the type of an entry whose fields fit has 4 bits
-narrow-type : (e : Row) → Fit (1 ∷ 3 ∷ 32 ∷ 32 ∷ 4 ∷ []) e → entryType e < 16
-narrow-type e (one a (one i (one t (one p (one y f))))) = y
+narrow-type : (e : Row) → Fit entryBits e → entryType e < 16
+narrow-type e (one a (one i (one t (one u (one p (one y f)))))) = y
 
 -- no entry fits a map whose type has more
 pub type-wide : (type : ℕ) (e : Row) → 16 ≤ type → false ≡ entryFits type e
@@ -55,7 +83,7 @@ type-wide type e h = go (entryFits type e) refl
     go : (b : Bool) → entryFits type e ≡ b → false ≡ b
     go true fit =
         let parts = both-true fit in
-        let few = narrow-type e (fits-fit (1 ∷ 3 ∷ 32 ∷ 32 ∷ 4 ∷ []) e (parts .0)) in
+        let few = narrow-type e (fits-fit entryBits e (parts .0)) in
         let same = eqb-true (entryType e) type (both-true {a = eqb (time e % 512) 0} (parts .1) .1) in
         absurd (omega arith)
     go false fit = refl
@@ -78,6 +106,10 @@ type-decides type entry h = go (eqb entry type) refl (ltb entry 16) refl
         absurd (omega arith)
     go false e true l = refl
     go false e false l = refl
+
+-- a test of an entry's numbers is one of its row
+pub row-tested : (type : ℕ) {r : Bool} {e row : Row} → r ≡ entryFits type e → e ≡ row → r ≡ entryFits type row
+row-tested type is same = is ∙ ap (entryFits type) same
 
 -- ---- rows
 

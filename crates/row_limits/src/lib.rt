@@ -1,14 +1,21 @@
 // Whether the cells of one row fit their fields. A field of 32 bits holds any cell, so its cell isn't tested.
 ghost use mathlib.Core.Path.{_≡_};
-ghost use Prim.Native.Nat.{_+_, _*_, _≤_};
+ghost use Prim.Native.Nat.{_+_, _*_, _/_, _%_, _≤_};
 ghost use mathlib.Core.List.{[], _∷_};
 ghost use lib.ListN.{length};
-ghost use lib.Dec.{ltb};
+ghost use lib.Dec.{ltb, eqb};
 ghost use Rattle.format.specs.Bytes.{both};
+ghost use Rattle.format.specs.ClipRecord.{entryRow};
 ghost use Rattle.format.specs.Refusals.{atcFits, stcFits, programFits, streamFits, mapFits, entryFits};
-ghost use Rattle.format.specs.Tables.{cellsAt, atcCells, stcCells, programCells, streamCells, mapCells, entryCells};
+ghost use Rattle.format.specs.Tables.{cellsAt, atcCells, stcCells, programCells, streamCells, mapCells, entryCells, entrySize};
 ghost use Rattle.row_limits.specs.Kinds.{cellsOf, fitsBy};
 use cells::cell_at;
+use entry_rows::SIZE;
+use entry_rows::angle_at;
+use entry_rows::i_end_at;
+use entry_rows::packet_at;
+use entry_rows::time_at;
+use entry_rows::type_at;
 use stream_coding::is_video;
 
 // Which table a row is of; an entry with the type of its map.
@@ -31,7 +38,7 @@ pub fn row_bytes(kind: Kind) -> usize
         Kind::Program => 12,
         Kind::Stream => 20,
         Kind::Map => 12,
-        Kind::Entry(_) => 20,
+        Kind::Entry(_) => SIZE,
     }
 }
 
@@ -67,16 +74,23 @@ fn angle_fits(angle: u32, i_end: u32) -> bool
     ((i_end as u64) * 4294967296 + angle as u64) & 0xfffffff8fffffffe == 0
 }
 
-// An angle of 1 bit, an I-end of 3, a type of 4 bits that is its map's, a time that is a multiple of 512. The map's type is tested for its 4 bits: it is the same at every row.
+// A time of 32 bits that is a multiple of 512: one mask for both.
+fn time_fits(time: u64) -> bool
+    ensures { λ r. ⌜ r ≡ both (ltb (time / 4294967296) 1) (eqb (time % 512) 0) ⌝ }
+{
+    time & 0xffffffff000001ff == 0
+}
+
+// An angle of 1 bit, an I-end of 3, a time of 32 that is a multiple of 512, a type of 4 bits that is its map's. The map's type is tested for its 4 bits: it is the same at every row.
 fn entry_fits(
     map_type: u32,
     angle: u32,
     i_end: u32,
-    time: u32,
+    time: u64,
     packet: u32,
     entry_type: u32,
 ) -> bool
-    ensures { λ r. ⌜ r ≡ entryFits «map_type» (angle ∷ «i_end» ∷ time ∷ packet ∷ «entry_type» ∷ []) ⌝ }
+    ensures { λ r. ⌜ r ≡ entryFits «map_type» (entryRow angle «i_end» time packet «entry_type») ⌝ }
 {
     if map_type >= 16 {
         return false;
@@ -84,7 +98,7 @@ fn entry_fits(
     if !angle_fits(angle, i_end) {
         return false;
     }
-    if time % 512 != 0 {
+    if !time_fits(time) {
         return false;
     }
     entry_type == map_type
@@ -150,16 +164,16 @@ fn stream_row_fits(t: &[u8], p: usize) -> bool
 
 // An entry of a map of this type, read from its table.
 fn entry_row_fits(t: &[u8], p: usize, map_type: u32) -> bool
-    requires { ⌜ p + 20 ≤ length (now t) ⌝ }
+    requires { ⌜ p + entrySize ≤ length (now t) ⌝ }
     ensures { λ r. ⌜ r ≡ entryFits «map_type» (cellsAt (now (t .entry)) entryCells p) ⌝ }
 {
     entry_fits(
         map_type,
-        cell_at(t, p),
-        cell_at(t, p + 4),
-        cell_at(t, p + 8),
-        cell_at(t, p + 12),
-        cell_at(t, p + 16),
+        angle_at(t, p),
+        i_end_at(t, p),
+        time_at(t, p),
+        packet_at(t, p),
+        type_at(t, p),
     )
 }
 

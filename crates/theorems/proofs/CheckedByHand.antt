@@ -1,5 +1,5 @@
 -- M1 to M11: by computation, M3 and M9 by the facts given, and M11 by a law for every number of runs.
-use Prim.Native.Nat.{ℕ, zero, suc, _+_, _*_, _/_, _%_, _<_}
+use Prim.Native.Nat.{ℕ, zero, suc, _+_, _*_, _/_, _%_, _^_, _<_}
 use mathlib.Core.Path.{_≡_, refl, ap}
 use mathlib.Core.List.{List, [], _∷_, map}
 use mathlib.Core.Bool.{Bool, true, false}
@@ -10,11 +10,12 @@ use lib.Seq.{take-all}
 use lib.Dec.{leb, ltb, lit<}
 use borrow.Author.Tests.{ne-eqb, eq-eqb, lt-ltb, lt-leb}
 use Rattle.format.specs.Bytes.{beAt, bytesOf, both, every, unless, total}
-use Rattle.format.specs.ClipRecord.{Row, entryCount, time, lettersRight}
+use Rattle.format.specs.ClipRecord.{Row, entryCount, entryRow, time, lettersRight}
 use Rattle.format.specs.EntryPoints.{joinTime, joinPacket}
 use Rattle.format.specs.Questions.{entryPointAtOrBefore, spnToByte, byteToSpn, Answer, number, nothing, bestOf, atOrBefore, byteOf, spnOf, ofMap, answer}
 use Rattle.format.specs.Rewriting.{timeKey, coarseAfter, runs, sequencesBytes, programsBytes, bodyBytes, cpiBytes, headBytes, encode}
 use Rattle.format.specs.Refusals.{refusalOf, entryFits, countsAdd, cellsFit, runsFit, writeRefusal}
+use Rattle.format.proofs.Fields.{time-cells, narrow-cells}
 use Rattle.format.proofs.Lists.{All, none, more}
 use Rattle.theorems.specs.CheckedByHand.{refusal, answered, evaluate, AnyBytes, Packets, RightLetters, hdmv, clpi, rightFile, OtherLetters, otherFile, BeforeAll, emptyClip, alternating, oneMap, table, Holds, end, row}
 
@@ -87,25 +88,26 @@ fit : (n : ℕ) → every (entryFits 1) (alternating n) ≡ true
 unfolding alternating
 fit zero = refl
 fit (suc n) =
+    let two = narrow-cells (n % 2 * 524288) (omega arith) in
     let small : n % 2 * 524288 < 4294967296 = omega arith in
-    let even : n % 2 * 524288 % 512 ≡ 0 = omega arith in
-    rw (lt-ltb (n % 2 * 524288) 4294967296 small, eq-eqb (n % 2 * 524288 % 512) 0 even) (fit n)
+    let even : (n % 2 * 524288 + 0) % 512 ≡ 0 = omega arith in
+    rw (two .0, two .1, lt-ltb (n % 2 * 524288) 4294967296 small, eq-eqb ((n % 2 * 524288 + 0) % 512) 0 even) (fit n)
 
 -- behind an entry whose coarse time is the other one
 behind : (n k : ℕ) (e : Row) → timeKey e ≡ n % 2 → length (coarseAfter e k (alternating n)) ≡ n
 unfolding alternating coarseAfter
 behind zero k e h = refl
 behind (suc n) k e h =
-    let here : n % 2 * 524288 / 524288 ≡ n % 2 = omega arith in
+    let here : (n % 2 * 524288 % 2 ^ 32 + n % 2 * 524288 / 2 ^ 32 * 2 ^ 32) / 524288 ≡ n % 2 = rw (time-cells (n % 2 * 524288)) (omega arith) in
     let ne : suc n % 2 ≡ n % 2 → ⊥ = λ q. omega arith in
-    let r = behind n (suc k) (0 ∷ 0 ∷ n % 2 * 524288 ∷ 0 ∷ 1 ∷ []) here in
+    let r = behind n (suc k) (entryRow 0 0 (n % 2 * 524288) 0 1) here in
     rw (h, here, ne-eqb (suc n % 2) (n % 2) ne) (ap suc r)
 
 -- so each entry begins a run, the first one too
 all-runs : (n : ℕ) → runs (alternating n) ≡ n
 unfolding runs alternating
 all-runs zero = refl
-all-runs (suc n) = ap suc (behind n 1 (0 ∷ 0 ∷ n % 2 * 524288 ∷ 0 ∷ 1 ∷ []) (omega arith))
+all-runs (suc n) = ap suc (behind n 1 (entryRow 0 0 (n % 2 * 524288) 0 1) (omega arith))
 
 -- a map of n runs, n within its 18 bits: refused with 31 exactly over 65,535
 pub eleven : (n : ℕ) → n < 262144 → writeRefusal (oneMap n) ≡ unless (leb n 65535) 31 0

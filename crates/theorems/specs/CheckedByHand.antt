@@ -5,7 +5,7 @@ use mathlib.Core.List.{List, [], _∷_}
 use lib.ListN.{length}
 use Rattle.format.specs.Bytes.{fieldsAt, total}
 use Rattle.format.specs.Ticks.{Ticks90}
-use Rattle.format.specs.ClipRecord.{Row, Scalars, Clip, entryCount, time}
+use Rattle.format.specs.ClipRecord.{Row, Scalars, Clip, entryCount, entryRow, time}
 use Rattle.format.specs.EntryPoints.{joinTime, joinPacket}
 use Rattle.format.specs.Questions.{Question, entryPointAtOrBefore, spnToByte, byteToSpn, Answer, none, number, ownRows, answer}
 use Rattle.format.specs.Rewriting.{encode}
@@ -106,7 +106,7 @@ emptyClip =
 -- n entries of type 1, each in a run of its own: the times' coarse part changes from each to the next
 unfoldable pub alternating : ℕ → List Row
 alternating zero = []
-alternating (suc n) = (0 ∷ 0 ∷ n % 2 * 524288 ∷ 0 ∷ 1 ∷ []) ∷ alternating n
+alternating (suc n) = entryRow 0 0 (n % 2 * 524288) 0 1 ∷ alternating n
 
 -- a record with one map, of n runs
 unfoldable pub oneMap : ℕ → Clip

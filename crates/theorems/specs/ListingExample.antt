@@ -3,7 +3,7 @@ use Prim.Native.Nat.{ℕ}
 use mathlib.Core.Path.{_≡_}
 use mathlib.Core.List.{List, [], _∷_, _++_}
 use lib.ListN.{length, replicate}
-use Rattle.format.specs.ClipRecord.{Clip}
+use Rattle.format.specs.ClipRecord.{Clip, entryRow}
 use Rattle.format.specs.Reading.{recordOf}
 use Rattle.format.specs.Rewriting.{encode}
 use Rattle.format.specs.Refusals.{refusalOf, writeRefusal}
@@ -17,7 +17,7 @@ listedClip = record {
   programs = [];
   streams = [];
   maps = (4113 ∷ 1 ∷ 1 ∷ []) ∷ [];
-  entries = (0 ∷ 0 ∷ 524288 ∷ 131079 ∷ 1 ∷ []) ∷ [];
+  entries = entryRow 0 0 524288 131079 1 ∷ [];
 }
 
 -- its file, as the Rust writes it

@@ -2,7 +2,7 @@
 
 use super::number;
 use crate::mutation::Mutation::{self, *};
-use crate::record::{ENTRIES, MAPS, Record};
+use crate::record::{CELLS, ENTRIES, MAPS, Record, entry_cells};
 
 /// The CPI section of a file.
 struct Cpi<'a> {
@@ -89,7 +89,7 @@ impl Cpi<'_> {
         if !skipped {
             self.entries(&rows, header.kind, &mut out.tables[ENTRIES]);
         }
-        let entries = (out.tables[ENTRIES].len() - before) / 5;
+        let entries = (out.tables[ENTRIES].len() - before) / CELLS[ENTRIES];
         out.tables[MAPS].extend([header.pid as u32, header.kind as u32, entries as u32]);
         Some(())
     }
@@ -131,13 +131,13 @@ impl Cpi<'_> {
                 _ => (self.word(rows.coarse_at + 8 * reached) & 0x3FFF, self.word(rows.coarse_at + 8 * reached + 4)),
             };
             let fine = self.word(rows.fine_at + 4 * k);
-            out.extend([
+            out.extend(entry_cells(
                 (fine >> 31) as u32,
                 (fine >> 28 & if self.wrong == IEndOf4Bits { 15 } else { 7 }) as u32,
-                self.time(coarse_time, fine >> 17 & 0x7FF),
+                self.time(coarse_time, fine >> 17 & 0x7FF).into(),
                 self.packet(coarse_packet, fine & 0x1_FFFF),
                 kind as u32,
-            ]);
+            ));
         }
     }
 

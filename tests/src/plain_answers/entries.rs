@@ -3,20 +3,24 @@
 use super::maps::primary_of;
 use super::rows::{heads, less, rows_of};
 use crate::answers::{Answer, Input, OF_MAPS};
-use crate::record::ENTRIES;
+use crate::record::{ENTRIES, PACKET};
 use crate::wrong_answers::WrongAnswer::{self, *};
 
 /// A search for a row of table 6 between two rows, by a time.
-type Search = fn(&Input, (usize, usize), u32, WrongAnswer) -> Option<usize>;
+type Search = fn(&Input, (usize, usize), u64, WrongAnswer) -> Option<usize>;
 
 /// An entry's time.
-fn time(input: &Input, row: usize) -> u32 {
-    input.cell(ENTRIES, row, 2)
+fn time(input: &Input, row: usize) -> u64 {
+    input.time(row)
 }
 
 /// Whether a time is at most another one.
-fn at_most(one: u32, other: u32, wrong: WrongAnswer) -> bool {
-    if wrong == SignedTimes { one as i32 <= other as i32 } else { one <= other }
+fn at_most(one: u64, other: u64, wrong: WrongAnswer) -> bool {
+    match wrong {
+        SignedTimes => one as i32 <= other as i32,
+        TimesOf32Bits => one as u32 <= other as u32,
+        _ => one <= other,
+    }
 }
 
 /// The row within its map that is found by a time.
@@ -26,7 +30,7 @@ pub fn row(input: &Input, map: u32, at: u32, wrong: WrongAnswer, search: Search)
         return Some(Answer::of(0));
     }
     let zero = if wrong == RowOfWholeTable { 0 } else { first };
-    Some(Answer::of_option(search(input, (first, end), at, wrong).map(|row| (row - zero) as u64)))
+    Some(Answer::of_option(search(input, (first, end), at.into(), wrong).map(|row| (row - zero) as u64)))
 }
 
 /// The packet of the row that is found by a time.
@@ -38,12 +42,12 @@ pub fn packet(input: &Input, map: u32, at: u32, wrong: WrongAnswer, search: Sear
     let cell = |row: usize, column: usize| u64::from(input.cell(ENTRIES, row, column));
     let value = |row: usize| match wrong {
         RowForPacket => (row - first) as u64,
-        TimeForPacket => cell(row, 2),
-        PacketOfWholeTable => cell(row - first, 3),
-        ByteForPacket => 192 * cell(row, 3),
-        _ => cell(row, 3),
+        TimeForPacket => time(input, row),
+        PacketOfWholeTable => cell(row - first, PACKET),
+        ByteForPacket => 192 * cell(row, PACKET),
+        _ => cell(row, PACKET),
     };
-    Some(Answer::of_option(search(input, (first, end), at, wrong).map(value)))
+    Some(Answer::of_option(search(input, (first, end), at.into(), wrong).map(value)))
 }
 
 /// The packet of the row that is found by a time in the primary map; none without maps.
@@ -63,7 +67,7 @@ pub fn packet_in_primary(input: &Input, at: u32, wrong: WrongAnswer, search: Sea
 }
 
 /// The greatest time not above the one given, the earliest among equals; the first row where all are later.
-pub fn at_or_before(input: &Input, (first, end): (usize, usize), at: u32, wrong: WrongAnswer) -> Option<usize> {
+pub fn at_or_before(input: &Input, (first, end): (usize, usize), at: u64, wrong: WrongAnswer) -> Option<usize> {
     if wrong == SearchedByHalves && first < end {
         return Some(by_halves(input, first, end, at));
     }
@@ -87,7 +91,7 @@ pub fn at_or_before(input: &Input, (first, end): (usize, usize), at: u32, wrong:
 }
 
 /// The row at or before a time as a search by halves finds it, which needs ascending times.
-fn by_halves(input: &Input, first: usize, end: usize, at: u32) -> usize {
+fn by_halves(input: &Input, first: usize, end: usize, at: u64) -> usize {
     let (mut low, mut high) = (first, end);
     while low < high {
         let middle = (low + high) / 2;
@@ -101,7 +105,7 @@ fn by_halves(input: &Input, first: usize, end: usize, at: u32) -> usize {
 }
 
 /// The least time above the one given, the earliest among equals.
-pub fn after(input: &Input, (first, end): (usize, usize), at: u32, wrong: WrongAnswer) -> Option<usize> {
+pub fn after(input: &Input, (first, end): (usize, usize), at: u64, wrong: WrongAnswer) -> Option<usize> {
     let mut best: Option<usize> = None;
     for row in first..end {
         let allowed = !at_most(time(input, row), at, wrong) || wrong == AfterIncludesEqual && time(input, row) == at;
@@ -120,7 +124,7 @@ pub fn after(input: &Input, (first, end): (usize, usize), at: u32, wrong: WrongA
 /// The time of a row of a map, where the map has one.
 fn time_of(input: &Input, row: Option<usize>, wrong: WrongAnswer) -> Option<Answer> {
     let none = if wrong == EmptyMapTimeZero { Answer::of(0) } else { Answer::NONE };
-    Some(row.map_or(none, |row| Answer::of(time(input, row).into())))
+    Some(row.map_or(none, |row| Answer::of(time(input, row))))
 }
 
 /// The time of a map's first entry.
@@ -153,7 +157,7 @@ pub fn span(input: &Input, map: u32, wrong: WrongAnswer) -> Option<Answer> {
     if first == end {
         return Some(if wrong == EmptySpanNone { Answer::NONE } else { Answer::of(0) });
     }
-    let times = || (first..end).map(|row| u64::from(time(input, row)));
+    let times = || (first..end).map(|row| time(input, row));
     let (from, to) = match wrong {
         SpanGreatestLessLeast => (times().min()?, times().max()?),
         _ => (times().next()?, times().last()?),

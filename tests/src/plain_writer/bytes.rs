@@ -2,7 +2,7 @@
 
 use super::refusals::is_video;
 use crate::answers::{Counted, Input, OF_ATCS, OF_MAPS, OF_PROGRAMS};
-use crate::record::{ATCS, ENTRIES, MAPS, PROGRAMS, STCS, STREAMS};
+use crate::record::{ATCS, ENTRIES, MAPS, PACKET, PROGRAMS, STCS, STREAMS};
 use crate::writer::Info;
 use crate::wrong_writes::WrongWrite::{self, *};
 use std::ops::Range;
@@ -144,7 +144,7 @@ fn stream(input: &Input, row: usize, wrong: WrongWrite, out: &mut Vec<u8>) {
 /// The first entries of a map's runs, counted within the map.
 pub fn runs(input: &Input, own: Range<usize>, wrong: WrongWrite) -> Vec<usize> {
     let key = |row: usize| {
-        let (time, packet) = (input.cell(ENTRIES, row, 2) >> 19, input.cell(ENTRIES, row, 3) >> 17);
+        let (time, packet) = (input.time(row) >> 19, input.cell(ENTRIES, row, PACKET) >> 17);
         match wrong {
             RunByTime => (time, 0),
             RunByPacket => (0, packet),
@@ -161,14 +161,16 @@ pub fn runs(input: &Input, own: Range<usize>, wrong: WrongWrite) -> Vec<usize> {
 fn body(input: &Input, own: Range<usize>, runs: &[usize], wrong: WrongWrite, out: &mut Vec<u8>) {
     put(out, 4, 8 * runs.len() as u64 + if wrong == FineAddressFromRows { 0 } else { 4 });
     for run in runs {
-        let [time, packet] = [2, 3].map(|column| u64::from(input.cell(ENTRIES, own.start + run, column)));
+        let row = own.start + run;
+        let (time, packet) = (input.time(row), u64::from(input.cell(ENTRIES, row, PACKET)));
         let first = *run as u64 + u64::from(wrong == FirstFineFromOne);
         let time = if wrong == CoarseTimeOf12Bits { time >> 19 & 0xFFF } else { time >> 19 };
         let packet = if wrong == LowPacketCleared { packet & !0x1_FFFF } else { packet };
         put(out, 8, first << 46 | time << 32 | packet);
     }
     for row in own {
-        let [angle, i_end, time, packet] = [0, 1, 2, 3].map(|column| u64::from(input.cell(ENTRIES, row, column)));
+        let [angle, i_end, packet] = [0, 1, PACKET].map(|column| u64::from(input.cell(ENTRIES, row, column)));
+        let time = input.time(row);
         let angle = if wrong == AngleDropped { 0 } else { angle & 1 };
         let i_end = if wrong == IEndDropped { 0 } else { i_end & 7 };
         let time = time >> 9 & if wrong == FineTimeOf10Bits { 1023 } else { 2047 };

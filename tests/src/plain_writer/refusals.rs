@@ -2,7 +2,7 @@
 
 use super::bytes::{rows, runs};
 use crate::answers::{Counted, Input, OF_ATCS, OF_MAPS, OF_PROGRAMS};
-use crate::record::{ATCS, CELLS, ENTRIES, MAPS, PROGRAMS, STREAMS};
+use crate::record::{ATCS, CELLS, ENTRIES, KIND, MAPS, PROGRAMS, STREAMS, TIME};
 use crate::writer::{Info, TABLES};
 use crate::wrong_writes::WrongWrite::{self, *};
 
@@ -13,7 +13,7 @@ const GREATEST: [&[u32]; TABLES] = [
     &[u32::MAX, 65_535, 255],
     &[65_535, 255, 255, 15, 0xFF_FFFF],
     &[65_535, 15, 262_143],
-    &[1, 7, u32::MAX, u32::MAX, 15],
+    &[1, 7, u32::MAX, 0, u32::MAX, 15],
 ];
 
 /// The first refusal in the order 22, 30, 31, or 0. The output's length is asked for where the order is wrong.
@@ -90,7 +90,7 @@ fn row_fits(input: &Input, table: usize, row: usize, wrong: WrongWrite) -> bool 
     match table {
         STREAMS if is_video(cell(1)) => cell(4) == 0 || wrong == LanguageOnVideoAccepted,
         STREAMS => cell(3) == 0 || wrong == AspectOnAudioAccepted,
-        ENTRIES => cell(2) % 512 == 0 || wrong == TimeNotTested,
+        ENTRIES => cell(TIME) % 512 == 0 || wrong == TimeNotTested,
         _ => true,
     }
 }
@@ -104,7 +104,7 @@ fn entry_types_fit(input: &Input, wrong: WrongWrite) -> bool {
     (0..tested).all(|map| {
         let own = own_rows(input, map, &mut first, all);
         let mut entries = if wrong == FirstRowTested(ENTRIES) { own.start..own.end.min(own.start + 1) } else { own };
-        entries.all(|row| input.cell(ENTRIES, row, 4) == input.cell(MAPS, map, 1) || wrong == TypeNotTested)
+        entries.all(|row| input.cell(ENTRIES, row, KIND) == input.cell(MAPS, map, 1) || wrong == TypeNotTested)
     })
 }
 

@@ -2,7 +2,7 @@
 
 use crate::answers::{Counted, Input, OF_ATCS, OF_MAPS, OF_PROGRAMS, Question, Question::*};
 use crate::random::Random;
-use crate::record::{ATCS, ENTRIES, EXTENSIONS, MAPS, PROGRAMS, STCS, STREAMS};
+use crate::record::{ATCS, ENTRIES, EXTENSIONS, MAPS, PROGRAMS, STCS, STREAMS, TIME};
 
 /// How many rows of a table are asked about one by one; of more rows these are the first, the last, and any others.
 const ASKED: u64 = 6;
@@ -150,7 +150,7 @@ pub fn maps(input: &Input, random: &mut Random, out: &mut Vec<Question>) {
 fn times_of_map(input: &Input, map: u32, random: &mut Random) -> Vec<u32> {
     let mut times = vec![0, random.next() as u32, u32::MAX];
     for row in some_own(input, OF_MAPS, map, ASKED, random) {
-        let time = input.cell(ENTRIES, row, 2);
+        let time = input.cell(ENTRIES, row, TIME);
         times.extend([time, time.wrapping_sub(1), time.wrapping_add(1)]);
     }
     times

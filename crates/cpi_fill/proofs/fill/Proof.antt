@@ -3,6 +3,7 @@ use Prim.Native.Nat.{ℕ, _+_, _*_, _-_, _≤_, _<_}
 use mathlib.Core.List.{List}
 use lib.ListN.{length}
 use Rattle.format.specs.EntryPoints.{fineCountAt}
+use Rattle.format.specs.Tables.{entrySize}
 use native.Mathlib.Omega.{arith}
 use denote.Ref.{now}
 use borrow.Author.Needs.{needs}
@@ -42,7 +43,7 @@ module _ (c : tie.In-loop Inv-loop μ-loop) where
   bounds = (there F C N S (omega (arith, c .loop-test .taken)) .headers, S .small, c .loop-test .taken)
 
   -- there is room for its entries
-  room : c .before .loop .at + 20 * fineCountAt F (C + 8 + 12 * c .before .loop .k) ≤ length (c .before .loop .entries)
+  room : c .before .loop .at + entrySize * fineCountAt F (C + 8 + 12 * c .before .loop .k) ≤ length (c .before .loop .entries)
   room = entries-room (c .before .loop .inv) (c .loop-test .taken)
 
 add-q : tie.Need-add-q Inv-loop μ-loop

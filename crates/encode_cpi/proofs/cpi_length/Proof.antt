@@ -3,6 +3,7 @@ use Prim.Native.Nat.{_+_, _*_, _-_, _≤_}
 use native.Mathlib.Omega.{arith}
 use denote.Ref.{now}
 use lib.ListN.{length}
+use Rattle.format.specs.Tables.{entrySize}
 use Rattle.encode_cpi.proofs.Maps.{maps-few, map-room, entries-room, count-few, own-within}
 use Rattle.encode_cpi.proofs.Lengths.{Measured, measured-first, measured-unfit, runs-within-count, measured-turn, measured-many, measured-done, measured-none}
 use borrow.Author.Needs.{needs}
@@ -58,7 +59,7 @@ cast-count c = search needs
 
 module _ (c : tie.After-cell-at2 Inv-loop μ-loop) where
   -- the map's entries lie inside their table
-  entries-there : 20 * c .before .before .before .loop .row + 20 * c .cell-at2 .result ≤ length (now (start (c .before .before) .args .entries))
+  entries-there : entrySize * c .before .before .before .loop .row + entrySize * c .cell-at2 .result ≤ length (now (start (c .before .before) .args .entries))
   entries-there =
       let s = start (c .before .before) in
       let a = s .args in

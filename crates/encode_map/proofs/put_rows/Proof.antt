@@ -4,8 +4,9 @@ use mathlib.Core.Path.{_≡_, refl}
 use native.Mathlib.Omega.{arith}
 use denote.Ref.{now}
 use lib.ListN.{length}
+use Rattle.format.specs.Tables.{entrySize}
 use borrow.Author.Needs.{needs}
-use Rattle.encode_map.proofs.Bodies.{stored-empty, Turning, turning-first, turning-room, turning-next, first-pair, first-room, first-stored, row-fits}
+use Rattle.encode_map.proofs.Bodies.{stored-empty, Turning, turning-first, turning-room, turning-next, first-pair, first-room, first-stored, pair-narrow, row-fits}
 use Rattle.encode_map.proofs.put_rows.Statement.{statement}
 use Rattle.encode_map.proofs.put_rows.Tie as tie
 
@@ -34,7 +35,7 @@ loop-holds : tie.Need-loop-holds Inv-loop μ-loop
 loop-holds c = let a = c .before .before .before .before .args in turning-first (now (a .entries)) (a .p) (a .n) (now (a .out)) (a .fine) (a .n - 1) (omega (arith, c .before .if1 .left)) refl (c .pair-at .ensures)
 
 -- within the loop the entry lies inside its table
-row-there : (c : tie.In-loop Inv-loop μ-loop) → let a = c .before .before .before .before .before .before .args in a .p + 20 * c .before .loop .k + 20 ≤ length (now (a .entries))
+row-there : (c : tie.In-loop Inv-loop μ-loop) → let a = c .before .before .before .before .before .before .args in a .p + entrySize * c .before .loop .k + entrySize ≤ length (now (a .entries))
 row-there c = omega (arith, c .before .before .before .before .before .before .pre .there, c .before .loop .inv .stored .within)
 
 mul-q : tie.Need-mul-q Inv-loop μ-loop
@@ -79,6 +80,7 @@ put-coarse-requires c κs =
     let l = c .before .before .before .before .before .before .before .loop in
     record {
       few = omega (arith, s .pre .few, l .inv .stored .within);
+      narrow = pair-narrow (now (a .entries)) (a .p + entrySize * l .k) (s .pre .fit .type) (row-fits (now (a .entries)) (a .p) (a .n) (l .k) (s .pre .fit) (l .inv .stored .within)) (l .inv .is);
       below = turning-room (now (a .entries)) (a .p) (a .n) (now (a .out)) (a .fine) (l .out) (l .to) (l .k) (l .pair) (l .inv) (omega (arith, c .before .before .before .before .before .before .loop-test .taken)) (c .before .before .before .before .before .pair-at2 .ensures) (s .pre .below);
       room = omega (arith, s .pre .room, l .inv .stored .place, l .inv .stored .long, c .before .before .before .put-fine .kept);
     }
@@ -112,7 +114,7 @@ put-fine-requires-2 c κs =
     let s = c .before .before .before .before .before .before .before in
     let a = s .args in
     let l = c .before .before .loop in
-    let first : a .p + 20 * 0 ≡ a .p = omega arith in
+    let first : a .p + entrySize * 0 ≡ a .p = omega arith in
     record {
       there = omega (arith, s .pre .there, some (c .before));
       is = first-pair (now (a .entries)) (a .p) (a .n) (now (a .out)) (a .fine) (some (c .before)) (l .out) (l .to) (l .k) (l .pair) (l .inv) (last (c .before));
@@ -121,33 +123,35 @@ put-fine-requires-2 c κs =
       room = omega (arith, s .pre .room, l .inv .stored .long, some (c .before));
     }
 
-pair-time-requires : tie.Need-pair-time-requires Inv-loop μ-loop
-pair-time-requires c κs = search needs
-
-pair-packet-requires : tie.Need-pair-packet-requires Inv-loop μ-loop
-pair-packet-requires c κs = search needs
-
 sub-put-coarse-row : tie.Need-sub-put-coarse-row Inv-loop μ-loop
-sub-put-coarse-row c = deep (c .before .before .before .before .before .before .before)
+sub-put-coarse-row c = deep (c .before .before .before .before .before)
 
 put-coarse-row-requires : tie.Need-put-coarse-row-requires Inv-loop μ-loop
 put-coarse-row-requires c κs =
-    let l = c .before .before .before .before .before .before .before .before .loop in
-    (omega arith, omega (arith, deep (c .before .before .before .before .before .before .before), c .before .before .before .before .before .before .before .before .before .before .before .before .before .pre .room, l .inv .stored .place, l .inv .stored .long, c .before .before .before .before .before .put-fine2 .kept))
+    let e = c .before .before .before .before .before in
+    let s = e .before .before .before .before .before .before in
+    let a = s .args in
+    let l = e .before .loop in
+    let fit = row-fits (now (a .entries)) (a .p) (a .n) (l .k) (s .pre .fit) (l .inv .stored .within) in (
+      omega arith,
+      pair-narrow (now (a .entries)) (a .p + entrySize * l .k) (s .pre .fit .type) fit (l .inv .is),
+      omega (arith, deep e, s .pre .room, l .inv .stored .place, l .inv .stored .long, c .before .before .before .put-fine2 .kept),
+    )
 
 sub-result : tie.Need-sub-result Inv-loop μ-loop
-sub-result c = deep (c .before .before .before .before .before .before .before .before .before .before)
+sub-result c = deep (c .before .before .before .before .before .before .before .before)
 
 same-length : tie.Need-same-length Inv-loop μ-loop
 same-length c = search needs
 
 returns-2 : tie.Need-returns-2 Inv-loop μ-loop
 returns-2 c =
-    let s = c .before .before .before .before .before .before .before .before .before .before .before .before .before .before .before .before in
+    let e = c .before .before .before .before .before .before .before .before in
+    let s = e .before .before .before .before .before .before in
     let a = s .args in
-    let l = c .before .before .before .before .before .before .before .before .before .before .before .loop in
-    first-stored (now (a .entries)) (a .p) (a .n) (now (a .out)) (a .fine) (some (c .before .before .before .before .before .before .before .before .before .before)) (l .out) (l .to) (l .k) (l .pair) (l .inv) (last (c .before .before .before .before .before .before .before .before .before .before)) (s .pre .below)
-    (c .before .before .before .before .before .before .before .before .put-fine2 .ensures) (c .before .before .before .before .before .pair-time .ensures) (c .before .before .before .before .pair-packet .ensures) (c .before .before .put-coarse-row .ensures)
+    let l = e .before .loop in
+    first-stored (now (a .entries)) (a .p) (a .n) (now (a .out)) (a .fine) (some e) (l .out) (l .to) (l .k) (l .pair) (l .inv) (last e) (s .pre .below)
+    (c .before .before .before .before .before .before .put-fine2 .ensures) (c .before .before .put-coarse-row .ensures)
 
 pub put-rows-spec : {M : Type 1} → statement M
 put-rows-spec =
@@ -173,8 +177,6 @@ put-rows-spec =
     loop-less
     loop-again
     put-fine-requires-2
-    pair-time-requires
-    pair-packet-requires
     sub-put-coarse-row
     put-coarse-row-requires
     sub-result

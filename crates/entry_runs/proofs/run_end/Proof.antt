@@ -36,15 +36,15 @@ add-at c = search needs
 pair-at-requires-2 : tie.Need-pair-at-requires-2 Inv-loop μ-loop
 pair-at-requires-2 c κs = search needs
 
-same-pairs-requires : tie.Need-same-pairs-requires Inv-loop μ-loop
-same-pairs-requires c κs = search needs
+same-run-requires : tie.Need-same-run-requires Inv-loop μ-loop
+same-run-requires c κs = search needs
 
 returns : tie.Need-returns Inv-loop μ-loop
 returns c =
     let two = c .before .before in
     let l = two .before .before in
     let a = l .before .before .before .args in
-    along-stop (now (a .entries)) (a .p) (a .n) (a .map-type) (a .from) (l .loop .k) (l .loop .inv) (two .before .loop-test .taken) (l .before .pair-at .ensures) (two .pair-at2 .ensures) (c .before .same-pairs .ensures) (c .if1 .taken)
+    along-stop (now (a .entries)) (a .p) (a .n) (a .map-type) (a .from) (l .loop .k) (l .loop .inv) (two .before .loop-test .taken) (l .before .pair-at .ensures) (two .pair-at2 .ensures) (c .before .same-run .ensures) (c .if1 .taken)
 
 row-fits-requires : tie.Need-row-fits-requires Inv-loop μ-loop
 row-fits-requires c κs = search needs
@@ -55,7 +55,7 @@ returns-2 c =
     let two = same .before .before in
     let l = two .before .before in
     let a = l .before .before .before .args in
-    along-unfit (now (a .entries)) (a .p) (a .n) (a .map-type) (a .from) (l .loop .k) (l .loop .inv) (two .before .loop-test .taken) (l .before .pair-at .ensures) (two .pair-at2 .ensures) (same .before .same-pairs .ensures) (same .if1 .left) (c .before .row-fits .ensures) (c .if2 .taken)
+    along-unfit (now (a .entries)) (a .p) (a .n) (a .map-type) (a .from) (l .loop .k) (l .loop .inv) (two .before .loop-test .taken) (l .before .pair-at .ensures) (two .pair-at2 .ensures) (same .before .same-run .ensures) (same .if1 .left) (c .before .row-fits .ensures) (c .if2 .taken)
 
 add-k : tie.Need-add-k Inv-loop μ-loop
 add-k c = search needs
@@ -69,7 +69,7 @@ loop-again c =
     let two = same .before .before in
     let l = two .before .before in
     let a = l .before .before .before .args in
-    along-turn (now (a .entries)) (a .p) (a .n) (a .map-type) (a .from) (l .loop .k) (l .loop .inv) (two .before .loop-test .taken) (l .before .pair-at .ensures) (two .pair-at2 .ensures) (same .before .same-pairs .ensures) (same .if1 .left) (c .before .row-fits .ensures) (c .if2 .left)
+    along-turn (now (a .entries)) (a .p) (a .n) (a .map-type) (a .from) (l .loop .k) (l .loop .inv) (two .before .loop-test .taken) (l .before .pair-at .ensures) (two .pair-at2 .ensures) (same .before .same-run .ensures) (same .if1 .left) (c .before .row-fits .ensures) (c .if2 .left)
 
 returns-3 : tie.Need-returns-3 Inv-loop μ-loop
 returns-3 c =
@@ -90,7 +90,7 @@ run-end-spec =
     mul-at
     add-at
     pair-at-requires-2
-    same-pairs-requires
+    same-run-requires
     returns
     row-fits-requires
     returns-2

@@ -1,6 +1,7 @@
 -- The numbers of one time less the other.
 use mathlib.Core.Path.{ap, _∙_}
 use borrow.Author.Needs.{needs}
+use Rattle.format.proofs.Fields.{time-cells}
 use Rattle.format.specs.Ticks.{Ticks90}
 use Rattle.format.specs.Questions.{answerNumbers, ticks90}
 use Rattle.ep_entry_steps.proofs.span.Statement.{statement}
@@ -19,7 +20,9 @@ answer-of-90-requires : tie.Need-answer-of-90-requires
 answer-of-90-requires c κs = search needs
 
 returns : tie.Need-returns
-returns c = c .answer-of-90 .ensures ∙ ap (λ (t : Ticks90). answerNumbers (ticks90 t)) (c .before .less .ensures)
+returns c =
+    let a = c .before .before .before .before .args in
+    rw (time-cells (a .first .«pts_ep_start»), time-cells (a .last .«pts_ep_start»)) (c .answer-of-90 .ensures ∙ ap (λ (t : Ticks90). answerNumbers (ticks90 t)) (c .before .less .ensures))
 
 pub span-spec : {M : Type 1} → statement M
 span-spec = tie.close (tie.spec cast-t5 cast-t5-2 less-requires answer-of-90-requires returns)

@@ -1,4 +1,4 @@
--- The two cells are the entry's time and packet.
+-- The two numbers are the entry's time and packet.
 use denote.Ref.{now}
 use Rattle.text_lines.proofs.Laws.{in-as}
 use Rattle.listing.proofs.Laws.{entry-line}
@@ -6,17 +6,14 @@ use borrow.Author.Needs.{needs}
 use Rattle.listing.proofs.put_entry.Statement.{statement}
 use Rattle.listing.proofs.put_entry.Tie as tie
 
-add-cell-at : tie.Need-add-cell-at
-add-cell-at c = search needs
+time-at-requires : tie.Need-time-at-requires
+time-at-requires c κs = search needs
 
-cell-at-requires : tie.Need-cell-at-requires
-cell-at-requires c κs = search needs
+cast-time : tie.Need-cast-time
+cast-time c = record { fits = rw (c .time-at .ensures .same) (c .before .before .before .pre .1) }
 
-add-cell-at-2 : tie.Need-add-cell-at-2
-add-cell-at-2 c = search needs
-
-cell-at-requires-2 : tie.Need-cell-at-requires-2
-cell-at-requires-2 c κs = search needs
+packet-at-requires : tie.Need-packet-at-requires
+packet-at-requires c κs = search needs
 
 slice-aggregate-put-line : tie.Need-slice-aggregate-put-line
 slice-aggregate-put-line c = search needs
@@ -33,16 +30,15 @@ same-length c = search needs
 returns : tie.Need-returns
 returns c =
     let a = c .before .before .before .before .before .before .before .before .before .before .args in
-    in-as (entry-line (now (a .entries)) (a .row) (c .before .before .before .before .before .before .before .cell-at .ensures) (c .before .before .before .before .before .before .cell-at2 .ensures)) (c .before .before .put-line .ensures)
+    in-as (entry-line (now (a .entries)) (a .row) (c .before .before .before .before .before .before .before .time-at .ensures) (c .before .before .before .before .before .before .packet-at .ensures)) (c .before .before .put-line .ensures)
 
 pub put-entry-spec : {M : Type 1} → statement M
 put-entry-spec =
     tie.close
     (tie.spec
-    add-cell-at
-    cell-at-requires
-    add-cell-at-2
-    cell-at-requires-2
+    time-at-requires
+    cast-time
+    packet-at-requires
     slice-aggregate-put-line
     slice-aggregate-put-line-2
     put-line-requires

@@ -7,20 +7,20 @@ use denote.Ref.{now}
 use borrow.Author.Needs.{needs}
 use Rattle.format.specs.Bytes.{total}
 use Rattle.format.specs.ClipRecord.{entryCount}
-use Rattle.format.specs.Tables.{mapCells}
+use Rattle.format.specs.Tables.{mapCells, entrySize}
 use Rattle.format.specs.Listing.{mapLines}
 use Rattle.text_lines.specs.Stored.{Still}
 use Rattle.listing.specs.Text.{mapsFrom, entriesFrom}
 use Rattle.text_lines.proofs.Laws.{in-then, still-as, still-turn, still-none, still-all}
 use Rattle.format.proofs.Cell.{row-cell}
-use Rattle.listing.proofs.Laws.{counts-all, maps-all, counts-turn, maps-turn, maps-done}
+use Rattle.listing.proofs.Laws.{counts-all, maps-all, times-turn, counts-turn, maps-turn, maps-done}
 use Rattle.listing.proofs.put_maps.Statement.{statement}
 use Rattle.listing.proofs.put_maps.Tie as tie
 
 abbrev Inv-loop : tie.InvT-loop
 Inv-loop out₀ at maps n entries m p₀ q₀ k₀ i₀ out p q k i =
     (i ≤ n) × (q ≡ 12 * i) × (k + total entryCount (mapsFrom maps q (n - i)) ≤ m) × (p ≤ at + (37 * i + 25 * k))
-    × Still out₀ at (mapLines (mapsFrom maps 0 n) (entriesFrom entries 0 m)) (mapLines (mapsFrom maps q (n - i)) (entriesFrom entries (k * 20) (m - k))) p out
+    × Still out₀ at (mapLines (mapsFrom maps 0 n) (entriesFrom entries 0 m)) (mapLines (mapsFrom maps q (n - i)) (entriesFrom entries (entrySize * k) (m - k))) p out
 
 abbrev μ-loop : tie.MeasureT-loop
 μ-loop out₀ at maps n entries m p₀ q₀ k₀ i₀ out p q k i = n - i
@@ -58,7 +58,7 @@ put-entries-requires c κs =
     let x = c .before .before .before .before .before .cell-at .result in
     let count = row-cell ms mapCells (l .q) 2 (lit< tt) refl (c .before .before .before .before .before .cell-at .ensures .same) in
     let enough = counts-turn ms (l .q) (a .n) (l .i) (l .k) (a .m) x (omega arith) count (l .inv .2) in
-    omega arith
+    (omega arith, omega arith, times-turn (now (a .entries)) (a .m) (l .k) x (omega arith) (c .before .before .before .before .before .before .before .before .before .before .before .pre .4))
 
 cast-k : tie.Need-cast-k Inv-loop μ-loop
 cast-k c = search needs
@@ -85,7 +85,7 @@ loop-again c =
     let enough = counts-turn ms (l .q) (a .n) (l .i) (l .k) (a .m) x (omega arith) count (l .inv .2) in
     let es = now (a .entries) in
     let left = still-as (maps-turn ms (l .q) (a .n) (l .i) (l .k) (a .m) x (omega arith) count (l .inv .2) es) (l .inv .4) in
-    let later = mapLines (mapsFrom ms (l .q + 12) (a .n - (l .i + 1))) (entriesFrom es ((l .k + x) * 20) (a .m - (l .k + x))) in
+    let later = mapLines (mapsFrom ms (l .q + 12) (a .n - (l .i + 1))) (entriesFrom es (entrySize * (l .k + x)) (a .m - (l .k + x))) in
     let lines = in-then (c .before .before .before .before .before .before .put-map .ensures) (c .before .before .put-entries .ensures) in
     (search needs, search needs, enough, omega (arith, lines .short), still-turn later (lines .text) left)
 

@@ -21,7 +21,7 @@ returns : tie.Need-returns
 returns c =
     let s = c .before .before .before .before .before .before .before in
     let a = s .args in
-    coarse-stored (now (a .out)) (a .at) (a .first-fine) (a .time) (a .packet) (s .pre .0) (s .fits .time .fits) (s .fits .packet .fits)
+    coarse-stored (now (a .out)) (a .at) (a .first-fine) (a .time) (a .packet) (s .pre .0) (s .pre .1) (s .fits .packet .fits)
     (c .before .before .before .before .before .coarse-time-of .ensures) (c .before .before .before .before .coarse-row-word .ensures) (c .before .before .put-u64 .ensures)
 
 pub put-coarse-row-spec : {M : Type 1} → statement M

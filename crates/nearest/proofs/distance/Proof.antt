@@ -7,17 +7,14 @@ use Rattle.nearest.proofs.distance.Tie as tie
 sub-result : tie.Need-sub-result
 sub-result c = search needs
 
-cast-result : tie.Need-cast-result
-cast-result c = search needs
+sub-result-2 : tie.Need-sub-result-2
+sub-result-2 c = search needs
 
 returns : tie.Need-returns
 returns c = let a = c .before .before .args in after-it (a .at) (a .time) (c .before .if1 .taken) (c .if2 .taken)
 
 returns-2 : tie.Need-returns-2
 returns-2 c = let a = c .before .before .args in not-after (a .at) (a .time) (c .before .if1 .taken) (c .if2 .left)
-
-cast-result-2 : tie.Need-cast-result-2
-cast-result-2 c = search needs
 
 returns-3 : tie.Need-returns-3
 returns-3 c = let a = c .before .before .args in before-it (a .at) (a .time) (c .before .if1 .left) (c .if3 .taken)
@@ -27,4 +24,4 @@ returns-4 c = let a = c .before .before .args in not-before (a .at) (a .time) (c
 
 pub distance-spec : {M : Type 1} → statement M
 distance-spec =
-    tie.close (tie.spec sub-result cast-result returns returns-2 cast-result-2 returns-3 returns-4)
+    tie.close (tie.spec sub-result sub-result-2 returns returns-2 returns-3 returns-4)

@@ -6,7 +6,7 @@ use native.Mathlib.Omega.{arith}
 use denote.Ref.{now}
 use lib.ListN.{length}
 use lib.Seq.{sets}
-use Rattle.format.specs.Tables.{tableBytes}
+use Rattle.format.specs.Tables.{tableBytes, entrySize}
 use Rattle.ep_entries.specs.Body.{coarseIn, entriesIn, entriesLeft}
 use Rattle.ep_entries.specs.Walks.{IsWalk}
 use Rattle.ep_entries.proofs.Walks.{walk-later}
@@ -19,7 +19,7 @@ Inv-loop file m table₀ at w₀ k₀ table w k =
     (k ≤ m .«num_fine»)
     × IsWalk file (coarseIn file m) k w
     × (length table ≡ length table₀)
-    × (sets table (at + 20 * k) (tableBytes (entriesLeft file m k)) ≡ sets table₀ at (tableBytes (entriesIn file m)))
+    × (sets table (at + entrySize * k) (tableBytes (entriesLeft file m k)) ≡ sets table₀ at (tableBytes (entriesIn file m)))
 
 abbrev μ-loop : tie.MeasureT-loop
 μ-loop file m table₀ at w₀ k₀ table w k = m .«num_fine» - k
@@ -31,7 +31,7 @@ loop-holds : tie.Need-loop-holds Inv-loop μ-loop
 loop-holds c =
     let a = c .before .before .before .args in
     let f = now (a .file) in
-    let z : a .at + 20 * 0 ≡ a .at = omega arith in
+    let z : a .at + entrySize * 0 ≡ a .at = omega arith in
     (omega arith, c .start .ensures, refl, rw (z, left-all f (a .m)))
 
 cast-reach : tie.Need-cast-reach Inv-loop μ-loop
@@ -82,7 +82,7 @@ returns c =
     let a = c .before .before .before .before .before .before .args in
     let f = now (a .file) in
     let l = c .before .before .loop in
-    entries-done f (a .m) (l .k) (l .table) (a .at + 20 * l .k) (c .if1 .left) (l .inv .3)
+    entries-done f (a .m) (l .k) (l .table) (a .at + entrySize * l .k) (c .if1 .left) (l .inv .3)
 
 pub put-entries-spec : {M : Type 1} → statement M
 put-entries-spec =

@@ -16,26 +16,23 @@ abbrev μ-loop : tie.MeasureT-loop
 mul-start : tie.Need-mul-start Inv-loop μ-loop
 mul-start c = search needs
 
-add-start : tie.Need-add-start Inv-loop μ-loop
-add-start c = search needs
-
 none-yet-requires : tie.Need-none-yet-requires Inv-loop μ-loop
 none-yet-requires c κs = search needs
 
 loop-holds : tie.Need-loop-holds Inv-loop μ-loop
 loop-holds c = let a = c .before .before .args in (omega arith, look-first (now (a .entries)) (a .first) (a .count) (a .is-after) (a .at) (c .none-yet .ensures))
 
-cast-cell-at : tie.Need-cast-cell-at Inv-loop μ-loop
-cast-cell-at c = search needs
+cast-time-at : tie.Need-cast-time-at Inv-loop μ-loop
+cast-time-at c = search needs
 
-mul-cell-at : tie.Need-mul-cell-at Inv-loop μ-loop
-mul-cell-at c = search needs
+mul-time-at : tie.Need-mul-time-at Inv-loop μ-loop
+mul-time-at c = search needs
 
-add-cell-at : tie.Need-add-cell-at Inv-loop μ-loop
-add-cell-at c = search needs
+add-time-at : tie.Need-add-time-at Inv-loop μ-loop
+add-time-at c = search needs
 
-cell-at-requires : tie.Need-cell-at-requires Inv-loop μ-loop
-cell-at-requires c κs = search needs
+time-at-requires : tie.Need-time-at-requires Inv-loop μ-loop
+time-at-requires c κs = search needs
 
 cast-look-at-time : tie.Need-cast-look-at-time Inv-loop μ-loop
 cast-look-at-time c = search needs
@@ -51,9 +48,10 @@ loop-less c = search needs
 
 loop-again : tie.Need-loop-again Inv-loop μ-loop
 loop-again c =
-    let a = c .before .before .before .before .before .before .args in
+    let s = c .before .before .before .before .before .before in
+    let a = s .args in
     let l = c .before .before .before .loop in
-    (omega arith, look-turn (now (a .entries)) (a .first) (a .count) (a .is-after) (a .at) (omega arith) (l .k) (l .nearest) (omega arith) (c .before .cell-at .ensures) (c .look-at-time .ensures) (l .inv .1))
+    (omega arith, look-turn (now (a .entries)) (a .first) (a .count) (a .is-after) (a .at) (s .pre .1) (l .k) (l .nearest) (omega arith) (c .before .time-at .ensures) (c .look-at-time .ensures) (l .inv .1))
 
 returns : tie.Need-returns Inv-loop μ-loop
 returns c =
@@ -68,13 +66,12 @@ scan-spec =
     Inv-loop
     μ-loop
     mul-start
-    add-start
     none-yet-requires
     loop-holds
-    cast-cell-at
-    mul-cell-at
-    add-cell-at
-    cell-at-requires
+    cast-time-at
+    mul-time-at
+    add-time-at
+    time-at-requires
     cast-look-at-time
     look-at-time-requires
     add-k

@@ -1,5 +1,6 @@
 -- A refusal stands in front of the map's own entries; of these the nearest has the packet.
 use mathlib.Core.Path.{_≡_, sym, ap, _∙_}
+use native.Mathlib.Omega.{arith}
 use denote.Ref.{now}
 use Rattle.queries.specs.Asked.{stated}
 use Rattle.table_rows.specs.OwnRows.{owns, ownedOf}
@@ -22,8 +23,14 @@ enum-known-first c = search needs
 own : (k : tie.After-known-told) → let a = k .before .before .before .before .before .before .args in owns (k .before .first .given .0 .0) (k .before .first .given .0 .1 .0) ≡ entriesOf (stated (now (a .maps)) (a .map-rows)) (stated (now (a .entries)) (a .entry-rows)) (a .map)
 own k = sym (ap ownedOf (k .before .first .given .1)) ∙ k .before .before .before .entries-of-map .ensures
 
+cast-seek-in : tie.Need-cast-seek-in
+cast-seek-in c = search needs
+
 seek-in-requires : tie.Need-seek-in-requires
-seek-in-requires c κs = let a = c .before .before .before .before .before .before .args in inside (stated (now (a .maps)) (a .map-rows)) (stated (now (a .entries)) (a .entry-rows)) (a .map) (own c)
+seek-in-requires c κs =
+    let k = c .before in
+    let a = k .before .before .before .before .before .before .args in
+    (inside (stated (now (a .maps)) (a .map-rows)) (stated (now (a .entries)) (a .entry-rows)) (a .map) (own k), omega arith)
 
 returns : tie.Need-returns
 returns c =
@@ -32,7 +39,7 @@ returns c =
 
 returns-2 : tie.Need-returns-2
 returns-2 c =
-    let k = c .before in
+    let k = c .before .before in
     let a = k .before .before .before .before .before .before .args in
     c .seek-in .ensures ∙ asked (seek-asks (stated (now (a .maps)) (a .map-rows)) (stated (now (a .entries)) (a .entry-rows)) (a .map) (a .is-after) (a .at .0)) (own k)
 
@@ -43,6 +50,7 @@ seek-spec =
     entries-of-map-requires
     enum-told
     enum-known-first
+    cast-seek-in
     seek-in-requires
     returns
     returns-2)

@@ -32,20 +32,17 @@ module _ (k : tie.After-known-told2) where
   row-below : let a = k .before .before .before .before .before .args in k .before .row .given .0 .0 < a .count
   row-below = let a = k .before .before .before .before .before .args in found-below (now (a .entries)) (a .first) (a .count) (a .at) (a .is-after) (k .before .row .given .0 .0) found-row
 
-add-cell-at : tie.Need-add-cell-at
-add-cell-at c = record { fits = omega (arith, row-below c, c .before .before .before .before .before .pre) }
+add-packet-at : tie.Need-add-packet-at
+add-packet-at c = record { fits = omega (arith, row-below c, c .before .before .before .before .before .pre .0) }
 
-mul-cell-at : tie.Need-mul-cell-at
-mul-cell-at c = record { fits = omega (arith, row-below c, c .before .before .before .before .before .pre) }
+mul-packet-at : tie.Need-mul-packet-at
+mul-packet-at c = record { fits = omega (arith, row-below c, c .before .before .before .before .before .pre .0) }
 
-add-cell-at-2 : tie.Need-add-cell-at-2
-add-cell-at-2 c = record { fits = omega (arith, row-below c, c .before .before .before .before .before .pre) }
+packet-at-requires : tie.Need-packet-at-requires
+packet-at-requires c κs = omega (arith, row-below c, c .before .before .before .before .before .pre .0)
 
-cell-at-requires : tie.Need-cell-at-requires
-cell-at-requires c κs = omega (arith, row-below c, c .before .before .before .before .before .pre)
-
-cast-t15 : tie.Need-cast-t15
-cast-t15 c = search needs
+cast-t14 : tie.Need-cast-t14
+cast-t14 c = search needs
 
 returns : tie.Need-returns
 returns c =
@@ -61,7 +58,7 @@ returns-3 : tie.Need-returns-3
 returns-3 c =
     let k = c .before in
     let a = k .before .before .before .before .before .args in
-    packet-is (now (a .entries)) (a .first) (a .count) (a .at) (k .before .row .given .0 .0) (row-below k) (c .cell-at .ensures)
+    packet-is (now (a .entries)) (a .first) (a .count) (a .at) (k .before .row .given .0 .0) (row-below k) (c .packet-at .ensures)
     ∙ ap (ofRow packet (entriesAt (now (a .entries)) (a .first) (a .count))) (found-row k)
 
 pub seek-in-spec : {M : Type 1} → statement M
@@ -72,11 +69,10 @@ seek-in-spec =
     enum-known-refusal
     enum-told
     enum-known-row
-    add-cell-at
-    mul-cell-at
-    add-cell-at-2
-    cell-at-requires
-    cast-t15
+    add-packet-at
+    mul-packet-at
+    packet-at-requires
+    cast-t14
     returns
     returns-2
     returns-3)

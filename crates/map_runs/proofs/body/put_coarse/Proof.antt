@@ -4,7 +4,7 @@ use native.Mathlib.Omega.{arith}
 use denote.Ref.{now}
 use lib.ListN.{length}
 use Rattle.map_runs.proofs.Turns.{end-past}
-use Rattle.map_runs.proofs.Bodies.{Coarse, coarse-first, coarse-room, coarse-turn, coarse-done}
+use Rattle.map_runs.proofs.Bodies.{met-below, Coarse, coarse-first, coarse-room, coarse-turn, coarse-done}
 use Rattle.map_runs.proofs.body.put_coarse.Statement.{statement}
 use Rattle.map_runs.proofs.body.put_coarse.Tie as tie
 
@@ -40,7 +40,11 @@ room c =
     coarse-room (now (a .file)) (a .m) (now (a .out)) (a .at) (l .out) (l .walk) (l .to) (l .k) (l .inv) (c .if1 .taken) (s .pre .room)
 
 put-coarse-row-requires : tie.Need-put-coarse-row-requires Inv-loop μ-loop
-put-coarse-row-requires c κs = (omega (arith, c .before .before .before .before .before .before .before .before .before .before .pre .rows .few, c .before .before .before .before .if1 .taken), room (c .before .before .before .before))
+put-coarse-row-requires c κs =
+    let t = c .before .before .before .before in
+    let s = t .before .before .before .before .before .before in
+    let met = c .before .before .before .meet in
+    (omega (arith, s .pre .rows .few, t .if1 .taken), met-below (now (s .args .file)) (s .args .m) (t .before .before .loop .k) (met .result) (met .ensures), room t)
 
 add-to : tie.Need-add-to Inv-loop μ-loop
 add-to c =

@@ -1,0 +1,47 @@
+-- An entry's numbers by its cells, and its row by its numbers.
+use Prim.Native.Nat.{ℕ, _+_, _*_, _/_, _%_, _<_, _^_}
+use mathlib.Core.Path.{_≡_, refl, sym, ap, _∙_}
+use mathlib.Core.List.{List, [], _∷_}
+use native.Mathlib.Omega.{arith}
+use lib.Dec.{lit<}
+use lib.ListN.{length, getD}
+use lib.Seq.{sets}
+use Rattle.format.specs.ClipRecord.{Row, entryRow, angle, iEnd, packet, entryType}
+use Rattle.format.specs.Tables.{cellBytes, cellsAt, rowBytes, entryCells}
+use Rattle.format.proofs.Cell.{row-cell}
+use Rattle.format.proofs.Loops.{flat-append}
+use Rattle.format.proofs.Stores.{part-then}
+use Rattle.format.proofs.Sweep.{row-bytes}
+use Rattle.cells.specs.Reads.{CellIs}
+use Rattle.entry_rows.specs.Reads.{EntryHas, TimeIs}
+
+module _ (t : List ℕ) (q : ℕ) where
+  -- cell j of the row
+  cell-is : (j : ℕ) {at r : ℕ} → j < entryCells → at ≡ q + 4 * j → CellIs t at r → r ≡ getD (cellsAt t entryCells q) j 0
+  cell-is j h e c = row-cell t entryCells q j h e (c .same)
+
+  -- a number of one cell
+  pub entry-cell : (j : ℕ) {at r : ℕ} → j < entryCells → at ≡ q + 4 * j → CellIs t at r → EntryHas (λ (e : Row). getD e j 0) 32 t q r
+  entry-cell j h e c = record { same = cell-is j h e c; below = c .below }
+
+  -- the time, of two
+  pub entry-time : {low high : ℕ} → CellIs t (q + 8) low → CellIs t (q + 12) high → TimeIs t q (low + high * 4294967296)
+  entry-time {low} {high} a b =
+      let first : (low + high * 4294967296) % 2 ^ 32 ≡ low = omega (arith, a .below) in
+      let second : (low + high * 4294967296) / 2 ^ 32 ≡ high = omega (arith, a .below) in
+      let one = cell-is 2 (lit< tt) (omega arith) a in
+      let two = cell-is 3 (lit< tt) (omega arith) b in
+      record { same = rw (one, two); below = omega (arith, a .below, b .below); lower = first ∙ one; upper = second ∙ two }
+
+  -- the numbers of an entry are its row
+  pub entry-whole : {a i c p y : ℕ} → EntryHas angle 32 t q a → EntryHas iEnd 32 t q i → TimeIs t q c → EntryHas packet 32 t q p → EntryHas entryType 32 t q y
+      → entryRow a i c p y ≡ cellsAt t entryCells q
+  entry-whole a i c p y = rw (a .same, i .same, c .lower, c .upper, p .same, y .same)
+
+-- three cells stored, and three behind them
+pub six-cells : (o : List ℕ) (at a b c d e f : ℕ) {o′ o″ : List ℕ} → o′ ≡ sets o at (rowBytes (a ∷ b ∷ c ∷ [])) → o″ ≡ sets o′ (at + 12) (rowBytes (d ∷ e ∷ f ∷ []))
+    → o″ ≡ sets o at (rowBytes (a ∷ b ∷ c ∷ d ∷ e ∷ f ∷ []))
+six-cells o at a b c d e f p q =
+    let first = rowBytes (a ∷ b ∷ c ∷ []) in
+    let size : length first ≡ 12 = row-bytes (a ∷ b ∷ c ∷ []) in
+    part-then o at 12 first (rowBytes (d ∷ e ∷ f ∷ [])) size refl p q ∙ ap (sets o at) (sym (flat-append cellBytes (a ∷ b ∷ c ∷ []) (d ∷ e ∷ f ∷ [])))

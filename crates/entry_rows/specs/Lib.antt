@@ -1,0 +1,2 @@
+-- What a read of an entry's row answers.
+pub mod Reads

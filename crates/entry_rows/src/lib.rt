@@ -1,0 +1,73 @@
+// The row of an entry in its table: its size, where each of its numbers stands, and a row stored. Nothing else knows these places.
+ghost use mathlib.Core.Path.{_≡_};
+ghost use Prim.Native.Nat.{_+_, _≤_};
+ghost use lib.ListN.{length};
+ghost use lib.Seq.{sets};
+ghost use Rattle.format.specs.ClipRecord.{entryRow, angle, iEnd, packet, entryType};
+ghost use Rattle.format.specs.Tables.{rowBytes, entrySize};
+ghost use Rattle.entry_rows.specs.Reads.{EntryHas, TimeIs};
+use cells::cell_at;
+use cells::put_row3;
+
+// The cells of a row; a time has two.
+pub const CELLS: usize = 6;
+
+// The bytes of a row.
+pub const SIZE: usize = 24;
+
+// Whether the angle may change at the entry at byte q.
+pub fn angle_at(t: &[u8], q: usize) -> u32
+    requires { ⌜ q + entrySize ≤ length (now t) ⌝ }
+    ensures { λ r. ⌜ EntryHas angle 32 (now (t .entry)) q r ⌝ }
+{
+    cell_at(t, q)
+}
+
+// Where its I picture ends.
+pub fn i_end_at(t: &[u8], q: usize) -> u32
+    requires { ⌜ q + entrySize ≤ length (now t) ⌝ }
+    ensures { λ r. ⌜ EntryHas iEnd 32 (now (t .entry)) q r ⌝ }
+{
+    cell_at(t, q + 4)
+}
+
+// Its time: one load of eight bytes.
+pub fn time_at(t: &[u8], q: usize) -> u64
+    requires { ⌜ q + entrySize ≤ length (now t) ⌝ }
+    ensures { λ r. ⌜ TimeIs (now (t .entry)) q r ⌝ }
+{
+    cell_at(t, q + 8) as u64 + (cell_at(t, q + 12) as u64) * 4294967296
+}
+
+// Its packet.
+pub fn packet_at(t: &[u8], q: usize) -> u32
+    requires { ⌜ q + entrySize ≤ length (now t) ⌝ }
+    ensures { λ r. ⌜ EntryHas packet 32 (now (t .entry)) q r ⌝ }
+{
+    cell_at(t, q + 16)
+}
+
+// Its type.
+pub fn type_at(t: &[u8], q: usize) -> u32
+    requires { ⌜ q + entrySize ≤ length (now t) ⌝ }
+    ensures { λ r. ⌜ EntryHas entryType 32 (now (t .entry)) q r ⌝ }
+{
+    cell_at(t, q + 20)
+}
+
+// Stores the row of an entry from `at`.
+pub fn put_row(
+    t: &mut [u8],
+    at: usize,
+    angle: u32,
+    i_end: u32,
+    time: u64,
+    packet: u32,
+    entry_type: u32,
+)
+    requires { ⌜ at + entrySize ≤ length (now t) ⌝ }
+    ensures { λ _. ⌜ now (t .exit) ≡ sets (now (t .entry)) at (rowBytes (entryRow angle «i_end» time packet «entry_type»)) ⌝ }
+{
+    put_row3(t, at, angle, i_end, (time % 4294967296) as u32);
+    put_row3(t, at + 12, (time / 4294967296) as u32, packet, entry_type);
+}
