@@ -1,11 +1,11 @@
 // The row of an entry in its table: its size, where each of its numbers stands, and a row stored. Nothing else knows these places.
 ghost use mathlib.Core.Path.{_≡_};
-ghost use Prim.Native.Nat.{_+_, _≤_};
+ghost use Prim.Native.Nat.{_+_, _*_, _%_, _≤_};
 ghost use lib.ListN.{length};
 ghost use lib.Seq.{sets};
 ghost use Rattle.format.specs.ClipRecord.{entryRow, angle, iEnd, packet, entryType};
 ghost use Rattle.format.specs.Tables.{rowBytes, entrySize};
-ghost use Rattle.entry_rows.specs.Reads.{EntryHas, TimeIs};
+ghost use Rattle.entry_rows.specs.Reads.{EntryHas, TimeIs, WordsAre};
 use cells::cell_at;
 use cells::put_row3;
 
@@ -53,6 +53,38 @@ pub fn type_at(t: &[u8], q: usize) -> u32
     ensures { λ r. ⌜ EntryHas entryType 32 (now (t .entry)) q r ⌝ }
 {
     cell_at(t, q + 20)
+}
+
+// A row as three words of eight bytes: angle and I-end, the time, packet and type. Of two numbers the first is the lower half.
+pub struct Words {
+    pub front: u64,
+    pub time: u64,
+    pub back: u64,
+}
+
+// Two numbers as the halves of one.
+fn halves(low: u32, high: u32) -> u64
+    ensures { λ r. ⌜ r ≡ high * 4294967296 + low ⌝ }
+{
+    (high as u64) * 4294967296 + low as u64
+}
+
+// The words of the row at byte q: one load each.
+pub fn words_at(t: &[u8], q: usize) -> Words
+    requires { ⌜ q + entrySize ≤ length (now t) ⌝ }
+    ensures { λ r. ⌜ WordsAre (now (t .entry)) q r ⌝ }
+{
+    let front = halves(angle_at(t, q), i_end_at(t, q));
+    let time = time_at(t, q);
+    let back = halves(packet_at(t, q), type_at(t, q));
+    Words { front, time, back }
+}
+
+// The packet of a row by its words.
+pub fn packet_of(words: Words) -> u32
+    ensures { λ r. ⌜ r ≡ words .back % 4294967296 ⌝ }
+{
+    (words.back % 4294967296) as u32
 }
 
 // Stores the row of an entry from `at`.

@@ -13,14 +13,16 @@ use Rattle.format.specs.Refusals.{entryFits}
 use Rattle.format.specs.Rewriting.{timeKey, packetKey, sameRun, coarseRow, coarseAfter, runs}
 use Rattle.format.specs.Tables.{cellsAt, entryCells, entrySize}
 use Rattle.format.proofs.Rows.{rows-length, drop-rows, left-all, left-turn, left-done}
-use Rattle.format.proofs.Tests.{true-both, left-fails, picked, not-picked}
-use Rattle.runs.specs.Runs.{entriesAt, entriesFrom, sameKeys, PairIs, runEnd, endFrom, coarseFrom}
-use Rattle.runs.specs.declared.Pair.{Pair}
-use Rattle.runs.proofs.Runs.{same-pairs, run-ends, after-run, coarse-all}
-use Rattle.entry_runs.specs.Fitting.{fitUntil, endFit, runsFit}
+use Rattle.format.proofs.Tests.{both-true, true-both, left-fails, picked, not-picked}
+use Rattle.entry_rows.specs.declared.Words.{Words}
+use Rattle.entry_rows.specs.Reads.{WordsAre}
+use Rattle.runs.specs.Runs.{entriesAt, entriesFrom, runEnd, endFrom, coarseFrom}
+use Rattle.runs.proofs.Runs.{run-ends, after-run, coarse-all}
+use Rattle.entry_runs.specs.Fitting.{fitUntil, endFit, runsFit, wordsSame, goesOn}
 use Rattle.entry_runs.specs.declared.RunEnd.{RunEnd}
 use Rattle.entry_runs.specs.declared.RunCount.{RunCount}
 use Rattle.entry_runs.proofs.Choices.{every-parts}
+use Rattle.entry_runs.proofs.Words.{words-same, words-go-on}
 
 -- an entry is in its own run
 same-self : (e : Row) → sameRun e e ≡ true
@@ -53,7 +55,7 @@ module _ (t : List ℕ) (p n type : ℕ) where
       pub fit : fitUntil type itsEnd k (entriesFrom t p n k) ≡ endFit type from (entriesFrom t p n from)
 
     -- before its first entry nothing is known
-    pub along-first : from < n → Along from
+    along-first : from < n → Along from
     unfolding runEnd endFit
     along-first h = record { past = omega arith; within = omega arith; rest = rw (left-turn (cellsAt t entryCells) entrySize p n from h, same-self (rowAt from)); fit = refl }
 
@@ -63,25 +65,17 @@ module _ (t : List ℕ) (p n type : ℕ) where
         let none : itsEnd - k ≡ 0 = omega arith in
         ap RunEnd.At e ∙ rw none at (i .fit)
 
-    module _ (k : ℕ) (i : Along k) (h : k < n) {a b : Pair} {s : Bool} (one : PairIs t (p + entrySize * from) a) (two : PairIs t (p + entrySize * k) b) (is : s ≡ sameKeys (a .time) (a .packet) (b .time) (b .packet)) where
-      -- row k is compared with the run's first
-      same-as : s ≡ sameRun (rowAt from) (rowAt k)
-      same-as = is ∙ same-pairs t (p + entrySize * from) (p + entrySize * k) one two
-
-      -- it is the first behind the run
-      pub along-stop : not s ≡ true → RunEnd.At k ≡ endFit type from (entriesFrom t p n from)
+    module _ (k : ℕ) (i : Along k) (h : k < n) where
+      -- row k is the first behind the run
+      along-stop : sameRun (rowAt from) (rowAt k) ≡ false → RunEnd.At k ≡ endFit type from (entriesFrom t p n from)
       unfolding runEnd
-      along-stop y =
-          let differs : sameRun (rowAt from) (rowAt k) ≡ false = sym same-as ∙ not-true s y in
-          at-end k i (rw (left-turn (cellsAt t entryCells) entrySize p n k h, differs) at (i .rest))
+      along-stop differs = at-end k i (rw (left-turn (cellsAt t entryCells) entrySize p n k h, differs) at (i .rest))
 
-      module _ (y : not s ≡ false) where
+      module _ (same : sameRun (rowAt from) (rowAt k) ≡ true) where
         -- it is in the run
         later : runEnd (rowAt from) (suc k) (entriesFrom t p n (k + 1)) ≡ itsEnd
         unfolding runEnd
-        later =
-            let same : sameRun (rowAt from) (rowAt k) ≡ true = sym same-as ∙ not-false s y in
-            rw (left-turn (cellsAt t entryCells) entrySize p n k h, same) at (i .rest)
+        later = rw (left-turn (cellsAt t entryCells) entrySize p n k h, same) at (i .rest)
 
         -- so it is tested with those behind it
         tested : pick (both (entryFits type (rowAt k)) (every (entryFits type) (take (itsEnd - (k + 1)) (entriesFrom t p n (k + 1))))) (RunEnd.At itsEnd) RunEnd.Unfit
@@ -92,14 +86,51 @@ module _ (t : List ℕ) (p n type : ℕ) where
             rw (left-turn (cellsAt t entryCells) entrySize p n k h, more) at (i .fit)
 
         -- it does not fit
-        pub along-unfit : {f : Bool} → f ≡ entryFits type (rowAt k) → not f ≡ true → RunEnd.Unfit ≡ endFit type from (entriesFrom t p n from)
-        along-unfit {f} js g = let fails : entryFits type (rowAt k) ≡ false = sym js ∙ not-true f g in rw fails at tested
+        along-unfit : entryFits type (rowAt k) ≡ false → RunEnd.Unfit ≡ endFit type from (entriesFrom t p n from)
+        along-unfit fails = rw fails at tested
 
         -- it fits
-        pub along-turn : {f : Bool} → f ≡ entryFits type (rowAt k) → not f ≡ false → Along (k + 1)
-        along-turn {f} js g =
-            let fits : entryFits type (rowAt k) ≡ true = sym js ∙ not-false f g in
-            record { past = omega (arith, i .past); within = omega arith; rest = rw add-one (rw add-one at later); fit = rw fits at tested }
+        along-fit : entryFits type (rowAt k) ≡ true → Along (k + 1)
+        along-fit fits = record { past = omega (arith, i .past); within = omega arith; rest = rw add-one (rw add-one at later); fit = rw fits at tested }
+
+    module _ (h : from < n) where
+      -- the run's first entry does not fit
+      pub first-unfit : {f : Bool} → f ≡ entryFits type (rowAt from) → not f ≡ true → RunEnd.Unfit ≡ endFit type from (entriesFrom t p n from)
+      first-unfit {f} is y = along-unfit from (along-first h) h (same-self (rowAt from)) (sym is ∙ not-true f y)
+
+      -- it fits
+      pub first-fit : {f : Bool} → f ≡ entryFits type (rowAt from) → not f ≡ false → Along (from + 1)
+      first-fit {f} is y = along-fit from (along-first h) h (same-self (rowAt from)) (sym is ∙ not-false f y)
+
+    -- row k is compared with the run's first entry: g says whether it is in the run and fits, s whether it is in the run
+    pub record Compared (k : ℕ) (g s : Bool) : Type 0 where
+      pub along : Along k
+      pub there : k < n
+      pub both-are : g ≡ both (sameRun (rowAt from) (rowAt k)) (entryFits type (rowAt k))
+      pub run-is : s ≡ sameRun (rowAt from) (rowAt k)
+
+    -- by the words of both, where the run's first entry fits
+    pub words-compared : (k : ℕ) → Along k → k < n → {a b : Words} {f g : Bool} → WordsAre t (p + entrySize * from) a → WordsAre t (p + entrySize * k) b
+        → f ≡ entryFits type (rowAt from) → not f ≡ false → g ≡ goesOn a b → Compared k g (wordsSame a b)
+    words-compared k i h {f = f} are those fits y is = record {
+      along = i;
+      there = h;
+      both-are = is ∙ words-go-on t (p + entrySize * from) (p + entrySize * k) are those type (sym fits ∙ not-false f y);
+      run-is = words-same t (p + entrySize * from) (p + entrySize * k) are those;
+    }
+
+    module _ (k : ℕ) {g s : Bool} (c : Compared k g s) where
+      -- it is in the run and fits
+      pub along-turn : not g ≡ false → Along (k + 1)
+      along-turn y = let parts = both-true (sym (c .both-are) ∙ not-false g y) in along-fit k (c .along) (c .there) (parts .0) (parts .1)
+
+      -- it isn't, or doesn't: which, is told
+      pub along-stopped : not g ≡ true → {r : RunEnd} → r ≡ pick s RunEnd.Unfit (RunEnd.At k) → r ≡ endFit type from (entriesFrom t p n from)
+      along-stopped y {r} said = said ∙ go s (sym (c .run-is))
+        where
+          go : (s : Bool) → sameRun (rowAt from) (rowAt k) ≡ s → pick s RunEnd.Unfit (RunEnd.At k) ≡ endFit type from (entriesFrom t p n from)
+          go true same = along-unfit k (c .along) (c .there) same (rw same at (sym (c .both-are) ∙ not-true g y))
+          go false differs = along-stop k (c .along) (c .there) differs
 
     -- the run ends with the entries
     pub along-done : (k : ℕ) → Along k → n ≤ k → RunEnd.At k ≡ endFit type from (entriesFrom t p n from)

@@ -2,13 +2,19 @@
 ghost use mathlib.Core.Path.{_≡_};
 ghost use Prim.Native.Nat.{_+_, _*_, _≤_, _<_};
 ghost use lib.ListN.{length};
+ghost use mathlib.Core.Bool.{true};
+ghost use Rattle.format.specs.Bytes.{pick};
+ghost use Rattle.format.specs.Refusals.{entryFits};
 ghost use Rattle.format.specs.Tables.{entrySize};
 ghost use Rattle.runs.specs.Runs.{entriesAt, entriesFrom};
-ghost use Rattle.entry_runs.specs.Fitting.{endFit, runsFit};
+ghost use Rattle.entry_runs.specs.Fitting.{endFit, runsFit, wordsRow, wordsType, wordsSame, goesOn};
+ghost use Rattle.entry_runs.specs.declared.RunEnd.{RunEnd};
 use entry_rows::SIZE;
+use entry_rows::Words;
+use entry_rows::packet_of;
+use entry_rows::words_at;
 use row_limits::Kind;
 use row_limits::row_fits;
-use runs::pair_at;
 use runs::same_run;
 
 // The row at which a run ends, or that an entry of it does not fit.
@@ -23,21 +29,45 @@ pub enum RunCount {
     Unfit,
 }
 
-// The end of the run that begins at row `from`, of the n entries at byte p of a map of this type. Each entry is compared with the run's first, and tested if it is of the run.
+// Whether an entry is in the run of another one that fits, and fits too. Three words tell it: what is the same in a run and what must be 0 are compared at once, and the bits that are free in a run are masked.
+fn goes_on(first: Words, words: Words) -> bool
+    requires { ⌜ entryFits (wordsType first) (wordsRow first) ≡ true ⌝ }
+    ensures { λ r. ⌜ r ≡ goesOn first words ⌝ }
+{
+    if words.time & 0xfffffffffff801ff != first.time & 0xfffffffffff801ff {
+        return false;
+    }
+    if words.back & 0xfffffffffffe0000 != first.back & 0xfffffffffffe0000 {
+        return false;
+    }
+    words.front & 0xfffffff8fffffffe == 0
+}
+
+// What a run that does not go on at row k ends with: an entry of it that does not fit, or the row.
+fn stopped(first: Words, words: Words, k: usize) -> RunEnd
+    ensures { λ r. ⌜ r ≡ pick (wordsSame first words) RunEnd.Unfit (RunEnd.At k) ⌝ }
+{
+    if same_run(first.time, packet_of(first), words.time, packet_of(words)) {
+        return RunEnd::Unfit;
+    }
+    RunEnd::At(k)
+}
+
+// The end of the run that begins at row `from`, of the n entries at byte p of a map of this type. Its first entry is tested, and each one behind it compared with that.
 pub fn run_end(entries: &[u8], p: usize, from: usize, n: usize, map_type: u32) -> RunEnd
     requires { ⌜ (p + entrySize * n ≤ length (now entries)) × (from < n) ⌝ }
     ensures { λ r. ⌜ r ≡ endFit «map_type» from (entriesFrom (now (entries .entry)) p n from) ⌝ }
 {
-    let first = pair_at(entries, p + SIZE * from);
-    let mut k = from;
+    let at = p + SIZE * from;
+    if !row_fits(entries, at, Kind::Entry(map_type)) {
+        return RunEnd::Unfit;
+    }
+    let first = words_at(entries, at);
+    let mut k = from + 1;
     while k < n {
-        let at = p + SIZE * k;
-        let pair = pair_at(entries, at);
-        if !same_run(first.time, first.packet, pair.time, pair.packet) {
-            return RunEnd::At(k);
-        }
-        if !row_fits(entries, at, Kind::Entry(map_type)) {
-            return RunEnd::Unfit;
+        let words = words_at(entries, p + SIZE * k);
+        if !goes_on(first, words) {
+            return stopped(first, words, k);
         }
         k += 1;
     }

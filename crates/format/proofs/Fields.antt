@@ -7,7 +7,7 @@ use native.Mathlib.Nat.{add-zero, zero-add, add-assoc, add-mul, suc-mul, zero-mu
 use native.Mathlib.Numerals.{one-add}
 use native.Mathlib.Omega.{arith}
 use lib.Bits.{bitAnd, bitOr, and-mask, and-high, and-block, or-step, or-zero-r, or-zero-l, or-block, or-shifted}
-use lib.Pow.{pow-add, pow-pos, high, low, split, shr-lt, shr-shr, shr-mod, field, mod-mod-pow, mod-pow-add}
+use lib.Pow.{pow-add, pow-pos, pow-mono, high, low, split, shr-lt, shr-shr, shr-mod, field, mod-mod-pow, mod-pow-add}
 use lib.Dec.{lit<}
 use borrow.Author.Tests.{ltb-true, lt-ltb}
 use Rattle.format.specs.Bytes.{fits, widthOf, packed, unpacked}
@@ -41,6 +41,16 @@ pub words-masked : (x y j k : ℕ) → j ≤ 32 → k ≤ 32 → x < 2 ^ 32 → 
 words-masked x y j k h g b c =
     and-block 32 x (2 ^ 32 - 2 ^ j) y (2 ^ 32 - 2 ^ k) c (omega (arith, pow-pos k))
     ∙ ap₂ (λ (u l : ℕ). u * 2 ^ 32 + l) (word-masked x j h b) (word-masked y k g c)
+
+-- a mask that leaves the bits from place j up and the k lowest clears those between
+pub gap-masked : (x width j k : ℕ) → k ≤ j → x < 2 ^ (width + j) → bitAnd x ((2 ^ width - 1) * 2 ^ j + (2 ^ k - 1)) ≡ x / 2 ^ j * 2 ^ j + x % 2 ^ k
+gap-masked x width j k h b =
+    let small : 2 ^ k - 1 < 2 ^ j = omega (arith, pow-mono h, pow-pos k) in
+    let e : j - k + k ≡ j = omega arith in
+    let lower : x % 2 ^ j % 2 ^ k ≡ x % 2 ^ k = rw e at (mod-mod-pow x (j - k) k) in
+    ap (λ (y : ℕ). bitAnd y ((2 ^ width - 1) * 2 ^ j + (2 ^ k - 1))) (sym (split x j))
+    ∙ and-block j (x / 2 ^ j) (2 ^ width - 1) (x % 2 ^ j) (2 ^ k - 1) (mod-lt x (pow-pos j)) small
+    ∙ ap₂ (λ (u l : ℕ). u * 2 ^ j + l) (and-mask (x / 2 ^ j) width ∙ shr-mod width j b) (and-mask (x % 2 ^ j) k ∙ lower)
 
 -- ---- any list of fields
 

@@ -1,19 +1,18 @@
 -- Tests one behind the other, and rows read cell by cell.
 use Prim.Native.Nat.{ℕ, _+_, _*_, _-_, _/_, _%_, _^_, _<_, _≤_}
-use mathlib.Core.Path.{_≡_, refl, ap, ap₂, _∙_}
+use mathlib.Core.Path.{_≡_, refl, ap, _∙_}
 use mathlib.Core.List.{List, [], _∷_}
 use mathlib.Core.Bool.{Bool, true, false}
-use native.Mathlib.Nat.{mod-eq-of-lt}
 use native.Mathlib.Omega.{arith}
-use lib.Bits.{bitAnd, and-mask, and-block}
-use lib.Dec.{eqb, ltb}
+use lib.Bits.{bitAnd}
+use lib.Dec.{eqb, ltb, lit≤}
 use borrow.Author.Tests.{lt-ltb, ltb-true, ltb-false, eqb-true, eqb-false, eq-eqb, ne-eqb}
 use Rattle.format.specs.Bytes.{IsBytes, both}
 use Rattle.format.specs.ClipRecord.{Row, time, entryType}
 use Rattle.format.specs.Refusals.{entryBits, entryFits}
 use Rattle.format.specs.Tables.{cellAt, cellsAt}
 use Rattle.format.proofs.Cells.{low-below}
-use Rattle.format.proofs.Fields.{Fit, one, fits-fit, words-masked}
+use Rattle.format.proofs.Fields.{Fit, one, fits-fit, words-masked, gap-masked}
 use Rattle.format.proofs.Tests.{both-true}
 use Rattle.cells.specs.Reads.{CellIs}
 
@@ -47,17 +46,8 @@ angle-masked angle end h g = rw (words-masked end angle 3 1 (omega arith) (omega
 
 -- a time, with 23 bits of its lower word cleared, is 0 where it fits
 pub time-masked : (time : ℕ) → time < 2 ^ 64 → eqb (bitAnd time 0xffffffff000001ff) 0 ≡ both (ltb (time / 4294967296) 1) (eqb (time % 512) 0)
-time-masked time h = rw masked (go (ltb (time / 4294967296) 1) refl (eqb (time % 512) 0) refl)
+time-masked time h = rw (gap-masked time 32 32 9 (lit≤ tt) h) (go (ltb (time / 4294967296) 1) refl (eqb (time % 512) 0) refl)
   where
-    masked : bitAnd time 0xffffffff000001ff ≡ time / 4294967296 * 4294967296 + time % 512
-    masked =
-        let parts : time ≡ time / 4294967296 * 4294967296 + time % 4294967296 = omega arith in
-        let upper : bitAnd (time / 4294967296) (2 ^ 32 - 1) ≡ time / 4294967296 = and-mask (time / 4294967296) 32 ∙ mod-eq-of-lt (omega arith) in
-        let lower : bitAnd (time % 4294967296) (2 ^ 9 - 1) ≡ time % 512 = and-mask (time % 4294967296) 9 ∙ omega arith in
-        ap (λ (x : ℕ). bitAnd x 0xffffffff000001ff) parts
-        ∙ and-block 32 (time / 4294967296) (2 ^ 32 - 1) (time % 4294967296) (2 ^ 9 - 1) (omega arith) (omega arith)
-        ∙ ap₂ (λ (u l : ℕ). u * 4294967296 + l) upper lower
-
     go : (b : Bool) → ltb (time / 4294967296) 1 ≡ b → (c : Bool) → eqb (time % 512) 0 ≡ c → eqb (time / 4294967296 * 4294967296 + time % 512) 0 ≡ both b c
     go true a true e =
         let x = ltb-true (time / 4294967296) 1 a in
