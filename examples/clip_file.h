@@ -44,7 +44,7 @@ static struct clpi_reading read_clip(const uint8_t *file, size_t bytes, struct c
     struct clpi_reading r;
     do
         r = clpi_read_tables(file, bytes, t);
-    while (r.refusal == CLPI_TABLE_SHORT && grow_table(t, r.table, r.rows_needed));
+    while (r.refusal == CLPI_REFUSED_TABLE_SHORT && grow_table(t, r.table, r.rows_needed));
     return r;
 }
 

@@ -40,7 +40,7 @@ int main(int argc, char **argv)
         return 3;
     }
     r = read_clip(file, bytes, &t);
-    if (r.refusal == CLPI_TABLE_SHORT)
+    if (r.refusal == CLPI_REFUSED_TABLE_SHORT)
         printf("refused 21 %" PRIu32 "\n", r.table);
     else if (r.refusal)
         printf("refused %" PRIu32 "\n", r.refusal);

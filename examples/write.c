@@ -15,7 +15,7 @@ static struct clpi_writing write_clip(const struct clpi_reading *r, const struct
 {
     struct clpi_writing w = clpi_write_tables(r, t, NULL, 0);
     *output = NULL;
-    if (w.refusal == CLPI_OUTPUT_SHORT && (*output = malloc(w.bytes_needed)))
+    if (w.refusal == CLPI_REFUSED_OUTPUT_SHORT && (*output = malloc(w.bytes_needed)))
         w = clpi_write_tables(r, t, *output, w.bytes_needed);
     return w;
 }

@@ -29,66 +29,72 @@
 extern "C" {
 #endif
 
-/* ---- refusals */
+/* ---- refusals
+ *
+ * A start of 0, or at or past the file's end, is no refusal of the CPI, the marks or the extensions: the file has none
+ * then, so that one cut off right before its CPI reads as a file without maps. */
 
+/* made by tools/refusals from docs/REFUSALS.md */
 enum clpi_refusal {
     CLPI_OK = 0,
-    /* the disc's author. A start of 0, or at or past the file's end, is no refusal of the CPI, the marks or the
-     * extensions: the file has none then, so that one cut off right before its CPI reads as a file without maps */
-    CLPI_HEADER_SHORT = 1,  /* under 8 bytes, or right letters and under 40 */
-    CLPI_LETTERS = 2,       /* neither HDMV nor CLPI */
-    CLPI_CLIP_INFO = 3,     /* under 194 bytes, or the ClipInfo passes the file's end */
-    CLPI_SEQUENCES = 4,     /* the sequences pass the file's end */
-    CLPI_PROGRAMS = 5,      /* the programs pass the file's end */
-    CLPI_CPI = 6,           /* the CPI's length or its map headers pass the file's end */
-    CLPI_EP_MAP = 7,        /* a map's address, fine address or rows pass their end */
-    CLPI_MARKS = 8,         /* the marks pass the file's end */
-    /* the caller */
-    CLPI_FILE_TOO_LONG = 20,  /* over CLPI_MOST_BYTES */
-    CLPI_TABLE_SHORT = 21,    /* a table is too short: `table` and `rows_needed` tell which, and how long it must be */
-    CLPI_ROWS = 22,           /* a row number, stated rows or a row's data that isn't there, or counts that don't add up */
-    CLPI_OUTPUT_SHORT = 23,   /* the output is too short: `bytes_needed` tells how long it must be (writing) */
-    /* the record's maker (writing) */
-    CLPI_CELLS = 30, /* a count or a cell that its field in the file can't hold */
-    CLPI_RUNS = 31   /* a map with over 65,535 runs */
+    /* the disc's author: faults of the file */
+    CLPI_REFUSED_HEADER_SHORT = 1, /* the file has under 8 bytes, or the right letters and under 40 */
+    CLPI_REFUSED_LETTERS = 2,      /* the file begins neither with HDMV nor with CLPI */
+    CLPI_REFUSED_CLIP_INFO = 3,    /* the file has under 194 bytes, or the ClipInfo passes its end */
+    CLPI_REFUSED_SEQUENCES = 4,    /* the sequences pass the file's end */
+    CLPI_REFUSED_PROGRAMS = 5,     /* the programs pass the file's end */
+    CLPI_REFUSED_CPI = 6,          /* the CPI's length or its map headers pass the file's end */
+    CLPI_REFUSED_EP_MAP = 7,       /* a map's address, fine address or rows pass their end */
+    CLPI_REFUSED_MARKS = 8,        /* the marks pass the file's end */
+    /* the caller: faults of the call */
+    CLPI_REFUSED_FILE_TOO_LONG = 20, /* the file has over 536870912 bytes, `CLPI_MOST_BYTES` */
+    CLPI_REFUSED_TABLE_SHORT = 21,   /* a table is too short: `table` and `rows_needed` tell which, and how many rows
+                                      * it needs */
+    CLPI_REFUSED_ROWS = 22,          /* a row number, stated rows or a row's data that isn't there, or counts that
+                                      * don't add up to the rows stated */
+    CLPI_REFUSED_OUTPUT_SHORT = 23,  /* the output is too short: `bytes_needed` tells how long it must be (writing) */
+    /* the record's maker: faults of the record that is to be written */
+    CLPI_REFUSED_CELLS = 30, /* a count or a cell that its field in the file can't hold */
+    CLPI_REFUSED_RUNS = 31,  /* a map has over 65535 runs */
 };
 
 /* A refusal in words, for messages; an empty string for 0 and for what is no refusal. */
 static inline const char *clpi_refusal_words(uint32_t refusal)
 {
     switch (refusal) {
-    case CLPI_HEADER_SHORT:
+    case CLPI_REFUSED_HEADER_SHORT:
         return "the file is too short for the header of a clip file";
-    case CLPI_LETTERS:
+    case CLPI_REFUSED_LETTERS:
         return "the file is no clip file: it begins neither with HDMV nor with CLPI";
-    case CLPI_CLIP_INFO:
+    case CLPI_REFUSED_CLIP_INFO:
         return "the clip information passes the file's end";
-    case CLPI_SEQUENCES:
+    case CLPI_REFUSED_SEQUENCES:
         return "the sequences pass the file's end";
-    case CLPI_PROGRAMS:
+    case CLPI_REFUSED_PROGRAMS:
         return "the programs pass the file's end";
-    case CLPI_CPI:
+    case CLPI_REFUSED_CPI:
         return "the length or the map headers of the entry index pass the file's end";
-    case CLPI_EP_MAP:
+    case CLPI_REFUSED_EP_MAP:
         return "the address, the fine address or the rows of an entry map pass their end";
-    case CLPI_MARKS:
+    case CLPI_REFUSED_MARKS:
         return "the marks pass the file's end";
-    case CLPI_FILE_TOO_LONG:
+    case CLPI_REFUSED_FILE_TOO_LONG:
         return "the file is longer than 536870912 bytes";
-    case CLPI_TABLE_SHORT:
+    case CLPI_REFUSED_TABLE_SHORT:
         return "a table is too short for the file's rows";
-    case CLPI_ROWS:
+    case CLPI_REFUSED_ROWS:
         return "rows, or a row's data, that aren't there, or counts that don't add up";
-    case CLPI_OUTPUT_SHORT:
+    case CLPI_REFUSED_OUTPUT_SHORT:
         return "the output is too short for the new file";
-    case CLPI_CELLS:
+    case CLPI_REFUSED_CELLS:
         return "a count or a number that its field in a clip file can't hold";
-    case CLPI_RUNS:
+    case CLPI_REFUSED_RUNS:
         return "an entry map has over 65535 runs, more than a clip file can hold";
     default:
         return "";
     }
 }
+/* end of what tools/refusals makes */
 
 /* the longest file that is read */
 #define CLPI_MOST_BYTES 536870912u
@@ -152,7 +158,7 @@ struct clpi_ep_map {
 };
 
 /* table 6: an entry point; its time in 90 kHz ticks. A file's times are below 2^32; one that is not is refused in
- * writing (CLPI_CELLS), and compared as it is by the questions */
+ * writing (CLPI_REFUSED_CELLS), and compared as it is by the questions */
 struct clpi_ep_entry {
     uint32_t is_angle_change_point;
     uint32_t i_end_position_offset;
@@ -253,20 +259,20 @@ static inline struct clpi_reading clpi_read_tables(const uint8_t *file, size_t f
  * Writing puts the file of a record at the output's front: letters CLPI, then clip, sequences, programs, CPI and empty
  * marks, one behind the other. It tests, in this order:
  *
- *  - CLPI_ROWS: more rows are stated of a table than are lent, or the counts of a table (`stc_count`, `stream_count`,
- *    `entry_count`) don't add up to the rows stated of the table counted;
- *  - CLPI_CELLS: over 255 ATCs, STCs of one ATC, programs, streams of one program, or maps; over 262,143 entries of a
- *    map; a time that is no multiple of 512, an I-end over 7, an entry's type that is not its map's; an aspect on a
- *    stream that is no video, a language on one that is; any other number that is too large for its field;
- *  - CLPI_RUNS: a map has over 65,535 runs. A run is a longest stretch of entries with equal time / 524288 and equal
- *    packet / 131072;
- *  - CLPI_OUTPUT_SHORT: the new file is longer than the output.
+ *  - CLPI_REFUSED_ROWS: more rows are stated of a table than are lent, or the counts of a table (`stc_count`,
+ *    `stream_count`, `entry_count`) don't add up to the rows stated of the table counted;
+ *  - CLPI_REFUSED_CELLS: over 255 ATCs, STCs of one ATC, programs, streams of one program, or maps; over 262,143
+ *    entries of a map; a time that is no multiple of 512, an I-end over 7, an entry's type that is not its map's; an
+ *    aspect on a stream that is no video, a language on one that is; any other number that is too large for its field;
+ *  - CLPI_REFUSED_RUNS: a map has over 65,535 runs. A run is a longest stretch of entries with equal time / 524288 and
+ *    equal packet / 131072;
+ *  - CLPI_REFUSED_OUTPUT_SHORT: the new file is longer than the output.
  *
  * All tests come before the first byte is stored. Neither the mark count nor tables 7 to 9 are looked at: the marks of
  * the new file are empty, and it has no extensions. A language made by hand with capitals is written as it is. */
 
 /* The scalars of a record, as a reading has them. The stream type, the application type and the validity flags have a
- * byte each in the file: CLPI_CELLS where one is over 255. */
+ * byte each in the file: CLPI_REFUSED_CELLS where one is over 255. */
 struct clpi_clip_info {
     uint32_t version; /* four bytes, the first one highest: 0x30323030 is 0200 */
     uint32_t clip_stream_type;
@@ -328,9 +334,9 @@ static inline struct clpi_writing clpi_write_tables(
 }
 
 /* Rewrites a file, straight from its bytes: reads it and writes its record, with no tables lent. It tests what reading
- * tests (20, then 1 to 8; never 21), then CLPI_RUNS, then CLPI_OUTPUT_SHORT. The new file reads to the same record
- * apart from the mark count and the extensions, every question on it has the same answer, and rewriting it again
- * changes no byte. */
+ * tests (20, then 1 to 8; never 21), then CLPI_REFUSED_RUNS, then CLPI_REFUSED_OUTPUT_SHORT. The new file reads to the
+ * same record apart from the mark count and the extensions, every question on it has the same answer, and rewriting it
+ * again changes no byte. */
 struct clpi_writing clpi_rewrite(const uint8_t *file, size_t file_bytes, uint8_t *output, size_t output_bytes);
 
 /* How long the new file is, at most CLPI_MOST_REWRITTEN_BYTES; it may be longer than the old one. `bytes` is 0 where
@@ -345,7 +351,7 @@ struct clpi_length clpi_rewritten_length(const uint8_t *file, size_t file_bytes)
 
 /* Where a row's data stands in the file; offset and length are 0 where `refusal` is not. */
 struct clpi_part {
-    uint32_t refusal; /* 0 or CLPI_ROWS; data of length 0 is no refusal */
+    uint32_t refusal; /* 0 or CLPI_REFUSED_ROWS; data of length 0 is no refusal */
     size_t offset;
     size_t length;
 };
@@ -359,25 +365,25 @@ struct clpi_part clpi_extension_data(
 
 /* ---- questions
  *
- * Each is asked of the tables that it looks at, as bytes, with the rows stated to be in each. CLPI_ROWS where more rows
- * are stated than lent, where a row number is not one of them, or, where a table of counts and the table counted are
- * both lent, where the counts don't add up to the rows stated. A time in 90 kHz ticks has 32 bits where entries are
- * looked up, else 64: C cuts a longer one off without a word, so look up UINT32_MAX where a time is greater, which has
- * the same answer. Ids and types of 8 bits, PIDs and extension ids of 16, and row and packet numbers of 32 are cut off
- * in the same way, so that 257 asks for id 1: test longer ones first. A part of a table may be lent as a table: the
- * streams of one program, say; and tables 8 and 9 may be lent where tables 3 and 4 are asked for. */
+ * Each is asked of the tables that it looks at, as bytes, with the rows stated to be in each. CLPI_REFUSED_ROWS where
+ * more rows are stated than lent, where a row number is not one of them, or, where a table of counts and the table
+ * counted are both lent, where the counts don't add up to the rows stated. A time in 90 kHz ticks has 32 bits where
+ * entries are looked up, else 64: C cuts a longer one off without a word, so look up UINT32_MAX where a time is greater,
+ * which has the same answer. Ids and types of 8 bits, PIDs and extension ids of 16, and row and packet numbers of 32 are
+ * cut off in the same way, so that 257 asks for id 1: test longer ones first. A part of a table may be lent as a table:
+ * the streams of one program, say; and tables 8 and 9 may be lent where tables 3 and 4 are asked for. */
 
 /* An answer. `found` is 0 where there is none, which is no refusal; then, and beside a refusal, `value` is 0. Below,
  * "nothing" is `found` 0, and "0" is a value that is found. */
 struct clpi_answer {
-    uint32_t refusal; /* 0 or CLPI_ROWS */
+    uint32_t refusal; /* 0 or CLPI_REFUSED_ROWS */
     uint32_t found;   /* 1 where there is a value */
     uint64_t value;
 };
 
 /* The rows that belong to a row of another table; both numbers are 0 beside a refusal. */
 struct clpi_rows {
-    uint32_t refusal; /* 0 or CLPI_ROWS */
+    uint32_t refusal; /* 0 or CLPI_REFUSED_ROWS */
     uint32_t count;
     uint64_t first; /* the number of the first of them in their table */
 };

@@ -69,9 +69,9 @@ static int take_listing(pid_t program, int listing, char *text, size_t room, siz
 /* Why the listing program refuses a file: two of its limits are its own. */
 static const char *list_words_for(uint32_t refusal)
 {
-    if (refusal == CLPI_FILE_TOO_LONG)
+    if (refusal == CLPI_REFUSED_FILE_TOO_LONG)
         return "the file is longer than the 65536 bytes that can be listed";
-    if (refusal == CLPI_TABLE_SHORT)
+    if (refusal == CLPI_REFUSED_TABLE_SHORT)
         return "the file has over 4096 rows of a table, more than can be listed";
     return words_for(refusal);
 }

@@ -13,12 +13,41 @@ enum status { DONE = 0, REFUSED = 1, WRONG_USE = 2, FAILED = 3 };
 
 /* ---- refusals */
 
-/* The words for a refusal: the library's, but that it is the tool that lends the tables, as long as they must be. */
+/* made by tools/refusals from docs/REFUSALS.md */
+/* The words for a refusal: the library's, but where the tool has its own. */
 static const char *words_for(uint32_t refusal)
 {
-    return refusal == CLPI_TABLE_SHORT ? "there is no memory for a table as long as the file's rows need"
-                                       : clpi_refusal_words(refusal);
+    switch (refusal) {
+    case CLPI_REFUSED_TABLE_SHORT:
+        return "there is no memory for a table as long as the file's rows need";
+    default:
+        return clpi_refusal_words(refusal);
+    }
 }
+
+/* Every refusal, the lowest number first. */
+static const uint32_t refusals[] = {
+    CLPI_REFUSED_HEADER_SHORT,
+    CLPI_REFUSED_LETTERS,
+    CLPI_REFUSED_CLIP_INFO,
+    CLPI_REFUSED_SEQUENCES,
+    CLPI_REFUSED_PROGRAMS,
+    CLPI_REFUSED_CPI,
+    CLPI_REFUSED_EP_MAP,
+    CLPI_REFUSED_MARKS,
+    CLPI_REFUSED_FILE_TOO_LONG,
+    CLPI_REFUSED_TABLE_SHORT,
+    CLPI_REFUSED_ROWS,
+    CLPI_REFUSED_OUTPUT_SHORT,
+    CLPI_REFUSED_CELLS,
+    CLPI_REFUSED_RUNS,
+};
+
+/* Whose fault they are. */
+static const char refusals_told[] =
+    "1 to 8 are faults of the file. 22, 23 and 30 come from the library alone, to\n"
+    "programs that call it.\n";
+/* end of what tools/refusals makes */
 
 /* Says that a file is refused, and why. */
 static int refused_for(const char *path, uint32_t refusal, const char *words)
@@ -155,14 +184,14 @@ static const char help_minutes[] =
 static int help_refusals(void)
 {
     printf("A file is refused by one of these numbers, and then nothing is written:\n\n");
-    for (uint32_t refusal = CLPI_HEADER_SHORT; refusal <= CLPI_RUNS; refusal++)
-        if (*words_for(refusal))
-            printf("  %2" PRIu32 "  %s\n", refusal, words_for(refusal));
-    printf("\n1 to 8 are faults of the file. An entry index or marks that start at 0, or at or\n"
-           "past the file's end, are no fault: the file has none. 'clip list' has lower limits\n"
-           "for 20 and 21: see 'clip help list'. 22, 23 and 30 come from the library alone, to\n"
-           "programs that call it. What the system can't do is told in the system's words,\n"
-           "without a number.\n");
+    for (size_t i = 0; i < sizeof refusals / sizeof *refusals; i++)
+        printf("  %2" PRIu32 "  %s\n", refusals[i], words_for(refusals[i]));
+    printf("\n%s"
+           "An entry index or marks that start at 0, or at or past the file's end, are no\n"
+           "fault: the file has none. 'clip list' has lower limits for 20 and 21, which\n"
+           "'clip help list' tells. What the system can't do is told in the system's words,\n"
+           "without a number.\n",
+           refusals_told);
     return printed();
 }
 

@@ -36,7 +36,7 @@ struct call {
     int finds;                    /* whether the answer is a value that may not be found */
     uint8_t out_bytes[MOST_OUT];  /* of a row that is put out */
     int out_count;                /* which number is the count of the first output's rows; the others follow */
-    uint32_t refusals;            /* a bit for each number that it may refuse by */
+    uint64_t refusals;            /* a bit for each number that it may refuse by */
 };
 
 extern const struct call calls[];

@@ -153,7 +153,7 @@ CALL(transfer_duration_secs)
 
 /* ---- the table */
 
-#define BIT(refusal) (1u << (refusal))
+#define BIT(refusal) (UINT64_C(1) << (refusal))
 /* The bytes of a row of table 6. */
 #define ENTRY sizeof(struct clpi_ep_entry)
 #define FILES (BIT(1) | BIT(2) | BIT(3) | BIT(4) | BIT(5) | BIT(6) | BIT(7) | BIT(8) | BIT(20))

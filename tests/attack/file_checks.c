@@ -49,10 +49,10 @@ static struct ask of_file(const uint8_t *file, size_t bytes)
 static uint32_t plain_refusal(const uint8_t *file, size_t bytes)
 {
     if (bytes < 8)
-        return CLPI_HEADER_SHORT;
+        return CLPI_REFUSED_HEADER_SHORT;
     if (memcmp(file, "HDMV", 4) != 0 && memcmp(file, "CLPI", 4) != 0)
-        return CLPI_LETTERS;
-    return bytes < 40 ? CLPI_HEADER_SHORT : bytes < 194 ? CLPI_CLIP_INFO : CLPI_OK;
+        return CLPI_REFUSED_LETTERS;
+    return bytes < 40 ? CLPI_REFUSED_HEADER_SHORT : bytes < 194 ? CLPI_REFUSED_CLIP_INFO : CLPI_OK;
 }
 
 /* Reads into tables that grow, from no byte, by what 21 says of the lowest that is too short. */
@@ -60,7 +60,7 @@ static struct outcome grown(const struct call *c, struct ask *a)
 {
     uint64_t last = 0;
     struct outcome o = attempt(c, a);
-    while (o.number[0] == CLPI_TABLE_SHORT) {
+    while (o.number[0] == CLPI_REFUSED_TABLE_SHORT) {
         must(o.number[1] > last, "21 again of a table that was given its rows");
         last = o.number[1];
         must(o.number[2] <= most_rows[last - 1], "21 of more rows than a file can have");
@@ -93,7 +93,7 @@ static void read_short(const struct call *c, const struct ask *exact)
             continue;
         a.room[i]--;
         o = attempt(c, &a);
-        must(o.number[0] == CLPI_TABLE_SHORT && o.number[1] == (uint64_t)i + 1, "not 21 of the table that is too short");
+        must(o.number[0] == CLPI_REFUSED_TABLE_SHORT && o.number[1] == (uint64_t)i + 1, "not 21 of the table that is too short");
         must(o.number[2] * c->out_bytes[i] == exact->room[i], "21 of other rows than suffice");
     }
 }
@@ -135,7 +135,7 @@ static uint8_t *put_out(const struct call *c, struct ask *a, size_t needed)
         a->room[0] = rooms[i];
         o = attempt(c, a);
         if (rooms[i] < needed)
-            must(o.number[0] == CLPI_OUTPUT_SHORT && o.number[1] == needed, "not 23 of the length that suffices");
+            must(o.number[0] == CLPI_REFUSED_OUTPUT_SHORT && o.number[1] == needed, "not 23 of the length that suffices");
         else
             must(o.number[0] == 0 && o.number[2] == needed, "an output that is long enough is not filled");
     }
@@ -148,7 +148,7 @@ static uint8_t *rewrite_file(const uint8_t *file, size_t bytes, const struct rec
     struct ask a = of_file(file, bytes);
     struct outcome length = attempt(call_named("clpi_rewritten_length"), &a), o;
     *needed = (size_t)length.number[1];
-    must(length.number[0] == r->number[0] || (!r->number[0] && length.number[0] == CLPI_RUNS),
+    must(length.number[0] == r->number[0] || (!r->number[0] && length.number[0] == CLPI_REFUSED_RUNS),
          "measuring refuses in another way than reading");
     if (length.number[0] == 0) {
         must(*needed >= 242 && *needed <= CLPI_MOST_REWRITTEN_BYTES, "a new file of a length that none has");
@@ -181,7 +181,7 @@ static void write_record(const struct record *r, const uint8_t *rewritten, size_
     struct ask a = of_record(r);
     uint8_t *output;
     if (!rewritten) {
-        must(attempt(c, &a).number[0] == CLPI_RUNS, "writing doesn't refuse what rewriting refuses");
+        must(attempt(c, &a).number[0] == CLPI_REFUSED_RUNS, "writing doesn't refuse what rewriting refuses");
         return;
     }
     output = put_out(c, &a, bytes);

@@ -144,7 +144,7 @@ void attack_questions(void)
             attack_data(c);
         else if (c->ins == 0)
             ask_numbers(c);
-        else if (c->refusals == 1u << CLPI_ROWS)
+        else if (c->refusals == UINT64_C(1) << CLPI_REFUSED_ROWS)
             for (int n = 0; n < LENGTHS * STATEMENTS; n++)
                 ask_of(c, length_of(n / STATEMENTS, c->row_bytes[0]), n % STATEMENTS);
     }

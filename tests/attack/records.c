@@ -78,7 +78,7 @@ static void sums(void)
         memcpy(table[i] + row + at, &counts[1], 4);
         a.in[i].bytes = 2 * row;
         a.rows[i] = 2;
-        must(attempt(call_named("clpi_write"), &a).number[0] == CLPI_ROWS, "counts that pass 2^32 are taken");
+        must(attempt(call_named("clpi_write"), &a).number[0] == CLPI_REFUSED_ROWS, "counts that pass 2^32 are taken");
     }
 }
 
@@ -92,7 +92,7 @@ static void outputs(void)
     must(needed > 242 && needed < 400, "a record that can be written is not");
     for (a.room[0] = is_short ? needed - 3 : 0; a.room[0] < needed + 3; a.room[0]++) {
         uint64_t refusal = attempt(call_named("clpi_write"), &a).number[0];
-        must(refusal == (a.room[0] < needed ? CLPI_OUTPUT_SHORT : CLPI_OK), "23 where it has no place, or not where it has");
+        must(refusal == (a.room[0] < needed ? CLPI_REFUSED_OUTPUT_SHORT : CLPI_OK), "23 where it has no place, or not where it has");
     }
 }
 

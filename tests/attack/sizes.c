@@ -66,7 +66,7 @@ static void long_tables(size_t bytes)
         must(number[0] == 0, "rows that are there are refused");
         a.rows[calls[i].ins - 1] = 0xFFFFFFFFu;
         run_there(calls[i].name, &a, NULL, number);
-        must(number[0] == CLPI_ROWS, "rows that aren't there are taken");
+        must(number[0] == CLPI_REFUSED_ROWS, "rows that aren't there are taken");
     }
     give_back(zeros, bytes);
 }
@@ -128,12 +128,12 @@ static void last_row(const char *name, uint8_t row_bytes, uint32_t cell, uint64_
 void attack_sizes(void)
 {
     long_file(CLPI_MOST_BYTES, 0);
-    long_file((size_t)CLPI_MOST_BYTES + 1, CLPI_FILE_TOO_LONG);
+    long_file((size_t)CLPI_MOST_BYTES + 1, CLPI_REFUSED_FILE_TOO_LONG);
     if (is_short)
         return;
-    long_file(0xFFFFFFFFu, CLPI_FILE_TOO_LONG);
-    long_file(0x100000000u, CLPI_FILE_TOO_LONG);
-    long_file(0x100000000u + 300, CLPI_FILE_TOO_LONG);
+    long_file(0xFFFFFFFFu, CLPI_REFUSED_FILE_TOO_LONG);
+    long_file(0x100000000u, CLPI_REFUSED_FILE_TOO_LONG);
+    long_file(0x100000000u + 300, CLPI_REFUSED_FILE_TOO_LONG);
     for (int i = 0; i < LENGTHS; i++) {
         long_tables(about_2_32[i]);
         long_outputs(about_2_32[i]);
@@ -143,5 +143,5 @@ void attack_sizes(void)
     last_row("clpi_stcs_of_atc", 16, 0, 0);
     last_row("clpi_entries_of_map", sizeof(struct clpi_ep_entry), 0, 0);
     last_row("clpi_streams_of_program", 20, 0, 0);
-    last_row("clpi_extension_data", 16, 3, CLPI_ROWS);
+    last_row("clpi_extension_data", 16, 3, CLPI_REFUSED_ROWS);
 }

@@ -168,7 +168,7 @@ static int has_22(const struct call *c, const struct ask *a)
 static void look_at_refusal(const struct call *c, const struct ask *a, const uint64_t *number)
 {
     int kept = number[0] == 21 ? 2 : number[0] == 23 ? 1 : 0;
-    must(number[0] < 32 && (c->refusals >> number[0] & 1), "a refusal that the call doesn't have");
+    must(number[0] < 64 && (c->refusals >> number[0] & 1), "a refusal that the call doesn't have");
     for (int i = 1 + kept; i < c->numbers; i++)
         must(number[i] == 0, "a number beside a refusal");
     if (number[0] == 21) {

@@ -32,20 +32,20 @@ static int is(const char *wrong)
 /* What is wrong in an answer of reading. */
 static struct clpi_reading wrong_reading(struct clpi_reading r)
 {
-    if (r.refusal == CLPI_TABLE_SHORT && is("21 a row more"))
+    if (r.refusal == CLPI_REFUSED_TABLE_SHORT && is("21 a row more"))
         r.rows_needed++;
-    if (r.refusal == CLPI_TABLE_SHORT && r.rows_needed > 1 && is("21 a row less"))
+    if (r.refusal == CLPI_REFUSED_TABLE_SHORT && r.rows_needed > 1 && is("21 a row less"))
         r.rows_needed--;
-    if (r.refusal == CLPI_TABLE_SHORT && r.table < 9 && is("21 of the next table"))
+    if (r.refusal == CLPI_REFUSED_TABLE_SHORT && r.table < 9 && is("21 of the next table"))
         r.table++;
-    if (r.refusal && r.refusal != CLPI_TABLE_SHORT && is("a number beside a refusal"))
+    if (r.refusal && r.refusal != CLPI_REFUSED_TABLE_SHORT && is("a number beside a refusal"))
         r.version = 1;
-    if (r.refusal == CLPI_EP_MAP && is("a refusal that isn't there"))
+    if (r.refusal == CLPI_REFUSED_EP_MAP && is("a refusal that isn't there"))
         r.refusal = 9;
     if (!r.refusal && is("no entries read"))
         r.entries = 0;
-    if (r.refusal == CLPI_LETTERS && is("another refusal"))
-        r.refusal = CLPI_HEADER_SHORT;
+    if (r.refusal == CLPI_REFUSED_LETTERS && is("another refusal"))
+        r.refusal = CLPI_REFUSED_HEADER_SHORT;
     return r;
 }
 
@@ -74,7 +74,7 @@ STANDS_BEFORE(struct clpi_reading, read, READ_PARAMETERS)
     r = __real_clpi_read(file, bytes, a, an, b, bn, c, cn, d, dn, e, en, f, fn, g, gn, h, hn, i, in);
     if (file_bytes == CLPI_MOST_BYTES && is("20 a byte early")) {
         memset(&r, 0, sizeof r);
-        r.refusal = CLPI_FILE_TOO_LONG;
+        r.refusal = CLPI_REFUSED_FILE_TOO_LONG;
     }
     if (!r.refusal && r.atcs > 0 && is("a row not stored"))
         memcpy(a, row, sizeof row);
@@ -93,7 +93,7 @@ STANDS_BEFORE(struct clpi_writing, rewrite, const uint8_t *file, size_t file_byt
         memset(output, 0, output_bytes);
     if (!w.refusal && output_bytes > w.bytes_written && is("a byte behind the new file"))
         output[w.bytes_written] = 0;
-    if (w.refusal == CLPI_OUTPUT_SHORT && is("23 a byte more"))
+    if (w.refusal == CLPI_REFUSED_OUTPUT_SHORT && is("23 a byte more"))
         w.bytes_needed++;
     if (!w.refusal && is("another record"))
         output[7] ^= 1;
@@ -107,7 +107,7 @@ STANDS_BEFORE(struct clpi_writing, rewrite, const uint8_t *file, size_t file_byt
 STANDS_BEFORE(struct clpi_length, rewritten_length, const uint8_t *file, size_t file_bytes)
 {
     struct clpi_length l = __real_clpi_rewritten_length(file, file_bytes);
-    if (l.refusal == CLPI_RUNS && is("31 not measured")) {
+    if (l.refusal == CLPI_REFUSED_RUNS && is("31 not measured")) {
         l.refusal = CLPI_OK;
         l.bytes = 786686;
     }
@@ -127,8 +127,8 @@ STANDS_BEFORE(struct clpi_writing, write, struct clpi_clip_info info, WRITE_TABL
         output[7] ^= 1;
     if (!w.refusal && is("rewriting the new file changes it"))
         output[28] = 1;
-    if (w.refusal == CLPI_CELLS && is("22 in place of 30"))
-        w.refusal = CLPI_ROWS;
+    if (w.refusal == CLPI_REFUSED_CELLS && is("22 in place of 30"))
+        w.refusal = CLPI_REFUSED_ROWS;
     return w;
 }
 
