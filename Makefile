@@ -2,7 +2,8 @@
 # code, and is not called where that is done already. The usual names say where to: PREFIX, DESTDIR, bindir, libdir and
 # so on; they may have spaces, but no quotes, and none of \ & | $.
 
-VERSION = 1.0.0
+# The header has the version: its major, minor and patch number, joined by dots.
+VERSION := $(shell sed -n 's/^.define CLPI_VERSION_[MP][A-Z]* \([0-9]*\)$$/\1/p' include/clpi.h | paste -s -d . -)
 
 PREFIX = /usr/local
 prefix = $(PREFIX)
@@ -46,8 +47,8 @@ $(lister): $(rattle)
 target/tools/clip: list_program = $(CURDIR)/$(lister)
 target/install/clip: list_program = $(libexecdir)/clpi/list_clip
 target/tools/clip target/install/clip: target/%/clip: target/%/list_program $(sources) $(library) Makefile
-	$(CC) $(STRICT) $(CFLAGS) $(CPPFLAGS) -DVERSION='"$(VERSION)"' -DLIST_PROGRAM='"$(list_program)"' \
-	    -I include -I examples tools/clip.c $(library) $(LDFLAGS) -o $@.$$$$ && mv $@.$$$$ $@
+	$(CC) $(STRICT) $(CFLAGS) $(CPPFLAGS) -DLIST_PROGRAM='"$(list_program)"' -I include -I examples tools/clip.c \
+	    $(library) $(LDFLAGS) -o $@.$$$$ && mv $@.$$$$ $@
 
 target/tools/list_program target/install/list_program: FORCE
 	@mkdir -p $(@D)

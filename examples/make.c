@@ -31,6 +31,10 @@ int main(void)
     struct clpi_tables t;
     struct clpi_reading r;
     struct clpi_writing w;
+    if (!clpi_version_fits()) {
+        fprintf(stderr, "the library's version does not fit clpi.h\n");
+        return 3;
+    }
     memset(&t, 0, sizeof t);
     memset(&r, 0, sizeof r);
     r.version = 0x30323030; /* 0200 */

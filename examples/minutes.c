@@ -15,6 +15,10 @@ int main(int argc, char **argv)
     size_t bytes;
     uint8_t *file;
     uint64_t at;
+    if (!clpi_version_fits()) {
+        fprintf(stderr, "the library's version does not fit clpi.h\n");
+        return 3;
+    }
     if (argc != 3 || !number(argv[2], &at)) {
         fprintf(stderr, "usage: minutes FILE TICKS\n");
         return 2;

@@ -31,6 +31,10 @@ int main(int argc, char **argv)
     struct clpi_reading r;
     size_t bytes;
     uint8_t *file;
+    if (!clpi_version_fits()) {
+        fprintf(stderr, "the library's version does not fit clpi.h\n");
+        return 3;
+    }
     if (argc != 2) {
         fprintf(stderr, "usage: read FILE\n");
         return 2;

@@ -38,6 +38,10 @@ int main(int argc, char **argv)
     size_t bytes;
     uint8_t *old, *output;
     int done = 0;
+    if (!clpi_version_fits()) {
+        fprintf(stderr, "the library's version does not fit clpi.h\n");
+        return 3;
+    }
     if (argc != 3) {
         fprintf(stderr, "usage: rewrite OLD NEW\n");
         return 2;

@@ -28,6 +28,10 @@ int main(int argc, char **argv)
     size_t bytes;
     uint8_t *file, *output;
     int done;
+    if (!clpi_version_fits()) {
+        fprintf(stderr, "the library's version does not fit clpi.h\n");
+        return 3;
+    }
     if (argc != 2) {
         fprintf(stderr, "usage: write FILE\n");
         return 2;

@@ -2,7 +2,7 @@
  *
  * For C99 or C++11 and later. Link with libclpi.a (`pkg-config --libs clpi`; x86-64, 64-bit size_t). Every call of the
  * library takes every input, allocates nothing, keeps nothing, calls nothing, and ends; its machine code needs less
- * than 1 KB of stack. What it answers and stores is proved equal to the format's definitions. Not proved are the three
+ * than 1 KB of stack. What it answers and stores is proved equal to the format's definitions. Not proved are the four
  * functions that this page defines itself, the figure of stack, which is counted, and the caller's side of this page:
  *
  *  - a pointer points to as many bytes as its length says, at any alignment; with length 0 it may be NULL;
@@ -28,6 +28,28 @@
 #ifdef __cplusplus
 extern "C" {
 #endif
+
+/* ---- the version
+ *
+ * Another major number means that programs must be changed, or compiled anew; a higher minor number, that there is more
+ * to call. */
+
+#define CLPI_VERSION_MAJOR 2
+#define CLPI_VERSION_MINOR 0
+#define CLPI_VERSION_PATCH 0
+
+/* the same as one number */
+#define CLPI_VERSION (CLPI_VERSION_MAJOR * 10000 + CLPI_VERSION_MINOR * 100 + CLPI_VERSION_PATCH)
+
+/* The version of the library that is linked, as one number. */
+uint32_t clpi_version(void);
+
+/* Tells whether the library fits this header: it has the same major number and at least this minor number. A program
+ * that is linked with a libclpi.a from elsewhere tests it once, before any other call. */
+static inline int clpi_version_fits(void)
+{
+    return clpi_version() / 10000 == CLPI_VERSION_MAJOR && clpi_version() / 100 >= CLPI_VERSION / 100;
+}
 
 /* ---- refusals
  *

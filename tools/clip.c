@@ -1,7 +1,7 @@
 /* clip: lists a clip file, rewrites one, and tells the minutes remaining in one. The rules of rewriting are in
  * docs/DECISIONS.md; how it is called, and with what it ends, is in words.h.
  *
- * Compiled with two strings: VERSION, and LIST_PROGRAM, the path of the listing program. */
+ * Compiled with LIST_PROGRAM, the path of the listing program, as a string. */
 #define _POSIX_C_SOURCE 200809L
 #include <errno.h>
 #include <inttypes.h>
@@ -228,7 +228,7 @@ static int asks_help(const char *word)
 /* Prints the version. */
 static int version(void)
 {
-    printf("clip %s\n", VERSION);
+    printf("clip %d.%d.%d\n", CLPI_VERSION_MAJOR, CLPI_VERSION_MINOR, CLPI_VERSION_PATCH);
     return printed();
 }
 

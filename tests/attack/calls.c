@@ -122,6 +122,16 @@ TWO(last_pts, give_answer, FIRST(uint32_t))
 TWO(indexed_span_90k, give_answer, FIRST(uint32_t))
 TWO(entries_of_map, give_rows, FIRST(uint32_t))
 
+/* ---- the version, which nothing is lent to or asked of */
+
+CALL(version)
+{
+    (void)a;
+    (void)out;
+    number[1] = clpi_version();
+    must(number[1] == CLPI_VERSION && clpi_version_fits(), "another version than the header's");
+}
+
 /* ---- questions of no table */
 
 CALL(clip_byte_len)
@@ -210,6 +220,7 @@ const struct call calls[] = {
     OF_MAP(last_pts, ROW, NO_ARGUMENT, 0),
     OF_MAP(indexed_span_90k, ROW, NO_ARGUMENT, 0),
     ROWS_OF(entries_of_map, 5, 8, ENTRY),
+    {NAMED(version), .numbers = 2, .row_of = -1},
     {NAMED(clip_byte_len), .numbers = 2, .kind = {CELL}, .row_of = -1},
     OF_NUMBERS(spn_to_byte, CELL, CELL),
     OF_NUMBERS(byte_to_spn, CELL, LONG),

@@ -132,6 +132,8 @@ STANDS_BEFORE(struct clpi_writing, write, struct clpi_clip_info info, WRITE_TABL
     return w;
 }
 
+STANDS_BEFORE(uint32_t, version, void) { return __real_clpi_version() + is("another version"); }
+
 STANDS_BEFORE(struct clpi_part, extension_data, const uint8_t *file, size_t file_bytes, OF_ONE, uint32_t row)
 {
     struct clpi_part p = __real_clpi_extension_data(file, file_bytes, t, n, rows, row);

@@ -5,4 +5,5 @@ pub mod maps;
 pub mod programs;
 pub mod read;
 pub mod sequences;
+pub mod version;
 pub mod writing;
