@@ -186,7 +186,7 @@ static int help_refusals(void)
     printf("A file is refused by one of these numbers, and then nothing is written:\n\n");
     for (size_t i = 0; i < sizeof refusals / sizeof *refusals; i++)
         printf("  %2" PRIu32 "  %s\n", refusals[i], words_for(refusals[i]));
-    printf("\n%s"
+    printf("\n%s\n"
            "An entry index or marks that start at 0, or at or past the file's end, are no\n"
            "fault: the file has none. 'clip list' has lower limits for 20 and 21, which\n"
            "'clip help list' tells. What the system can't do is told in the system's words,\n"
