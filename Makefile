@@ -1,6 +1,6 @@
 # Builds the library, the listing program and clip, and installs them, with GNU make. rt proves and builds the Rattle
-# code, and is not called where that is done already. The usual names say where to: PREFIX, DESTDIR, bindir, libdir and
-# so on; they may have spaces, but no quotes, and none of \ & | $.
+# code (tools/build), and is not called where that is done already. The usual names say where to: PREFIX, DESTDIR, bindir,
+# libdir and so on; they may have spaces, but no quotes, and none of \ & | $.
 
 # The header has the version: its major, minor and patch number, joined by dots.
 VERSION := $(shell sed -n 's/^.define CLPI_VERSION_[MP][A-Z]* \([0-9]*\)$$/\1/p' include/clpi.h | paste -s -d . -)
@@ -34,19 +34,24 @@ all: $(library) $(lister) target/install/clip
 .DELETE_ON_ERROR:
 .PHONY: all test install uninstall clean FORCE
 
+# Looked for before the proofs, which take minutes.
+compiler = $(firstword $(CC))
+has_compiler = command -v '$(compiler)' >/dev/null || \
+    { echo 'a C compiler is missing: there is no $(compiler) on the PATH; install one, or name yours with CC=NAME.' >&2; exit 2; }
+
 $(library): $(rattle)
-	rt staticlib clpi
-	touch $@
+	@$(has_compiler)
+	@tools/build staticlib clpi
 
 $(lister): $(rattle)
-	rt check list_clip
-	touch $@
+	@tools/build check list_clip
 
 # clip has the path of the listing program in it: the one of this folder for ./clip, or the installed one. It is
 # compiled anew where that path is another.
 target/tools/clip: list_program = $(CURDIR)/$(lister)
 target/install/clip: list_program = $(libexecdir)/clpi/list_clip
 target/tools/clip target/install/clip: target/%/clip: target/%/list_program $(sources) $(library) Makefile
+	@$(has_compiler)
 	$(CC) $(STRICT) $(CFLAGS) $(CPPFLAGS) -DLIST_PROGRAM='"$(list_program)"' -I include -I examples tools/clip.c \
 	    $(library) $(LDFLAGS) -o $@.$$$$ && mv $@.$$$$ $@
 
