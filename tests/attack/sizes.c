@@ -26,7 +26,7 @@ static void long_file(size_t bytes, uint64_t wanted)
     struct buffer out[MOST_OUT] = {{output, sizeof output}};
     uint64_t number[MOST_NUMBERS];
     if (!file) {
-        printf("no memory for a file of %zu bytes: left out\n", bytes);
+        printf("left out: the attack with a file of %zu bytes: there is no memory for it\n", bytes);
         return;
     }
     memset(&a, 0, sizeof a);
@@ -50,7 +50,7 @@ static void long_tables(size_t bytes)
 {
     uint8_t *zeros = wide(bytes, 0);
     if (!zeros) {
-        printf("no memory for a table of %zu bytes: left out\n", bytes);
+        printf("left out: the attack with a table of %zu bytes: there is no memory for it\n", bytes);
         return;
     }
     for (int i = 0; i < call_count; i++) {
@@ -79,7 +79,7 @@ static void long_outputs(size_t bytes)
     struct buffer out[MOST_OUT] = {{output, bytes}};
     uint64_t number[MOST_NUMBERS];
     if (!output) {
-        printf("no memory for an output of %zu bytes: left out\n", bytes);
+        printf("left out: the attack with an output of %zu bytes: there is no memory for it\n", bytes);
         return;
     }
     memset(&a, 0, sizeof a);
@@ -106,7 +106,7 @@ static void last_row(const char *name, uint8_t row_bytes, uint32_t cell, uint64_
     struct ask a;
     uint64_t number[MOST_NUMBERS];
     if (!rows) {
-        printf("no memory for 2^32 - 1 rows of %d bytes: left out\n", row_bytes);
+        printf("left out: the attack with 2^32 - 1 rows of %d bytes: there is no memory for them\n", row_bytes);
         return;
     }
     memset(&a, 0, sizeof a);

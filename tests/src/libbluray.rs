@@ -32,7 +32,7 @@ pub fn libbluray(count: u64) -> bool {
     // SAFETY: nothing else runs yet that could look at the environment. libbluray would tell of each refusal.
     unsafe { std::env::set_var("BD_DEBUG_MASK", "0") };
     let Some(library) = data::Library::find() else {
-        println!("libbluray 1.3.4 isn't there: its readings are skipped");
+        println!("left out: libbluray's readings of new files: libbluray 1.3.4 isn't there");
         return true;
     };
     let (mut maker, mut record, mut seen) = (Maker::new(), Record::default(), Seen::default());
