@@ -4,9 +4,9 @@ ghost use Rattle.format.specs.ClipRecord.{marksFrom};
 ghost use Rattle.format.specs.Reading.{clipOf, recordOf};
 ghost use Rattle.format.specs.Tables.{tableBytes, overwritten};
 ghost use Rattle.clip_information.specs.Fill.{SectionsFit, ListFits, MarksThere};
+use common::header::Starts;
 use extension::ListData;
 use numbers::u16_at;
-use numbers::u32_at;
 use section_heads::Section;
 
 // Tables 1 to 6; the maps are counted already.
@@ -28,21 +28,22 @@ pub(crate) fn fill_sections(
     ensures { λ _. ⌜ now (maps .exit) ≡ overwritten (tableBytes (clipOf (now (file .entry)) .maps)) (now (maps .entry)) ⌝ }
     ensures { λ _. ⌜ now (entries .exit) ≡ overwritten (tableBytes (clipOf (now (file .entry)) .entries)) (now (entries .entry)) ⌝ }
 {
+    let starts = Starts::read(file);
     info_sections::fill(
         Section::Sequences,
         file,
-        u32_at(file, 8) as usize,
+        starts.sequences,
         atcs,
         stcs,
     );
     info_sections::fill(
         Section::Programs,
         file,
-        u32_at(file, 12) as usize,
+        starts.programs,
         programs,
         streams,
     );
-    cpi_fill::fill(file, u32_at(file, 16) as usize, count, maps, entries);
+    cpi_fill::fill(file, starts.cpi, count, maps, entries);
 }
 
 // Tables 8 and 9; without a list they are left as they are.

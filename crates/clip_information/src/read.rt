@@ -9,8 +9,8 @@ use clip_prepare::Prepared;
 use clip_prepare::prepare;
 use clip_sections::info::ClipInfo;
 use clip_sections::info::clip_info;
+use common::header::Starts;
 use nine_tables::Rows;
-use numbers::u32_at;
 
 // What is stated of an accepted file beside its rows: the scalars, the number of marks, the rows of each table, and whether it has a (2, 5) list; or a refusal's number; or the lowest table that is too short and the rows it needs.
 pub enum Answer {
@@ -34,7 +34,7 @@ fn accepted(file: &[u8], rows: Rows, has_list: bool) -> Answer
 {
     Answer::Accepted {
         info: clip_info(file),
-        marks: mark_count(file, u32_at(file, 20) as usize),
+        marks: mark_count(file, Starts::read(file).marks),
         rows,
         has_list,
     }
@@ -116,7 +116,7 @@ pub fn read(
         } => {
             let count = rows.maps;
             fill_sections(file, count, atcs, stcs, programs, streams, maps, entries);
-            extension::fill(file, u32_at(file, 24) as usize, extensions);
+            extension::fill(file, Starts::read(file).extensions, extensions);
             fill_list(file, list, has_list, programs2, streams2);
             accepted(file, rows, has_list)
         }

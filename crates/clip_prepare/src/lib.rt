@@ -7,11 +7,11 @@ use crate::list::ListRows;
 use crate::list::measure_list;
 use clip_sections::sections::Sections;
 use clip_sections::sections::measure;
+use common::header::Starts;
 use extension::ListData;
 use nine_tables::Room;
 use nine_tables::Rows;
 use nine_tables::table_room;
-use numbers::u32_at;
 
 // Ready to put the rows into the tables; a refusal's number; or the table that is too short and the rows it needs.
 pub enum Prepared {
@@ -80,7 +80,7 @@ pub fn prepare(file: &[u8], bytes: Rows) -> Prepared
             maps,
             entries,
         } => {
-            let found = extension::measure(file, u32_at(file, 24) as usize);
+            let found = extension::measure(file, Starts::read(file).extensions);
             let list = found.list;
             let second = measure_list(file, list);
             let rows = Rows {

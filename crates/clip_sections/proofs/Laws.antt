@@ -14,8 +14,9 @@ use Rattle.format.specs.EntryPoints.{cpiIn, mapsIn, mapsFrom, entriesFrom}
 use Rattle.format.specs.Reading.{clipOf}
 use Rattle.format.specs.Refusals.{refusalOf}
 use Rattle.format.proofs.Tests.{both-true, passed}
-use Rattle.common.specs.Header.{headerOf}
+use Rattle.common.specs.Header.{parsedOf}
 use Rattle.common.specs.declared.header.BdmvHeader.{BdmvHeader}
+use Rattle.common.specs.declared.header.Parsed.{Parsed}
 use Rattle.common.proofs.Laws.{rest}
 use Rattle.cpi.specs.Maps.{measured as cpiMeasured, mapsMeasured}
 use Rattle.cpi.specs.declared.maps.Measured.{Measured as CpiMeasured}
@@ -50,38 +51,38 @@ module _ (f : List ℕ) where
 
   module _ (most : length f ≤ 536870912) where
     -- a file without the eight bytes of letters and version is 1
-    pub truncated : headerOf f ≡ BdmvHeader.Truncated → 1 ≡ frontOf f
+    pub truncated : parsedOf f ≡ Parsed.Truncated → 1 ≡ frontOf f
     unfolding frontOf
-    truncated h = rw (le-leb (length f) 536870912 most) (go (leb 8 (length f)) (lettersRight f) h)
+    truncated h = rw (le-leb (length f) 536870912 most) (go (leb 8 (length f)) (lettersRight f) _ h)
       where
-        go : (a b : Bool) → pick a (pick b (BdmvHeader.Clip (beAt f 4 4)) BdmvHeader.OtherLetters) BdmvHeader.Truncated ≡ BdmvHeader.Truncated
+        go : (a b : Bool) (x : BdmvHeader) → pick a (pick b (Parsed.Clip x) Parsed.OtherLetters) Parsed.Truncated ≡ Parsed.Truncated
             → 1 ≡ unless a 1 (unless b 2 (unless (leb 40 (length f)) 1 (unless (clipInfoIn f) 3 0)))
-        go false b h = refl
-        go true true h = let z : _≡_ {A = ℕ} 0 1 = cc in absurd (omega arith)
-        go true false h = let z : _≡_ {A = ℕ} 0 1 = cc in absurd (omega arith)
+        go false b x h = refl
+        go true true x h = let z : _≡_ {A = ℕ} 0 1 = cc in absurd (omega arith)
+        go true false x h = let z : _≡_ {A = ℕ} 0 1 = cc in absurd (omega arith)
 
     -- letters that are not a clip file's are 2
-    pub other-letters : headerOf f ≡ BdmvHeader.OtherLetters → 2 ≡ frontOf f
+    pub other-letters : parsedOf f ≡ Parsed.OtherLetters → 2 ≡ frontOf f
     unfolding frontOf
-    other-letters h = rw (le-leb (length f) 536870912 most) (go (leb 8 (length f)) (lettersRight f) h)
+    other-letters h = rw (le-leb (length f) 536870912 most) (go (leb 8 (length f)) (lettersRight f) _ h)
       where
-        go : (a b : Bool) → pick a (pick b (BdmvHeader.Clip (beAt f 4 4)) BdmvHeader.OtherLetters) BdmvHeader.Truncated ≡ BdmvHeader.OtherLetters
+        go : (a b : Bool) (x : BdmvHeader) → pick a (pick b (Parsed.Clip x) Parsed.OtherLetters) Parsed.Truncated ≡ Parsed.OtherLetters
             → 2 ≡ unless a 1 (unless b 2 (unless (leb 40 (length f)) 1 (unless (clipInfoIn f) 3 0)))
-        go false b h = let z : _≡_ {A = ℕ} 0 1 = cc in absurd (omega arith)
-        go true true h = let z : _≡_ {A = ℕ} 0 1 = cc in absurd (omega arith)
-        go true false h = refl
+        go false b x h = let z : _≡_ {A = ℕ} 0 1 = cc in absurd (omega arith)
+        go true true x h = let z : _≡_ {A = ℕ} 0 1 = cc in absurd (omega arith)
+        go true false x h = refl
 
-    module _ (v : ℕ) (clip : headerOf f ≡ BdmvHeader.Clip v) where
+    module _ (v : BdmvHeader) (clip : parsedOf f ≡ Parsed.Clip v) where
       -- the letters are right
       front-is : frontOf f ≡ unless (leb 40 (length f)) 1 (unless (clipInfoIn f) 3 0)
       unfolding frontOf
-      front-is = rw (le-leb (length f) 536870912 most) (go (leb 8 (length f)) (lettersRight f) clip)
+      front-is = rw (le-leb (length f) 536870912 most) (go (leb 8 (length f)) (lettersRight f) _ clip)
         where
-          go : (a b : Bool) → pick a (pick b (BdmvHeader.Clip (beAt f 4 4)) BdmvHeader.OtherLetters) BdmvHeader.Truncated ≡ BdmvHeader.Clip v
+          go : (a b : Bool) (x : BdmvHeader) → pick a (pick b (Parsed.Clip x) Parsed.OtherLetters) Parsed.Truncated ≡ Parsed.Clip v
               → unless a 1 (unless b 2 (unless (leb 40 (length f)) 1 (unless (clipInfoIn f) 3 0))) ≡ unless (leb 40 (length f)) 1 (unless (clipInfoIn f) 3 0)
-          go false b h = let z : _≡_ {A = ℕ} 0 1 = cc in absurd (omega arith)
-          go true true h = refl
-          go true false h = let z : _≡_ {A = ℕ} 0 1 = cc in absurd (omega arith)
+          go false b x h = let z : _≡_ {A = ℕ} 0 1 = cc in absurd (omega arith)
+          go true true x h = refl
+          go true false x h = let z : _≡_ {A = ℕ} 0 1 = cc in absurd (omega arith)
 
       -- a file that ends within the header's 40 bytes is 1
       pub under-40 : length f < 40 → 1 ≡ frontOf f

@@ -3,6 +3,7 @@ ghost use mathlib.Core.Path.{_≡_};
 ghost use Prim.Native.Nat.{_≤_};
 ghost use lib.ListN.{length};
 ghost use Rattle.clip_sections.specs.Infos.{clipInfoOf};
+use common::header::BdmvHeader;
 use numbers::u8_at;
 use numbers::u32_at;
 
@@ -23,8 +24,9 @@ pub fn clip_info(file: &[u8]) -> ClipInfo
     requires { ⌜ 194 ≤ length (now file) ⌝ }
     ensures { λ r. ⌜ r ≡ clipInfoOf (now (file .entry)) ⌝ }
 {
+    let header = BdmvHeader::read(file);
     ClipInfo {
-        version: u32_at(file, 4),
+        version: header.version_number,
         clip_stream_type: u8_at(file, 46),
         application_type: u8_at(file, 47),
         ts_recording_rate: u32_at(file, 52),

@@ -3,6 +3,8 @@ ghost use mathlib.Core.Path.{_≡_};
 ghost use Rattle.clip_sections.specs.Clips.{frontOf, sectionsOf};
 ghost use Rattle.format.specs.ClipRecord.{marksIn};
 use common::header::BdmvHeader;
+use common::header::Parsed;
+use common::header::Starts;
 use info_sections::Measured;
 use numbers::u32_at;
 use section_heads::Section;
@@ -46,13 +48,13 @@ fn front(file: &[u8]) -> u32
         return 20;
     }
     match BdmvHeader::parse(file) {
-        BdmvHeader::Truncated => {
+        Parsed::Truncated => {
             return 1;
         }
-        BdmvHeader::OtherLetters => {
+        Parsed::OtherLetters => {
             return 2;
         }
-        BdmvHeader::Clip { version: _ } => {}
+        Parsed::Clip(_) => {}
     }
     if len < 40 {
         return 1;
@@ -74,25 +76,26 @@ pub fn measure(file: &[u8]) -> Sections
     if refusal != 0 {
         return Sections::Refused(refusal);
     }
+    let starts = Starts::read(file);
     let Measured::Counts {
         heads: atcs,
         rows: stcs,
-    } = info_sections::measure(Section::Sequences, file, u32_at(file, 8) as usize)
+    } = info_sections::measure(Section::Sequences, file, starts.sequences)
     else {
         return Sections::Refused(4);
     };
     let Measured::Counts {
         heads: programs,
         rows: streams,
-    } = info_sections::measure(Section::Programs, file, u32_at(file, 12) as usize)
+    } = info_sections::measure(Section::Programs, file, starts.programs)
     else {
         return Sections::Refused(5);
     };
-    match cpi::maps::measure(file, u32_at(file, 16) as usize) {
+    match cpi::maps::measure(file, starts.cpi) {
         cpi::maps::Measured::PastEnd => Sections::Refused(6),
         cpi::maps::Measured::MapPastEnd => Sections::Refused(7),
         cpi::maps::Measured::Counts { maps, entries } => {
-            if marks_in(file, u32_at(file, 20) as usize) {
+            if marks_in(file, starts.marks) {
                 Sections::Counts {
                     atcs,
                     stcs,

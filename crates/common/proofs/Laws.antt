@@ -12,6 +12,9 @@ use Rattle.format.specs.Bytes.{beAt}
 use Rattle.format.specs.ClipRecord.{areLetters, lettersRight}
 use Rattle.format.proofs.Tests.{picked, not-picked}
 use Rattle.numbers.specs.Reads.{ReadIs}
+use Rattle.common.specs.Header.{parsedOf, HeaderIs}
+use Rattle.common.specs.declared.header.BdmvHeader.{BdmvHeader}
+use Rattle.common.specs.declared.header.Parsed.{Parsed}
 use Rattle.common.specs.Reader.{numberAt, movedTo, NumberIs}
 use Rattle.common.specs.declared.reader.Reader.{Reader}
 use Rattle.common.specs.declared.reader.Moved.{Moved}
@@ -37,10 +40,19 @@ passed a b e t = leb-true a b (sym e ∙ t)
 
 -- ---- the header
 
--- the test on the four letters that were read is the one on the file
-pub letters : (f : List ℕ) {v : ℕ} {r : Bool} → ReadIs f 0 4 v → r ≡ areLetters v → r ≡ lettersRight f
-unfolding lettersRight
-letters f is e = e ∙ rw (is .same)
+module _ (f : List ℕ) {h : BdmvHeader} {r : Bool} (long : 8 ≤ length f) (is : HeaderIs f h) (e : r ≡ areLetters (h .«type_indicator»)) where
+  -- the test on the four letters that were read is the one on the file
+  letters : lettersRight f ≡ r
+  unfolding lettersRight
+  letters = sym (e ∙ rw (is .letters))
+
+  -- the header of a file with the right letters is told
+  pub clip-parsed : r ≡ true → Parsed.Clip h ≡ parsedOf f
+  clip-parsed t = rw (le-leb 8 (length f) long, letters, t) (λ i. Parsed.Clip (record { «type_indicator» = is .letters i; «version_number» = is .version i }))
+
+  -- other letters are told to be so
+  pub other-parsed : r ≡ false → Parsed.OtherLetters ≡ parsedOf f
+  other-parsed t = rw (le-leb 8 (length f) long, letters, t)
 
 -- ---- what an answer of the reader says
 

@@ -1,15 +1,31 @@
--- What the front of a file says.
+-- What the front of a file says, and where its sections start.
 use Prim.Native.Nat.{ℕ}
+use mathlib.Core.Path.{_≡_}
 use mathlib.Core.List.{List}
 use lib.ListN.{length}
 use lib.Dec.{leb}
-use Rattle.format.specs.Bytes.{pick}
-use Rattle.format.specs.ClipRecord.{lettersRight, versionOf}
+use Rattle.format.specs.Bytes.{beAt, pick}
+use Rattle.format.specs.ClipRecord.{lettersRight, versionOf, sequencesStart, programsStart, cpiStart, marksStart, extensionsStart}
 use Rattle.common.specs.declared.header.BdmvHeader.{BdmvHeader}
+use Rattle.common.specs.declared.header.Parsed.{Parsed}
+use Rattle.common.specs.declared.header.Starts.{Starts}
 
--- eight bytes are there, the letters are right, and then the version counts
-abbrev pub headerOf : List ℕ → BdmvHeader
-headerOf f =
+-- the letters and the version that were read
+pub record HeaderIs (f : List ℕ) (h : BdmvHeader) : Type 0 where
+  pub letters : h .«type_indicator» ≡ beAt f 0 4
+  pub version : h .«version_number» ≡ versionOf f
+
+-- eight bytes are there, the letters are right, and then the header counts
+abbrev pub parsedOf : List ℕ → Parsed
+parsedOf f =
     pick (leb 8 (length f))
-    (pick (lettersRight f) (BdmvHeader.Clip (versionOf f)) BdmvHeader.OtherLetters)
-    BdmvHeader.Truncated
+    (pick (lettersRight f) (Parsed.Clip (record { «type_indicator» = beAt f 0 4; «version_number» = versionOf f })) Parsed.OtherLetters)
+    Parsed.Truncated
+
+-- the five starts that were read
+pub record StartsAre (f : List ℕ) (s : Starts) : Type 0 where
+  pub sequences : s .sequences ≡ sequencesStart f
+  pub programs : s .programs ≡ programsStart f
+  pub cpi : s .cpi ≡ cpiStart f
+  pub marks : s .marks ≡ marksStart f
+  pub extensions : s .extensions ≡ extensionsStart f

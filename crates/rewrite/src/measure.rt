@@ -3,8 +3,8 @@ ghost use mathlib.Core.Path.{_≡_};
 ghost use Rattle.rewrite.specs.Rewrite.{plannedOf};
 use clip_sections::sections::Sections;
 use clip_sections::sections::measure;
+use common::header::Starts;
 use encode_cpi::Length;
-use numbers::u32_at;
 use rewrite_cpi::cpi_length;
 use rewrite_sections::programs_length;
 
@@ -35,11 +35,12 @@ pub fn plan(file: &[u8]) -> Planned
             maps,
             entries: _,
         } => {
-            let Length::Bytes(len) = cpi_length(file, u32_at(file, 16) as usize, maps) else {
+            let starts = Starts::read(file);
+            let Length::Bytes(len) = cpi_length(file, starts.cpi, maps) else {
                 return Planned::Refused(31);
             };
             let programs_at = 226 + 6 * atcs + 14 * stcs;
-            let cpi_at = programs_at + programs_length(file, u32_at(file, 12) as usize);
+            let cpi_at = programs_at + programs_length(file, starts.programs);
             Planned::Places {
                 atcs,
                 stcs,

@@ -10,9 +10,9 @@ ghost use Rattle.rewrite.specs.Rewrite.{Ready, rewriteAnswer, lengthAnsw
 use crate::measure::Planned;
 use crate::measure::plan;
 use clip_sections::info::clip_info;
+use common::header::Starts;
 use encode::write::Answer;
 use encode_head::put_head;
-use numbers::u32_at;
 use rewrite_cpi::put_cpi;
 use rewrite_sections::put_programs;
 use rewrite_sections::put_sequences;
@@ -55,6 +55,7 @@ fn put_sections(
     requires { ⌜ Ready (now file) atcs stcs maps «programs_at» «cpi_at» «marks_at» (length (now out)) ⌝ }
     ensures { λ _. ⌜ now (out .exit) ≡ sets (now (out .entry)) 0 (encode (clipOf (now (file .entry)))) ⌝ }
 {
+    let starts = Starts::read(file);
     put_head(
         clip_info(file),
         programs_at as u32,
@@ -62,17 +63,17 @@ fn put_sections(
         marks_at as u32,
         out,
     );
-    put_sequences(file, u32_at(file, 8) as usize, atcs, stcs, out, 220);
+    put_sequences(file, starts.sequences, atcs, stcs, out, 220);
     put_programs(
         file,
-        u32_at(file, 12) as usize,
+        starts.programs,
         cpi_at - programs_at,
         out,
         programs_at,
     );
     put_cpi(
         file,
-        u32_at(file, 16) as usize,
+        starts.cpi,
         maps,
         marks_at - cpi_at,
         out,

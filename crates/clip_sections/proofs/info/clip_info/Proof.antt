@@ -5,42 +5,28 @@ use borrow.Author.Needs.{needs}
 use Rattle.clip_sections.proofs.info.clip_info.Statement.{statement}
 use Rattle.clip_sections.proofs.info.clip_info.Tie as tie
 
-u32-at-requires : tie.Need-u32-at-requires
-u32-at-requires c κs = search needs
-
-u8-at-requires : tie.Need-u8-at-requires
-u8-at-requires c κs = search needs
-
-u8-at-requires-2 : tie.Need-u8-at-requires-2
-u8-at-requires-2 c κs = search needs
-
-u32-at-requires-2 : tie.Need-u32-at-requires-2
-u32-at-requires-2 c κs = search needs
-
-u32-at-requires-3 : tie.Need-u32-at-requires-3
-u32-at-requires-3 c κs = search needs
-
-u8-at-requires-3 : tie.Need-u8-at-requires-3
-u8-at-requires-3 c κs = search needs
-
-u32-at-requires-4 : tie.Need-u32-at-requires-4
-u32-at-requires-4 c κs = search needs
-
 returns : tie.Need-returns
 returns c =
-    let f = now (c .before .before .before .before .before .before .before .before .args .file) in
-    info-read f (c .before .before .before .before .before .before .u32-at .ensures .same) (c .before .before .before .before .before .u8-at .ensures .same) (c .before .before .before .before .u8-at2 .ensures .same) (c .before .before .before .u32-at2 .ensures .same)
-    (c .before .before .u32-at3 .ensures .same) (c .before .u8-at3 .ensures .same) (c .u32-at4 .ensures .same)
+    let s : tie.Start = search in
+    let header : tie.After-read = search in
+    let stream-type : tie.After-u8-at = search in
+    let application-type : tie.After-u8-at2 = search in
+    let rate : tie.After-u32-at = search in
+    let packets : tie.After-u32-at2 = search in
+    let flags : tie.After-u8-at3 = search in
+    let format : tie.After-u32-at3 = search in
+    info-read (now (s .args .file)) (header .read .ensures .version) (stream-type .u8-at .ensures .same) (application-type .u8-at2 .ensures .same) (rate .u32-at .ensures .same)
+    (packets .u32-at2 .ensures .same) (flags .u8-at3 .ensures .same) (format .u32-at3 .ensures .same)
 
 pub clip-info-spec : {M : Type 1} → statement M
 clip-info-spec =
     tie.close
     (tie.spec
-    u32-at-requires
-    u8-at-requires
-    u8-at-requires-2
-    u32-at-requires-2
-    u32-at-requires-3
-    u8-at-requires-3
-    u32-at-requires-4
+    (λ c κs. search needs)
+    (λ c κs. search needs)
+    (λ c κs. search needs)
+    (λ c κs. search needs)
+    (λ c κs. search needs)
+    (λ c κs. search needs)
+    (λ c κs. search needs)
     returns)

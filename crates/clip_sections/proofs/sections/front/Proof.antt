@@ -5,89 +5,74 @@ use mathlib.Core.List.{List}
 use native.Mathlib.Omega.{arith}
 use denote.Ref.{now}
 use lib.ListN.{length}
-use Rattle.common.specs.Header.{headerOf}
-use Rattle.common.specs.declared.header.BdmvHeader.{BdmvHeader}
+use Rattle.common.specs.Header.{parsedOf}
+use Rattle.common.specs.declared.header.Parsed.{Parsed}
 use Rattle.clip_sections.proofs.Laws.{too-long, truncated, other-letters, under-40, under-194, info-past, front-passes}
 use borrow.Author.Needs.{needs}
 use Rattle.clip_sections.proofs.sections.front.Statement.{statement}
 use Rattle.clip_sections.proofs.sections.front.Tie as tie
 
 returns : tie.Need-returns
-returns c = let a = c .before .before .args in too-long (now (a .file)) (c .if1 .taken)
+returns c = let s : tie.Start = search in too-long (now (s .args .file)) (c .if1 .taken)
 
-parse-requires : tie.Need-parse-requires
-parse-requires c κs = search needs
+-- the file is not too long, and its header was looked at
+module _ (p : tie.After-parse) where
+  abbrev S : tie.Start
+  S = search
 
-enum-told : tie.Need-enum-told
-enum-told c = search needs
+  abbrev F : List ℕ
+  F = now (S .args .file)
+
+  most : length F ≤ 536870912
+  most = omega arith
 
 returns-2 : tie.Need-returns-2
-returns-2 c =
-    let f = now (c .before .before .before .before .before .args .file) in
-    truncated f (c .before .before .before .if1 .left) (sym (c .before .before .parse .ensures) ∙ c .enum-told .given .1)
-
-enum-told-2 : tie.Need-enum-told-2
-enum-told-2 c = search needs
+returns-2 c = let p : tie.After-parse = search in truncated (F p) (most p) (sym (p .parse .ensures) ∙ c .enum-told .given .1)
 
 returns-3 : tie.Need-returns-3
-returns-3 c =
-    let f = now (c .before .before .before .before .before .args .file) in
-    other-letters f (c .before .before .before .if1 .left) (sym (c .before .before .parse .ensures) ∙ c .enum-told2 .given .1)
-
-enum-told-3 : tie.Need-enum-told-3
-enum-told-3 c = search needs
+returns-3 c = let p : tie.After-parse = search in other-letters (F p) (most p) (sym (p .parse .ensures) ∙ c .enum-told2 .given .1)
 
 -- the header is a clip's
 module _ (k : tie.After-enum-told3) where
-  abbrev F : List ℕ
-  F = now (k .before .before .before .before .before .args .file)
+  abbrev P : tie.After-parse
+  P = search
 
-  most : length F ≤ 536870912
-  most = k .before .before .before .if1 .left
-
-  is-clip : headerOf F ≡ BdmvHeader.Clip (k .enum-told3 .given .0 .0)
-  is-clip = sym (k .before .before .parse .ensures) ∙ k .enum-told3 .given .1
+  is-clip : parsedOf (F P) ≡ Parsed.Clip (k .enum-told3 .given .0 .0)
+  is-clip = sym (P .parse .ensures) ∙ k .enum-told3 .given .1
 
 returns-4 : tie.Need-returns-4
-returns-4 c = let k = c .before in under-40 (F k) (most k) _ (is-clip k) (c .if2 .taken)
+returns-4 c = let k : tie.After-enum-told3 = search in under-40 (F (P k)) (most (P k)) _ (is-clip k) (c .if2 .taken)
 
 returns-5 : tie.Need-returns-5
-returns-5 c = let k = c .before .before in under-194 (F k) (most k) _ (is-clip k) (c .before .if2 .left) (c .if3 .taken)
-
-sub-if4 : tie.Need-sub-if4
-sub-if4 c = search needs
-
-u32-at-requires : tie.Need-u32-at-requires
-u32-at-requires c κs = search needs
-
-cast-if4 : tie.Need-cast-if4
-cast-if4 c = search needs
+returns-5 c = let k : tie.After-enum-told3 = search in under-194 (F (P k)) (most (P k)) _ (is-clip k) (omega arith) (c .if3 .taken)
 
 returns-6 : tie.Need-returns-6
 returns-6 c =
-    let k = c .before .before .before .before in
-    info-past (F k) (most k) _ (is-clip k) (c .before .before .if3 .left) (omega (arith, c .before .u32-at .ensures .same))
+    let k : tie.After-enum-told3 = search in
+    let n : tie.After-u32-at = search in
+    info-past (F (P k)) (most (P k)) _ (is-clip k) (omega arith) (omega (arith, n .u32-at .ensures .same))
 
 returns-7 : tie.Need-returns-7
 returns-7 c =
-    let k = c .before .before .before .before in
-    front-passes (F k) (most k) _ (is-clip k) (c .before .before .if3 .left) (omega (arith, c .before .u32-at .ensures .same))
+    let k : tie.After-enum-told3 = search in
+    let n : tie.After-u32-at = search in
+    front-passes (F (P k)) (most (P k)) _ (is-clip k) (omega arith) (omega (arith, n .u32-at .ensures .same))
 
 pub front-spec : {M : Type 1} → statement M
 front-spec =
     tie.close
     (tie.spec
     returns
-    parse-requires
-    enum-told
+    (λ c κs. search needs)
+    (λ c. search needs)
     returns-2
-    enum-told-2
+    (λ c. search needs)
     returns-3
-    enum-told-3
+    (λ c. search needs)
     returns-4
     returns-5
-    sub-if4
-    u32-at-requires
-    cast-if4
+    (λ c. search needs)
+    (λ c κs. search needs)
+    (λ c. search needs)
     returns-6
     returns-7)

@@ -8,7 +8,7 @@ use denote.Ref.{now}
 use lib.ListN.{length}
 use lib.Dec.{leb}
 use borrow.Author.Tests.{le-leb}
-use Rattle.format.specs.ClipRecord.{sequencesStart, programsStart, cpiStart, sequencesEnd, marksIn}
+use Rattle.format.specs.ClipRecord.{sequencesStart, programsStart, cpiStart, marksStart, sequencesEnd, marksIn}
 use Rattle.format.specs.Programs.{programsEnd}
 use Rattle.section_heads.specs.declared.Section.{Section}
 use Rattle.info_sections.specs.Sections.{measured}
@@ -20,191 +20,159 @@ use borrow.Author.Needs.{needs}
 use Rattle.clip_sections.proofs.sections.measure.Statement.{statement}
 use Rattle.clip_sections.proofs.sections.measure.Tie as tie
 
-front-requires : tie.Need-front-requires
-front-requires c κs = search needs
-
 returns : tie.Need-returns
-returns c = front-refused (now (c .before .before .before .args .file)) (c .before .front .result) (c .before .front .ensures) (c .if1 .taken)
+returns c =
+    let s : tie.Start = search in
+    let a : tie.After-front = search in
+    front-refused (now (s .args .file)) (a .front .result) (a .front .ensures) (c .if1 .taken)
 
 -- the front passed
 module _ (k : tie.Else1) where
+  abbrev S : tie.Start
+  S = search
+
   abbrev F : List ℕ
-  F = now (k .before .before .before .args .file)
+  F = now (S .args .file)
 
   front : frontOf F ≡ 0
-  front = sym (k .before .front .ensures) ∙ k .if1 .left
+  front = let a : tie.After-front = search in sym (a .front .ensures) ∙ k .if1 .left
 
   bounds : (length F ≤ 536870912) × (194 ≤ length F)
   bounds = front-facts F front
 
-u32-at-requires : tie.Need-u32-at-requires
-u32-at-requires c κs = omega (arith, bounds c)
+read-requires : tie.Need-read-requires
+read-requires c κs = omega (arith, bounds c)
 
-cast-measure : tie.Need-cast-measure
-cast-measure c = search needs
+-- the sequences were measured where they start
+module _ (m : tie.After-measure) where
+  abbrev K1 : tie.Else1
+  K1 = search
 
-measure-requires : tie.Need-measure-requires
-measure-requires c κs = search needs
-
-enum-known-atcs : tie.Need-enum-known-atcs
-enum-known-atcs c = search needs
-
-enum-told : tie.Need-enum-told
-enum-told c = search needs
+  sequences : measured Section.Sequences (F K1) (sequencesStart (F K1)) ≡ m .measure .result
+  sequences = let r : tie.After-read = search in sym (ap (measured Section.Sequences (F K1)) (r .read .ensures .sequences)) ∙ sym (m .measure .ensures)
 
 returns-2 : tie.Need-returns-2
 returns-2 c =
-    let k = c .before .before .before .before in
-    sequences-refused (F k) (front k)
-    (past-end Section.Sequences (F k) (sequencesStart (F k)) (sym (ap (measured Section.Sequences (F k)) (c .before .before .before .u32-at .ensures .same)) ∙ sym (c .before .before .measure .ensures) ∙ c .enum-told .given .1))
+    let k : tie.Else1 = search in
+    let m : tie.After-measure = search in
+    sequences-refused (F k) (front k) (past-end Section.Sequences (F k) (sequencesStart (F k)) (sequences m ∙ c .enum-told .given .1))
 
--- the sequences are in the file
-module _ (s : tie.After-known-told) where
-  abbrev K1 : tie.Else1
-  K1 = s .before .before .before .before .before
+-- they are in the file
+module _ (s : tie.After-atcs) where
+  abbrev K2 : tie.Else1
+  K2 = search
 
-  sequences-are : CountsAre Section.Sequences (F K1) (sequencesStart (F K1)) (s .before .atcs .given .0 .0) (s .before .atcs .given .0 .1 .0)
-  sequences-are =
-      counts-are Section.Sequences (F K1) (sequencesStart (F K1)) (sym (ap (measured Section.Sequences (F K1)) (s .before .before .before .before .u32-at .ensures .same)) ∙ sym (s .before .before .before .measure .ensures) ∙ s .before .atcs .given .1)
+  sequences-are : CountsAre Section.Sequences (F K2) (sequencesStart (F K2)) (s .atcs .given .0 .0) (s .atcs .given .0 .1 .0)
+  sequences-are = let m : tie.After-measure = search in counts-are Section.Sequences (F K2) (sequencesStart (F K2)) (sequences m ∙ s .atcs .given .1)
 
-  sequences-in : leb (sequencesEnd (F K1) (sequencesStart (F K1))) (length (F K1)) ≡ true
-  sequences-in = le-leb (sequencesEnd (F K1) (sequencesStart (F K1))) (length (F K1)) (sequences-are .ends)
+  sequences-in : leb (sequencesEnd (F K2) (sequencesStart (F K2))) (length (F K2)) ≡ true
+  sequences-in = le-leb (sequencesEnd (F K2) (sequencesStart (F K2))) (length (F K2)) (sequences-are .ends)
 
-u32-at-requires-2 : tie.Need-u32-at-requires-2
-u32-at-requires-2 c κs = omega (arith, bounds (K1 c))
+-- the programs were measured where they start
+module _ (m : tie.After-measure2) where
+  abbrev K3 : tie.Else1
+  K3 = search
 
-cast-measure-2 : tie.Need-cast-measure-2
-cast-measure-2 c = search needs
-
-measure-requires-2 : tie.Need-measure-requires-2
-measure-requires-2 c κs = search needs
-
-enum-known-programs : tie.Need-enum-known-programs
-enum-known-programs c = search needs
-
-enum-told-2 : tie.Need-enum-told-2
-enum-told-2 c = search needs
+  programs : measured Section.Programs (F K3) (programsStart (F K3)) ≡ m .measure2 .result
+  programs = let r : tie.After-read = search in sym (ap (measured Section.Programs (F K3)) (r .read .ensures .programs)) ∙ sym (m .measure2 .ensures)
 
 returns-3 : tie.Need-returns-3
 returns-3 c =
-    let a = c .before .before .before .before in
-    let k = K1 a in
-    programs-refused (F k) (front k) (sequences-in a)
-    (past-end Section.Programs (F k) (programsStart (F k)) (sym (ap (measured Section.Programs (F k)) (c .before .before .before .u32-at2 .ensures .same)) ∙ sym (c .before .before .measure2 .ensures) ∙ c .enum-told2 .given .1))
+    let k : tie.Else1 = search in
+    let s : tie.After-atcs = search in
+    let m : tie.After-measure2 = search in
+    programs-refused (F k) (front k) (sequences-in s) (past-end Section.Programs (F k) (programsStart (F k)) (programs m ∙ c .enum-told2 .given .1))
 
--- the programs are in the file
-module _ (s : tie.After-known-told2) where
-  abbrev A : tie.After-known-told
-  A = s .before .before .before .before .before
+-- they are in the file
+module _ (p : tie.After-programs) where
+  abbrev K4 : tie.Else1
+  K4 = search
 
-  programs-are : CountsAre Section.Programs (F (K1 A)) (programsStart (F (K1 A))) (s .before .programs .given .0 .0) (s .before .programs .given .0 .1 .0)
-  programs-are =
-      counts-are Section.Programs (F (K1 A)) (programsStart (F (K1 A))) (sym (ap (measured Section.Programs (F (K1 A))) (s .before .before .before .before .u32-at2 .ensures .same)) ∙ sym (s .before .before .before .measure2 .ensures) ∙ s .before .programs .given .1)
+  programs-are : CountsAre Section.Programs (F K4) (programsStart (F K4)) (p .programs .given .0 .0) (p .programs .given .0 .1 .0)
+  programs-are = let m : tie.After-measure2 = search in counts-are Section.Programs (F K4) (programsStart (F K4)) (programs m ∙ p .programs .given .1)
 
-  programs-in : leb (programsEnd (F (K1 A)) (programsStart (F (K1 A)))) (length (F (K1 A))) ≡ true
-  programs-in = le-leb (programsEnd (F (K1 A)) (programsStart (F (K1 A)))) (length (F (K1 A))) (programs-are .ends)
-
-u32-at-requires-3 : tie.Need-u32-at-requires-3
-u32-at-requires-3 c κs = omega (arith, bounds (K1 (A c)))
-
-cast-measure-3 : tie.Need-cast-measure-3
-cast-measure-3 c = search needs
+  programs-in : leb (programsEnd (F K4) (programsStart (F K4))) (length (F K4)) ≡ true
+  programs-in = le-leb (programsEnd (F K4) (programsStart (F K4))) (length (F K4)) (programs-are .ends)
 
 measure-requires-3 : tie.Need-measure-requires-3
-measure-requires-3 c κs = bounds (K1 (A (c .before))) .0
+measure-requires-3 c κs = let k : tie.Else1 = search in bounds k .0
 
-enum-told-3 : tie.Need-enum-told-3
-enum-told-3 c = search needs
-
-enum-told-4 : tie.Need-enum-told-4
-enum-told-4 c = search needs
-
-enum-known-maps : tie.Need-enum-known-maps
-enum-known-maps c = search needs
-
--- the entry index was measured
+-- the CPI was measured where it starts
 module _ (m : tie.After-measure3) where
-  abbrev P : tie.After-known-told2
-  P = m .before .before
+  abbrev K5 : tie.Else1
+  K5 = search
 
-  abbrev G : List ℕ
-  G = F (K1 (A P))
-
-  index : cpiMeasured G (cpiStart G) ≡ m .measure3 .result
-  index = sym (ap (cpiMeasured G) (m .before .u32-at3 .ensures .same)) ∙ sym (m .measure3 .ensures)
-
-u32-at-requires-4 : tie.Need-u32-at-requires-4
-u32-at-requires-4 c κs = omega (arith, bounds (K1 (A (P (c .before .before .before)))))
-
-cast-marks-in : tie.Need-cast-marks-in
-cast-marks-in c = search needs
-
-marks-in-requires : tie.Need-marks-in-requires
-marks-in-requires c κs = search needs
+  index : cpiMeasured (F K5) (cpiStart (F K5)) ≡ m .measure3 .result
+  index = let r : tie.After-read = search in sym (ap (cpiMeasured (F K5)) (r .read .ensures .cpi)) ∙ sym (m .measure3 .ensures)
 
 returns-4 : tie.Need-returns-4
 returns-4 c =
-    let m = c .before .before in
-    let q = P m in
-    let a = A q in
-    cpi-refused (G m) (front (K1 a)) (sequences-in a) (programs-in q) (cpi-past (G m) (cpiStart (G m)) (index m ∙ c .enum-told3 .given .1))
+    let k : tie.Else1 = search in
+    let s : tie.After-atcs = search in
+    let p : tie.After-programs = search in
+    let m : tie.After-measure3 = search in
+    cpi-refused (F k) (front k) (sequences-in s) (programs-in p) (cpi-past (F k) (cpiStart (F k)) (index m ∙ c .enum-told3 .given .1))
 
 returns-5 : tie.Need-returns-5
 returns-5 c =
-    let m = c .before .before in
-    let q = P m in
-    let a = A q in
-    let i = map-past (G m) (cpiStart (G m)) (index m ∙ c .enum-told4 .given .1) in
-    maps-refused (G m) (front (K1 a)) (sequences-in a) (programs-in q) (i .0) (i .1)
+    let k : tie.Else1 = search in
+    let s : tie.After-atcs = search in
+    let p : tie.After-programs = search in
+    let m : tie.After-measure3 = search in
+    let i = map-past (F k) (cpiStart (F k)) (index m ∙ c .enum-told4 .given .1) in
+    maps-refused (F k) (front k) (sequences-in s) (programs-in p) (i .0) (i .1)
+
+-- the marks were looked for where they start
+module _ (m : tie.After-marks-in) where
+  abbrev K6 : tie.Else1
+  K6 = search
+
+  marks : marksIn (F K6) (marksStart (F K6)) ≡ m .marks-in .result
+  marks = let r : tie.After-read = search in sym (ap (marksIn (F K6)) (r .read .ensures .marks)) ∙ sym (m .marks-in .ensures)
 
 returns-6 : tie.Need-returns-6
 returns-6 c =
-    let m = c .before .before .before .before .before .before in
-    let q = P m in
-    let a = A q in
-    let v = c .before .before .before .before .maps .given in
-    let i = cpi-counts (G m) (cpiStart (G m)) (v .0 .0) (v .0 .1 .0) (index m ∙ v .1) in
-    let marks = ap (marksIn (G m)) (sym (c .before .before .u32-at4 .ensures .same)) ∙ sym (c .before .marks-in .ensures) in
-    all-counted (G m) (front (K1 a)) (sequences-in a) (programs-in q) (i .0) (i .1) (marks ∙ c .if2 .taken)
-    (sequences-are a .heads-are) (sequences-are a .rows-are) (programs-are q .heads-are) (programs-are q .rows-are) (i .2) (i .3)
+    let k : tie.Else1 = search in
+    let s : tie.After-atcs = search in
+    let p : tie.After-programs = search in
+    let m : tie.After-measure3 = search in
+    let n : tie.After-maps = search in
+    let h : tie.After-marks-in = search in
+    let i = cpi-counts (F k) (cpiStart (F k)) _ _ (index m ∙ n .maps .given .1) in
+    all-counted (F k) (front k) (sequences-in s) (programs-in p) (i .0) (i .1) (marks h ∙ c .if2 .taken)
+    (sequences-are s .heads-are) (sequences-are s .rows-are) (programs-are p .heads-are) (programs-are p .rows-are) (i .2) (i .3)
 
 returns-7 : tie.Need-returns-7
 returns-7 c =
-    let m = c .before .before .before .before .before .before in
-    let q = P m in
-    let a = A q in
-    let v = c .before .before .before .before .maps .given in
-    let i = cpi-counts (G m) (cpiStart (G m)) (v .0 .0) (v .0 .1 .0) (index m ∙ v .1) in
-    let marks = ap (marksIn (G m)) (sym (c .before .before .u32-at4 .ensures .same)) ∙ sym (c .before .marks-in .ensures) in
-    marks-refused (G m) (front (K1 a)) (sequences-in a) (programs-in q) (i .0) (i .1) (marks ∙ c .if2 .left)
+    let k : tie.Else1 = search in
+    let s : tie.After-atcs = search in
+    let p : tie.After-programs = search in
+    let m : tie.After-measure3 = search in
+    let n : tie.After-maps = search in
+    let h : tie.After-marks-in = search in
+    let i = cpi-counts (F k) (cpiStart (F k)) _ _ (index m ∙ n .maps .given .1) in
+    marks-refused (F k) (front k) (sequences-in s) (programs-in p) (i .0) (i .1) (marks h ∙ c .if2 .left)
 
 pub measure-spec : {M : Type 1} → statement M
 measure-spec =
     tie.close
     (tie.spec
-    front-requires
+    (λ c κs. search needs)
     returns
-    u32-at-requires
-    cast-measure
-    measure-requires
-    enum-known-atcs
-    enum-told
+    read-requires
+    (λ c κs. search needs)
+    (λ c. search needs)
+    (λ c. search needs)
     returns-2
-    u32-at-requires-2
-    cast-measure-2
-    measure-requires-2
-    enum-known-programs
-    enum-told-2
+    (λ c κs. search needs)
+    (λ c. search needs)
+    (λ c. search needs)
     returns-3
-    u32-at-requires-3
-    cast-measure-3
     measure-requires-3
-    enum-told-3
-    enum-told-4
-    enum-known-maps
-    u32-at-requires-4
-    cast-marks-in
-    marks-in-requires
+    (λ c. search needs)
+    (λ c. search needs)
+    (λ c. search needs)
+    (λ c κs. search needs)
     returns-4
     returns-5
     returns-6
