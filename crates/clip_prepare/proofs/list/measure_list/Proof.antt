@@ -1,74 +1,61 @@
 -- Each return, by what was found.
+use Prim.Native.Nat.{ℕ, _+_, _≤_}
 use mathlib.Core.Path.{sym, _∙_}
+use mathlib.Core.List.{List}
 use native.Mathlib.Omega.{arith}
 use denote.Ref.{now}
+use lib.ListN.{length}
 use Rattle.clip_prepare.proofs.ListLaws.{list-none, list-inside, list-past, list-rows}
 use borrow.Author.Needs.{needs}
 use Rattle.clip_prepare.proofs.list.measure_list.Statement.{statement}
 use Rattle.clip_prepare.proofs.list.measure_list.Tie as tie
 
-enum-known-list : tie.Need-enum-known-list
-enum-known-list c = search needs
-
-enum-told : tie.Need-enum-told
-enum-told c = search needs
-
 returns : tie.Need-returns
-returns c = let a = c .before .before .before .args in list-none (now (a .file)) (a .list) (c .enum-told .given .1)
+returns c = let s : tie.Start = search in list-none (now (s .args .file)) (s .args .list) (c .enum-told .given .1)
+
+-- data was found
+module _ (k : tie.After-list) where
+  abbrev S : tie.Start
+  S = search
+
+  abbrev F : List ℕ
+  F = now (S .args .file)
+
+  inside : k .list .given .0 .0 + k .list .given .0 .1 .0 ≤ length F
+  inside = list-inside F (S .args .list) _ _ (k .list .given .1) (S .pre)
 
 add-end : tie.Need-add-end
-add-end c =
-    let v = c .before .list .given in
-    let k = c .before .before .before .before in
-    omega (arith, list-inside (now (k .args .file)) (k .args .list) (v .0 .0) (v .0 .1 .0) (v .1) (k .pre))
-
-sub-measure : tie.Need-sub-measure
-sub-measure c = search needs
-
-part-measure-start : tie.Need-part-measure-start
-part-measure-start c = search needs
+add-end c = let k : tie.After-list = search in omega (arith, inside k)
 
 part-measure-end : tie.Need-part-measure-end
-part-measure-end c =
-    let v = c .before .list .given in
-    let k = c .before .before .before .before in
-    omega (arith, list-inside (now (k .args .file)) (k .args .list) (v .0 .0) (v .0 .1 .0) (v .1) (k .pre))
-
-measure-requires : tie.Need-measure-requires
-measure-requires c κs = search needs
-
-enum-known-programs : tie.Need-enum-known-programs
-enum-known-programs c = search needs
-
-enum-told-2 : tie.Need-enum-told-2
-enum-told-2 c = search needs
+part-measure-end c = let k : tie.After-list = search in omega (arith, inside k)
 
 returns-2 : tie.Need-returns-2
 returns-2 c =
-    let a = c .before .before .before .before .before .before .before .before .args in
-    let v = c .before .before .before .before .before .list .given in
-    list-past (now (a .file)) (a .list) (v .0 .0) (v .0 .1 .0) (v .1) (sym (c .before .before .measure .ensures) ∙ c .enum-told2 .given .1)
+    let k : tie.After-list = search in
+    let m : tie.After-measure = search in
+    list-past (F k) (S k .args .list) _ _ (k .list .given .1) (sym (m .measure .ensures) ∙ c .enum-told2 .given .1)
 
 returns-3 : tie.Need-returns-3
 returns-3 c =
-    let a = c .before .before .before .before .before .before .before .before .before .args in
-    let v = c .before .before .before .before .before .before .list .given in
-    let n = c .before .programs .given in
-    list-rows (now (a .file)) (a .list) (v .0 .0) (v .0 .1 .0) (v .1) (n .0 .0) (n .0 .1 .0) (sym (c .before .before .before .measure .ensures) ∙ n .1)
+    let k : tie.After-list = search in
+    let m : tie.After-measure = search in
+    let n : tie.After-programs = search in
+    list-rows (F k) (S k .args .list) _ _ (k .list .given .1) _ _ (sym (m .measure .ensures) ∙ n .programs .given .1)
 
 pub measure-list-spec : {M : Type 1} → statement M
 measure-list-spec =
     tie.close
     (tie.spec
-    enum-known-list
-    enum-told
+    (λ c. search needs)
+    (λ c. search needs)
     returns
     add-end
-    sub-measure
-    part-measure-start
+    (λ c. search needs)
+    (λ c. search needs)
     part-measure-end
-    measure-requires
-    enum-known-programs
-    enum-told-2
+    (λ c κs. search needs)
+    (λ c. search needs)
+    (λ c. search needs)
     returns-2
     returns-3)

@@ -6,16 +6,19 @@ use Rattle.clip_sections.proofs.sections.marks_in.Statement.{statement}
 use Rattle.clip_sections.proofs.sections.marks_in.Tie as tie
 
 returns : tie.Need-returns
-returns c = let a = c .before .args in marks-zero (now (a .file)) (a .start) (c .if1 .taken)
+returns c = let s : tie.Start = search in marks-zero (now (s .args .file)) (s .args .start) (c .if1 .taken)
 
 returns-2 : tie.Need-returns-2
-returns-2 c = let a = c .before .before .args in marks-far (now (a .file)) (a .start) (c .before .if1 .left) (c .if2 .taken)
-
-sub-result : tie.Need-sub-result
-sub-result c = search needs
+returns-2 c =
+    let s : tie.Start = search in
+    let some : tie.Else1 = search in
+    marks-far (now (s .args .file)) (s .args .start) (some .if1 .left) (c .if2 .taken)
 
 returns-3 : tie.Need-returns-3
-returns-3 c = let a = c .before .before .args in marks-near (now (a .file)) (a .start) (c .before .if1 .left) (c .if2 .left)
+returns-3 c =
+    let s : tie.Start = search in
+    let some : tie.Else1 = search in
+    marks-near (now (s .args .file)) (s .args .start) (some .if1 .left) (c .if2 .left)
 
 pub marks-in-spec : {M : Type 1} → statement M
-marks-in-spec = tie.close (tie.spec returns returns-2 sub-result returns-3)
+marks-in-spec = tie.close (tie.spec returns returns-2 (λ c. search needs) returns-3)
