@@ -11,72 +11,63 @@ use borrow.Author.Needs.{needs}
 use Rattle.clip_information.proofs.fill.fill_sections.Statement.{statement}
 use Rattle.clip_information.proofs.fill.fill_sections.Tie as tie
 
-u32-at-requires : tie.Need-u32-at-requires
-u32-at-requires c κs = let s = c .before .before .before .before .before .before .before in omega (arith, accepted-bounds (now (s .args .file)) (s .pre .accepts))
+-- the states that are named below, each found in a later one
+abbrev start-of : tie.After-read → tie.Start
+start-of r = search
 
-cast-fill : tie.Need-cast-fill
-cast-fill c = search needs
+abbrev starts-of : tie.After-fill → tie.After-read
+starts-of a = search
+
+abbrev sequences-of : tie.After-fill2 → tie.After-fill
+sequences-of b = search
+
+abbrev programs-of : tie.After-fill3 → tie.After-fill2
+programs-of d = search
+
+read-requires : tie.Need-read-requires
+read-requires c κs = let s : tie.Start = search in omega (arith, accepted-bounds (now (s .args .file)) (s .pre .accepts))
 
 fill-requires : tie.Need-fill-requires
-fill-requires c κs = let s = c .before .before .before .before .before .before .before .before .before .before in sequences-fillable (now (s .args .file)) (s .pre) (c .before .before .u32-at .ensures .same)
-
-u32-at-requires-2 : tie.Need-u32-at-requires-2
-u32-at-requires-2 c κs = let s = c .before .before .before .before .before .before .before .before .before .before .before .before .before .before .before in omega (arith, accepted-bounds (now (s .args .file)) (s .pre .accepts))
-
-cast-fill-2 : tie.Need-cast-fill-2
-cast-fill-2 c = search needs
+fill-requires c κs =
+    let r : tie.After-read = search in
+    let s = start-of r in
+    sequences-fillable (now (s .args .file)) (s .pre) (r .read .ensures .sequences)
 
 fill-requires-2 : tie.Need-fill-requires-2
-fill-requires-2 c κs = let s = c .before .before .before .before .before .before .before .before .before .before .before .before .before .before .before .before .before .before in programs-fillable (now (s .args .file)) (s .pre) (c .before .before .u32-at2 .ensures .same)
-
-u32-at-requires-3 : tie.Need-u32-at-requires-3
-u32-at-requires-3 c κs = let s = c .before .before .before .before .before .before .before .before .before .before .before .before .before .before .before .before .before .before .before .before .before .before .before in omega (arith, accepted-bounds (now (s .args .file)) (s .pre .accepts))
-
-cast-fill-3 : tie.Need-cast-fill-3
-cast-fill-3 c = search needs
+fill-requires-2 c κs =
+    let a : tie.After-fill = search in
+    let r = starts-of a in
+    let s = start-of r in
+    programs-fillable (now (s .args .file)) (s .pre) (r .read .ensures .programs)
 
 fill-requires-3 : tie.Need-fill-requires-3
-fill-requires-3 c κs = let s = c .before .before .before .before .before .before .before .before .before .before .before .before .before .before .before .before .before .before .before .before .before .before .before .before .before .before in maps-fillable (now (s .args .file)) (s .pre) (c .before .before .u32-at3 .ensures .same)
-
-same-length : tie.Need-same-length
-same-length c = search needs
-
-same-length-2 : tie.Need-same-length-2
-same-length-2 c = search needs
-
-same-length-3 : tie.Need-same-length-3
-same-length-3 c = search needs
-
-same-length-4 : tie.Need-same-length-4
-same-length-4 c = search needs
-
-same-length-5 : tie.Need-same-length-5
-same-length-5 c = search needs
-
-same-length-6 : tie.Need-same-length-6
-same-length-6 c = search needs
+fill-requires-3 c κs =
+    let b : tie.After-fill2 = search in
+    let r = starts-of (sequences-of b) in
+    let s = start-of r in
+    maps-fillable (now (s .args .file)) (s .pre) (r .read .ensures .cpi)
 
 returns : tie.Need-returns
 unfolding clipOf
 returns c =
-    let s = c .before .before .before .before .before .before .before .before .before .before .before .before .before .before .before .before .before .before .before .before .before .before .before .before .before .before .before .before .before .before .before in
-    let f = now (s .args .file) in
-    let a = c .before .before .before .before .before .before .before .before .before .before .before .before .before .before .before .before .before .before .before .before in
-    let b = c .before .before .before .before .before .before .before .before .before .before .before .before in
-    let d = c .before .before .before .before in
-    let u = a .before .before .before .u32-at .ensures .same in
-    let v = b .before .before .before .u32-at2 .ensures .same in
-    let w = d .before .before .before .u32-at3 .ensures .same in (
-      filled-from (atcsFrom f) (now (s .args .atcs)) u (a .fill .ensures .0),
+    let d : tie.After-fill3 = search in
+    let b = programs-of d in
+    let a = sequences-of b in
+    let r = starts-of a in
+    let s = start-of r in
+    let t = s .args in
+    let f = now (t .file) in
+    let at = r .read .ensures in (
+      filled-from (atcsFrom f) (now (t .atcs)) (at .sequences) (a .fill .ensures .0),
       (
-        filled-from (stcsFrom f) (now (s .args .stcs)) u (a .fill .ensures .1),
+        filled-from (stcsFrom f) (now (t .stcs)) (at .sequences) (a .fill .ensures .1),
         (
-          filled-from (programsFrom f) (now (s .args .programs)) v (b .fill2 .ensures .0),
+          filled-from (programsFrom f) (now (t .programs)) (at .programs) (b .fill2 .ensures .0),
           (
-            filled-from (streamsFrom f) (now (s .args .streams)) v (b .fill2 .ensures .1),
+            filled-from (streamsFrom f) (now (t .streams)) (at .programs) (b .fill2 .ensures .1),
             (
-              filled-from (mapsFrom f) (now (s .args .maps)) w (d .fill3 .ensures .0),
-              filled-from (entriesFrom f) (now (s .args .entries)) w (d .fill3 .ensures .1),
+              filled-from (mapsFrom f) (now (t .maps)) (at .cpi) (d .fill3 .ensures .0),
+              filled-from (entriesFrom f) (now (t .entries)) (at .cpi) (d .fill3 .ensures .1),
             ),
           ),
         ),
@@ -87,19 +78,14 @@ pub fill-sections-spec : {M : Type 1} → statement M
 fill-sections-spec =
     tie.close
     (tie.spec
-    u32-at-requires
-    cast-fill
+    read-requires
     fill-requires
-    u32-at-requires-2
-    cast-fill-2
     fill-requires-2
-    u32-at-requires-3
-    cast-fill-3
     fill-requires-3
-    same-length
-    same-length-2
-    same-length-3
-    same-length-4
-    same-length-5
-    same-length-6
+    (λ c. search needs)
+    (λ c. search needs)
+    (λ c. search needs)
+    (λ c. search needs)
+    (λ c. search needs)
+    (λ c. search needs)
     returns)

@@ -8,19 +8,27 @@ use Rattle.clip_information.proofs.fill.mark_count.Statement.{statement
 use Rattle.clip_information.proofs.fill.mark_count.Tie as tie
 
 returns : tie.Need-returns
-returns c = let a = c .before .before .args in no-marks (now (a .file)) (a .start) (c .if1 .taken)
+returns c = let s : tie.Start = search in no-marks (now (s .args .file)) (s .args .start) (c .if1 .taken)
 
 returns-2 : tie.Need-returns-2
-returns-2 c = let a = c .before .before .before .args in marks-past (now (a .file)) (a .start) (c .before .if1 .left) (c .if2 .taken)
-
-add-u16-at : tie.Need-add-u16-at
-add-u16-at c = search needs
+returns-2 c =
+    let s : tie.Start = search in
+    let some : tie.Else1 = search in
+    marks-past (now (s .args .file)) (s .args .start) (some .if1 .left) (c .if2 .taken)
 
 u16-at-requires : tie.Need-u16-at-requires
-u16-at-requires c κs = let s = c .before .before .before in omega (arith, count-in (now (s .args .file)) (s .args .start) (s .pre) (c .before .if1 .left) (c .if2 .left))
+u16-at-requires c κs =
+    let s : tie.Start = search in
+    let some : tie.Else1 = search in
+    let near : tie.Else2 = search in
+    omega (arith, count-in (now (s .args .file)) (s .args .start) (s .pre) (some .if1 .left) (near .if2 .left))
 
 returns-3 : tie.Need-returns-3
-returns-3 c = let a = c .before .before .before .before .args in c .u16-at .ensures .same ∙ marks-counted (now (a .file)) (a .start) (c .before .before .if1 .left) (c .before .if2 .left)
+returns-3 c =
+    let s : tie.Start = search in
+    let some : tie.Else1 = search in
+    let near : tie.Else2 = search in
+    c .u16-at .ensures .same ∙ marks-counted (now (s .args .file)) (s .args .start) (some .if1 .left) (near .if2 .left)
 
 pub mark-count-spec : {M : Type 1} → statement M
-mark-count-spec = tie.close (tie.spec returns returns-2 add-u16-at u16-at-requires returns-3)
+mark-count-spec = tie.close (tie.spec returns returns-2 (λ c. search needs) u16-at-requires returns-3)

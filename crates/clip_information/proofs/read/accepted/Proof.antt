@@ -8,21 +8,23 @@ use Rattle.clip_information.proofs.read.accepted.Statement.{statement}
 use Rattle.clip_information.proofs.read.accepted.Tie as tie
 
 clip-info-requires : tie.Need-clip-info-requires
-clip-info-requires c κs = accepted-bounds (now (c .before .args .file)) (c .before .pre) .1
+clip-info-requires c κs = let s : tie.Start = search in accepted-bounds (now (s .args .file)) (s .pre) .1
 
-u32-at-requires : tie.Need-u32-at-requires
-u32-at-requires c κs = omega (arith, accepted-bounds (now (c .before .before .args .file)) (c .before .before .pre))
-
-cast-mark-count : tie.Need-cast-mark-count
-cast-mark-count c = search needs
+read-requires : tie.Need-read-requires
+read-requires c κs = let s : tie.Start = search in omega (arith, accepted-bounds (now (s .args .file)) (s .pre))
 
 mark-count-requires : tie.Need-mark-count-requires
-mark-count-requires c κs = let s = c .before .before .before in marks-there (now (s .args .file)) (s .pre) (c .u32-at .ensures .same)
+mark-count-requires c κs =
+    let s : tie.Start = search in
+    let r : tie.After-read = search in
+    marks-there (now (s .args .file)) (s .pre) (r .read .ensures .marks)
 
 returns : tie.Need-returns
 returns c =
-    let a = c .before .before .before .before .args in
-    accepted-as (now (a .file)) (c .before .before .clip-info .ensures) (c .before .u32-at .ensures .same) (c .mark-count .ensures)
+    let s : tie.Start = search in
+    let i : tie.After-clip-info = search in
+    let r : tie.After-read = search in
+    accepted-as (now (s .args .file)) (i .clip-info .ensures) (r .read .ensures .marks) (c .mark-count .ensures)
 
 pub accepted-spec : {M : Type 1} → statement M
-accepted-spec = tie.close (tie.spec clip-info-requires u32-at-requires cast-mark-count mark-count-requires returns)
+accepted-spec = tie.close (tie.spec clip-info-requires read-requires mark-count-requires returns)

@@ -17,28 +17,32 @@ use borrow.Author.Needs.{needs}
 use Rattle.clip_information.proofs.read.read.Statement.{statement}
 use Rattle.clip_information.proofs.read.read.Tie as tie
 
-six-lengths-requires : tie.Need-six-lengths-requires
-six-lengths-requires c κs = search needs
+-- the states that are named below, each found in a later one
+abbrev start-of : tie.After-six-lengths → tie.Start
+start-of six = search
 
-nine-lengths-requires : tie.Need-nine-lengths-requires
-nine-lengths-requires c κs = search needs
+abbrev six-of : tie.After-prepare → tie.After-six-lengths
+six-of p = search
 
-prepare-requires : tie.Need-prepare-requires
-prepare-requires c κs = search needs
+abbrev prepared-of : tie.After-rows → tie.After-prepare
+prepared-of k = search
 
-enum-known-n : tie.Need-enum-known-n
-enum-known-n c = search needs
+abbrev ready-of : tie.After-fill-sections → tie.After-rows
+ready-of f = search
 
-enum-known-table : tie.Need-enum-known-table
-enum-known-table c = search needs
+abbrev sections-of : tie.After-read → tie.After-fill-sections
+sections-of r = search
 
-enum-known-rows : tie.Need-enum-known-rows
-enum-known-rows c = search needs
+abbrev starts-of : tie.After-fill → tie.After-read
+starts-of x = search
+
+abbrev extensions-of : tie.After-fill-list → tie.After-fill
+extensions-of l = search
 
 -- the file, the nine tables, and what was prepared for their lengths
 module _ (p : tie.After-prepare) where
   abbrev S : tie.Start
-  S = p .before .before .before .before .before .before .before .before .before .before .before .before .before .before .before .before .before .before .before .before .before .before
+  S = start-of (six-of p)
 
   abbrev F : List ℕ
   F = now (S .args .file)
@@ -49,54 +53,66 @@ module _ (p : tie.After-prepare) where
       nineTables (now (a .atcs)) (now (a .stcs)) (now (a .programs)) (now (a .streams)) (now (a .maps)) (now (a .entries)) (now (a .extensions)) (now (a .programs2)) (now (a .streams2))
 
   prepared : PreparedIs F (lengthsOf L) (p .prepare .result)
-  prepared = rw (p .before .nine-lengths .ensures, p .before .before .before .before .before .six-lengths .ensures) at (p .prepare .ensures)
+  prepared = let n : tie.After-nine-lengths = search in rw (n .nine-lengths .ensures, six-of p .six-lengths .ensures) at (p .prepare .ensures)
 
 -- all is ready
-module _ (k : tie.After-known-told3) where
+module _ (k : tie.After-rows) where
   abbrev P : tie.After-prepare
-  P = k .before .before .before
+  P = prepared-of k
 
-  ready : ReadyIs (F P) (lengthsOf (L P)) (k .before .rows .given .0 .0) (k .before .rows .given .0 .1 .0) (k .before .rows .given .0 .1 .1 .0)
-  ready = prepared-ready (F P) (L P) (prepared P) (k .before .rows .given .1)
+  ready : ReadyIs (F P) (lengthsOf (L P)) (k .rows .given .0 .0) (k .rows .given .0 .1 .0) (k .rows .given .0 .1 .1 .0)
+  ready = prepared-ready (F P) (L P) (prepared P) (k .rows .given .1)
 
 fill-sections-requires : tie.Need-fill-sections-requires
-fill-sections-requires c κs = let k = c .before .before .before .before .before .before in sections-fit (F (P k)) (L (P k)) (ready k)
+fill-sections-requires c κs = let k : tie.After-rows = search in sections-fit (F (P k)) (L (P k)) (ready k)
 
-u32-at-requires : tie.Need-u32-at-requires
-u32-at-requires c κs = let k = c .before .before .before .before .before .before .before .before .before .before .before .before .before .before .before .before .before .before .before in omega (arith, accepted-bounds (F (P k)) (ready k .accepts))
-
-cast-fill : tie.Need-cast-fill
-cast-fill c = search needs
+read-requires : tie.Need-read-requires
+read-requires c κs =
+    let f : tie.After-fill-sections = search in
+    let k = ready-of f in
+    omega (arith, accepted-bounds (F (P k)) (ready k .accepts))
 
 fill-requires : tie.Need-fill-requires
-fill-requires c κs = let k = c .before .before .before .before .before .before .before .before .before .before .before .before .before .before .before .before .before .before .before .before .before in extensions-fit (F (P k)) (L (P k)) (ready k) (c .before .u32-at .ensures .same)
+fill-requires c κs =
+    let r : tie.After-read = search in
+    let k = ready-of (sections-of r) in
+    extensions-fit (F (P k)) (L (P k)) (ready k) (r .read .ensures .extensions)
 
 fill-list-requires : tie.Need-fill-list-requires
-fill-list-requires c κs = let k = c .before .before .before .before .before .before .before .before .before .before .before .before .before .before .before .before .before .before .before .before .before .before .before .before .before .before in list-fits (F (P k)) (L (P k)) (ready k)
+fill-list-requires c κs =
+    let x : tie.After-fill = search in
+    let k = ready-of (sections-of (starts-of x)) in
+    list-fits (F (P k)) (L (P k)) (ready k)
 
 accepted-requires : tie.Need-accepted-requires
-accepted-requires c κs = ready (c .before .before .before .before .before .before .before .before .before .before .before .before .before .before .before .before .before .before .before .before .before .before .before .before .before .before .before .before .before .before .before) .accepts
+accepted-requires c κs =
+    let l : tie.After-fill-list = search in
+    ready (ready-of (sections-of (starts-of (extensions-of l)))) .accepts
 
 returns : tie.Need-returns
 returns c =
-    let p = c .before .before .before in
-    (prepared-answer (F p) (L p) (prepared p) (c .before .n .given .1), (refl, (refl, (refl, (refl, (refl, (refl, (refl, (refl, refl)))))))))
+    let p : tie.After-prepare = search in
+    let v : tie.After-n = search in
+    (prepared-answer (F p) (L p) (prepared p) (v .n .given .1), (refl, (refl, (refl, (refl, (refl, (refl, (refl, (refl, refl)))))))))
 
 returns-2 : tie.Need-returns-2
 returns-2 c =
-    let p = c .before .before .before in
-    (prepared-answer (F p) (L p) (prepared p) (c .before .table .given .1), (refl, (refl, (refl, (refl, (refl, (refl, (refl, (refl, refl)))))))))
+    let p : tie.After-prepare = search in
+    let v : tie.After-table = search in
+    (prepared-answer (F p) (L p) (prepared p) (v .table .given .1), (refl, (refl, (refl, (refl, (refl, (refl, (refl, (refl, refl)))))))))
 
 returns-3 : tie.Need-returns-3
 unfolding tablesOf recordOf
 returns-3 c =
-    let k = c .before .before .before .before .before .before .before .before .before .before .before .before .before .before .before .before .before .before .before .before .before .before .before .before .before .before .before .before .before .before .before .before in
+    let l : tie.After-fill-list = search in
+    let x = extensions-of l in
+    let r = starts-of x in
+    let f = sections-of r in
+    let k = ready-of f in
     let p = P k in
-    let s = c .before .before .before .before .before .before .before .before .before .before .before .before .before .before .before .before .before .before .before .before .before .before .before .before .before .fill-sections .ensures in
-    let x = c .before .before .before .before .before .before .before .before .before .before .fill .ensures in
-    let l = c .before .before .before .before .before .fill-list .ensures in
+    let s = f .fill-sections .ensures in
     rw (c .accepted .ensures) (
-      stated (F p) (L p) (ready k) ∙ prepared-answer (F p) (L p) (prepared p) (k .before .rows .given .1),
+      stated (F p) (L p) (ready k) ∙ prepared-answer (F p) (L p) (prepared p) (k .rows .given .1),
       (
         s .0,
         (
@@ -110,8 +126,8 @@ returns-3 c =
                 (
                   s .1 .1 .1 .1 .1,
                   (
-                    filled-from (extensionRows (F p)) (L p .extensions) (c .before .before .before .before .before .before .before .before .before .before .before .before .u32-at .ensures .same) x,
-                    (l .0, l .1),
+                    filled-from (extensionRows (F p)) (L p .extensions) (r .read .ensures .extensions) (x .fill .ensures),
+                    (l .fill-list .ensures .0, l .fill-list .ensures .1),
                   ),
                 ),
               ),
@@ -125,15 +141,14 @@ pub read-spec : {M : Type 1} → statement M
 read-spec =
     tie.close
     (tie.spec
-    six-lengths-requires
-    nine-lengths-requires
-    prepare-requires
-    enum-known-n
-    enum-known-table
-    enum-known-rows
+    (λ c κs. search needs)
+    (λ c κs. search needs)
+    (λ c κs. search needs)
+    (λ c. search needs)
+    (λ c. search needs)
+    (λ c. search needs)
     fill-sections-requires
-    u32-at-requires
-    cast-fill
+    read-requires
     fill-requires
     fill-list-requires
     accepted-requires
