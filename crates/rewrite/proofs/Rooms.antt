@@ -8,8 +8,11 @@ use Rattle.format.specs.Bytes.{IsBytes}
 use Rattle.format.specs.ClipRecord.{sequencesStart, programsStart, cpiStart}
 use Rattle.format.specs.EntryPoints.{mapsFrom, entriesFrom}
 use Rattle.format.specs.Reading.{clipOf}
-use Rattle.format.specs.Rewriting.{sequencesBytes, programsBytes, cpiBytes, cpiBytesBy}
+use Rattle.format.specs.Rewriting.{headBytes, sequencesBytes, programsBytes, cpiBytes, cpiBytesBy}
 use Rattle.format.specs.Refusals.{refusalOf, runsFit}
+use Rattle.clip_sections.specs.declared.info.ClipInfo.{ClipInfo}
+use Rattle.clip_sections.specs.Infos.{clipInfoOf}
+use Rattle.clip_information.specs.Read.{scalarsBy}
 use Rattle.clip_information.proofs.FillLaws.{sound, cpi-section}
 use Rattle.rewrite_sections.specs.Sections.{newSequences, newPrograms, SequencesRoom, ProgramsRoom}
 use Rattle.rewrite_sections.proofs.Groups.{sequences-of, programs-of}
@@ -74,6 +77,11 @@ module _ (f : List ℕ) where
         })
 
   -- ---- the sections as parts of the new file
+
+  -- the new head is that of the file's own scalars
+  pub head-in : {i : ClipInfo} (programs cpi marks : ℕ) → i ≡ clipInfoOf f → headBytes (scalarsBy i) programs cpi marks ≡ headBytes (clipOf f .scalars) programs cpi marks
+  unfolding clipOf
+  head-in programs cpi marks e = ap (λ i. headBytes (scalarsBy i) programs cpi marks) e
 
   -- the new sequences are those that writing gives for the record of the file
   pub sequences-in : {start : ℕ} → start ≡ sequencesStart f → newSequences f start ≡ sequencesBytes (clipOf f)

@@ -2,16 +2,16 @@
 use Prim.Native.Nat.{ℕ, _+_, _*_, _≤_}
 use mathlib.Core.Path.{_≡_, sym, _∙_}
 use mathlib.Core.List.{List}
+use mathlib.Core.Bool.{true}
 use native.Mathlib.Omega.{arith}
 use denote.Ref.{now}
 use lib.ListN.{length}
 use Rattle.format.specs.Bytes.{IsBytes}
 use Rattle.format.specs.ClipRecord.{Clip}
 use Rattle.format.specs.Reading.{clipOf}
-use Rattle.format.specs.Rewriting.{sequencesBytes, cpiBytes}
+use Rattle.format.specs.Rewriting.{sequencesBytes, programsBytes, cpiBytes}
 use Rattle.format.specs.Refusals.{runsFit}
-use mathlib.Core.Bool.{true}
-use Rattle.encode_measure.specs.Places.{marksPlace}
+use Rattle.encode_measure.specs.Places.{programsPlace, cpiPlace, marksPlace}
 use Rattle.rewrite.specs.Rewrite.{rewriteRefusal}
 use Rattle.clip_sections.proofs.Laws.{SectionsAre, sections-are, accepted-bounds}
 use Rattle.clip_information.proofs.FillLaws.{sound, cpi-section}
@@ -22,128 +22,128 @@ use borrow.Author.Needs.{needs}
 use Rattle.rewrite.proofs.measure.plan.Statement.{statement}
 use Rattle.rewrite.proofs.measure.plan.Tie as tie
 
-measure-requires : tie.Need-measure-requires
-measure-requires c κs = search needs
+-- the sections were counted
+module _ (k : tie.After-atcs) where
+  abbrev S : tie.Start
+  S = search
 
-enum-known-n : tie.Need-enum-known-n
-enum-known-n c = search needs
-
-enum-known-atcs : tie.Need-enum-known-atcs
-enum-known-atcs c = search needs
-
--- the sections were measured
-module _ (k : tie.After-known-told2) where
   abbrev F : List ℕ
-  F = now (k .before .before .before .before .before .args .file)
+  F = now (S .args .file)
+
+  abbrev C : Clip
+  C = clipOf F
 
   is-bytes : IsBytes F
-  is-bytes i = k .before .before .before .before .shared-slice-known .given i .fits
+  is-bytes i = let n : tie.After-shared-slice-known = search in n .shared-slice-known .given i .fits
 
-  sections : SectionsAre F (k .before .atcs .given .0 .0) (k .before .atcs .given .0 .1 .0) (k .before .atcs .given .0 .1 .1 .0) (k .before .atcs .given .0 .1 .1 .1 .0) (k .before .atcs .given .0 .1 .1 .1 .1 .0) (k .before .atcs .given .0 .1 .1 .1 .1 .1 .0)
-  sections = sections-are F _ _ _ _ _ _ (sym (k .before .before .before .measure .ensures) ∙ k .before .atcs .given .1)
+  sections : SectionsAre F (k .atcs .given .0 .0) (k .atcs .given .0 .1 .0) (k .atcs .given .0 .1 .1 .0) (k .atcs .given .0 .1 .1 .1 .0) (k .atcs .given .0 .1 .1 .1 .1 .0) (k .atcs .given .0 .1 .1 .1 .1 .1 .0)
+  sections = let m : tie.After-measure = search in sections-are F _ _ _ _ _ _ (sym (m .measure .ensures) ∙ k .atcs .given .1)
 
-  long : 194 ≤ length F
-  long = accepted-bounds F (sections .accepts) .1
+  -- the programs stand behind the sequences
+  programs-at : 226 + 6 * (k .atcs .given .0 .0) + 14 * (k .atcs .given .0 .1 .0) ≡ programsPlace C
+  programs-at = omega (arith, sequences-size F is-bytes (sections .accepts) (sections .atcs-are) (sections .stcs-are), place-programs C)
 
-  size : 6 + 6 * (k .before .atcs .given .0 .0) + 14 * (k .before .atcs .given .0 .1 .0) ≡ length (sequencesBytes (clipOf F))
-  size = sequences-size F is-bytes (sections .accepts) (sections .atcs-are) (sections .stcs-are)
-
--- and no map has too many runs
-module _ (k : tie.After-known-told3) where
-  abbrev C : Clip
-  C = clipOf (F (k .before .before .before .before .before))
-
-  few : (runsFit C ≡ true) × (k .before .len .given .0 .0 ≡ length (cpiBytes C))
-  few = runs-pass (F (k .before .before .before .before .before)) (k .before .before .before .before .u32-at .ensures .same) (k .before .before .before .cpi-length .ensures) (k .before .len .given .1)
-
-  none-here : rewriteRefusal (F (k .before .before .before .before .before)) ≡ 0
-  none-here = none (F (k .before .before .before .before .before)) (sections (k .before .before .before .before .before) .accepts) (few .0)
-
-  short : marksPlace C + 6 ≤ 402515706
-  short = marks-short (F (k .before .before .before .before .before)) (is-bytes (k .before .before .before .before .before)) none-here
-
-u32-at-requires : tie.Need-u32-at-requires
-u32-at-requires c κs = omega (arith, long c)
-
-cast-cpi-length : tie.Need-cast-cpi-length
-cast-cpi-length c = search needs
+read-requires : tie.Need-read-requires
+read-requires c κs = let k : tie.After-atcs = search in omega (arith, accepted-bounds (F k) (sections k .accepts))
 
 cpi-length-requires : tie.Need-cpi-length-requires
-cpi-length-requires c κs = let k = c .before in cpi-section (F k) (sections k .accepts) (c .u32-at .ensures .same) (sections k .maps-are)
-
-enum-known-len : tie.Need-enum-known-len
-enum-known-len c = search needs
-
-enum-told : tie.Need-enum-told
-enum-told c = search needs
+cpi-length-requires c κs =
+    let k : tie.After-atcs = search in
+    let r : tie.After-read = search in
+    cpi-section (F k) (sections k .accepts) (r .read .ensures .cpi) (sections k .maps-are)
 
 returns : tie.Need-returns
-returns c = let k = c .before .before .before .before in runs-refuse (F k) (sections k .accepts) (c .before .before .before .u32-at .ensures .same) (c .before .before .cpi-length .ensures) (c .enum-told .given .1)
+returns c =
+    let k : tie.After-atcs = search in
+    let r : tie.After-read = search in
+    let l : tie.After-cpi-length = search in
+    runs-refuse (F k) (sections k .accepts) (r .read .ensures .cpi) (l .cpi-length .ensures) (c .enum-told .given .1)
+
+-- no map has too many runs
+module _ (m : tie.After-len) where
+  abbrev K : tie.After-atcs
+  K = search
+
+  few : (runsFit (C K) ≡ true) × (m .len .given .0 .0 ≡ length (cpiBytes (C K)))
+  few =
+      let r : tie.After-read = search in
+      let l : tie.After-cpi-length = search in
+      runs-pass (F K) (r .read .ensures .cpi) (l .cpi-length .ensures) (m .len .given .1)
+
+  none-here : rewriteRefusal (F K) ≡ 0
+  none-here = none (F K) (sections K .accepts) (few .0)
+
+  -- the new file is short, so every place in it is
+  short : programsPlace (C K) + length (programsBytes (C K)) + m .len .given .0 .0 + 6 ≤ 402515706
+  short = omega (arith, few .1, marks-short (F K) (is-bytes K) none-here, place-cpi (C K), place-marks (C K))
+
+-- what stands before the CPI fits
+sums : (m : tie.After-len) → 226 + 6 * (K m .atcs .given .0 .0) + 14 * (K m .atcs .given .0 .1 .0) ≤ 402515706
+sums m = omega (arith, short m, programs-at (K m))
 
 mul-programs-at : tie.Need-mul-programs-at
-mul-programs-at c = record { fits = omega (arith, short c, size (c .before .before .before .before .before), place-programs (C c), place-cpi (C c), place-marks (C c)) }
+mul-programs-at c = let m : tie.After-len = search in record { fits = omega (arith, sums m) }
 
 add-programs-at : tie.Need-add-programs-at
-add-programs-at c = record { fits = omega (arith, short c, size (c .before .before .before .before .before), place-programs (C c), place-cpi (C c), place-marks (C c)) }
+add-programs-at c = let m : tie.After-len = search in record { fits = omega (arith, sums m) }
 
 mul-programs-at-2 : tie.Need-mul-programs-at-2
-mul-programs-at-2 c = record { fits = omega (arith, short c, size (c .before .before .before .before .before), place-programs (C c), place-cpi (C c), place-marks (C c)) }
+mul-programs-at-2 c = let m : tie.After-len = search in record { fits = omega (arith, sums m) }
 
 add-programs-at-2 : tie.Need-add-programs-at-2
-add-programs-at-2 c = record { fits = omega (arith, short c, size (c .before .before .before .before .before), place-programs (C c), place-cpi (C c), place-marks (C c)) }
-
-u32-at-requires-2 : tie.Need-u32-at-requires-2
-u32-at-requires-2 c κs = omega (arith, long (c .before .before .before .before .before))
-
-cast-programs-length : tie.Need-cast-programs-length
-cast-programs-length c = search needs
+add-programs-at-2 c = let m : tie.After-len = search in record { fits = omega (arith, sums m) }
 
 programs-length-requires : tie.Need-programs-length-requires
-programs-length-requires c κs = let k = c .before .before .before .before .before .before in rw (c .u32-at2 .ensures .same) (sound (F k) (sections k .accepts) .programs-in)
+programs-length-requires c κs =
+    let k : tie.After-atcs = search in
+    let r : tie.After-read = search in
+    rw (r .read .ensures .programs) (sound (F k) (sections k .accepts) .programs-in)
+
+-- the new programs were measured
+module _ (p : tie.After-programs-length) where
+  abbrev M : tie.After-len
+  M = search
+
+  own : p .programs-length .result ≡ length (programsBytes (C (K M)))
+  own = let r : tie.After-read = search in programs-size (F (K M)) (r .read .ensures .programs) (p .programs-length .ensures)
 
 add-cpi-at : tie.Need-add-cpi-at
-add-cpi-at c =
-    let k = c .before .before in
-    let own = programs-size (F (k .before .before .before .before .before)) (c .before .u32-at2 .ensures .same) (c .programs-length .ensures) in
-    record { fits = omega (arith, short k, size (k .before .before .before .before .before), own, few k .1, place-programs (C k), place-cpi (C k), place-marks (C k)) }
+add-cpi-at c = let p : tie.After-programs-length = search in record { fits = omega (arith, short (M p), programs-at (K (M p)), own p) }
 
 add-t15 : tie.Need-add-t15
-add-t15 c =
-    let k = c .before .before in
-    let own = programs-size (F (k .before .before .before .before .before)) (c .before .u32-at2 .ensures .same) (c .programs-length .ensures) in
-    record { fits = omega (arith, short k, size (k .before .before .before .before .before), own, few k .1, place-programs (C k), place-cpi (C k), place-marks (C k)) }
+add-t15 c = let p : tie.After-programs-length = search in record { fits = omega (arith, short (M p), programs-at (K (M p)), own p) }
 
 returns-2 : tie.Need-returns-2
-returns-2 c = reading-refuses (now (c .before .before .before .before .before .args .file)) (sym (c .before .before .before .measure .ensures) ∙ c .before .n .given .1)
+returns-2 c =
+    let s : tie.Start = search in
+    let m : tie.After-measure = search in
+    let v : tie.After-n = search in
+    reading-refuses (now (s .args .file)) (sym (m .measure .ensures) ∙ v .n .given .1)
 
 returns-3 : tie.Need-returns-3
 returns-3 c =
-    let k = c .before .before in
-    let j = k .before .before .before .before .before in
-    let own = programs-size (F j) (c .before .u32-at2 .ensures .same) (c .programs-length .ensures) in
-    let at = sections j in
-    planned-by (F j) (none-here k) (at .atcs-are) (at .stcs-are) (at .maps-are) (omega (arith, size j, place-programs (C k))) (omega (arith, size j, own, place-programs (C k), place-cpi (C k)))
-    (omega (arith, size j, own, few k .1, place-programs (C k), place-cpi (C k), place-marks (C k)))
+    let p : tie.After-programs-length = search in
+    let m = M p in
+    let k = K m in
+    let at = sections k in
+    planned-by (F k) (none-here m) (at .atcs-are) (at .stcs-are) (at .maps-are) (programs-at k) (omega (arith, programs-at k, own p, place-cpi (C k))) (omega (arith, programs-at k, own p, few m .1, place-cpi (C k), place-marks (C k)))
 
 pub plan-spec : {M : Type 1} → statement M
 plan-spec =
     tie.close
     (tie.spec
-    measure-requires
-    enum-known-n
-    enum-known-atcs
-    u32-at-requires
-    cast-cpi-length
+    (λ c κs. search needs)
+    (λ c. search needs)
+    (λ c. search needs)
+    read-requires
     cpi-length-requires
-    enum-known-len
-    enum-told
+    (λ c. search needs)
+    (λ c. search needs)
     returns
     mul-programs-at
     add-programs-at
     mul-programs-at-2
     add-programs-at-2
-    u32-at-requires-2
-    cast-programs-length
     programs-length-requires
     add-cpi-at
     add-t15

@@ -1,38 +1,40 @@
 -- The plan's refusal, or the place behind its last section.
-use Prim.Native.Nat.{_+_}
+use Prim.Native.Nat.{ℕ, _+_}
+use mathlib.Core.List.{List}
 use native.Mathlib.Omega.{arith}
 use denote.Ref.{now}
+use Rattle.rewrite.specs.Rewrite.{Ready}
 use Rattle.rewrite.proofs.Refusals.{refusal-told, ready-told, marks-short, length-refuses, length-tells}
 use borrow.Author.Needs.{needs}
 use Rattle.rewrite.proofs.rewrite.rewritten_length.Statement.{statement}
 use Rattle.rewrite.proofs.rewrite.rewritten_length.Tie as tie
 
-plan-requires : tie.Need-plan-requires
-plan-requires c κs = search needs
+-- counts and places were told
+module _ (k : tie.After-marks) where
+  abbrev S : tie.Start
+  S = search
 
-enum-known-n : tie.Need-enum-known-n
-enum-known-n c = search needs
+  abbrev F : List ℕ
+  F = now (S .args .file)
 
-enum-known-marks : tie.Need-enum-known-marks
-enum-known-marks c = search needs
+  ready : Ready F (k .marks .given .0 .0) (k .marks .given .0 .1 .0) (k .marks .given .0 .1 .1 .0) (k .marks .given .0 .1 .1 .1 .0) (k .marks .given .0 .1 .1 .1 .1 .0) (k .marks .given .0 .1 .1 .1 .1 .1 .0) (k .marks .given .0 .1 .1 .1 .1 .1 .0 + 6)
+  ready = let p : tie.After-plan = search in ready-told F (p .plan .ensures) _ (k .marks .given .1) (omega arith)
 
 add-t6 : tie.Need-add-t6
 add-t6 c =
-    let f = now (c .before .before .before .before .before .args .file) in
-    let g = c .before .marks .given in
-    let r = ready-told f (c .before .before .before .plan .ensures) (g .0 .1 .1 .1 .1 .1 .0 + 6) (g .1) (omega arith) in
-    record { fits = omega (arith, r .placed .marks-at, marks-short f (λ i. c .before .before .before .before .shared-slice-known .given i .fits) (r .rewritable)) }
+    let k : tie.After-marks = search in
+    let n : tie.After-shared-slice-known = search in
+    record { fits = omega (arith, ready k .placed .marks-at, marks-short (F k) (λ i. n .shared-slice-known .given i .fits) (ready k .rewritable)) }
 
 returns : tie.Need-returns
-returns c = let f = now (c .before .before .before .before .before .args .file) in length-refuses f (refusal-told f (c .before .before .before .plan .ensures) (c .before .n .given .1))
+returns c =
+    let s : tie.Start = search in
+    let p : tie.After-plan = search in
+    let v : tie.After-n = search in
+    length-refuses (now (s .args .file)) (refusal-told (now (s .args .file)) (p .plan .ensures) (v .n .given .1))
 
 returns-2 : tie.Need-returns-2
-returns-2 c =
-    let f = now (c .before .before .before .before .before .args .file) in
-    let g = c .before .marks .given in
-    let r = ready-told f (c .before .before .before .plan .ensures) (g .0 .1 .1 .1 .1 .1 .0 + 6) (g .1) (omega arith) in
-    length-tells f (r .rewritable) (r .placed .marks-at)
+returns-2 c = let k : tie.After-marks = search in length-tells (F k) (ready k .rewritable) (ready k .placed .marks-at)
 
 pub rewritten-length-spec : {M : Type 1} → statement M
-rewritten-length-spec =
-    tie.close (tie.spec plan-requires enum-known-n enum-known-marks add-t6 returns returns-2)
+rewritten-length-spec = tie.close (tie.spec (λ c κs. search needs) (λ c. search needs) (λ c. search needs) add-t6 returns returns-2)
