@@ -29,20 +29,8 @@ pub(crate) fn fill_sections(
     ensures { λ _. ⌜ now (entries .exit) ≡ overwritten (tableBytes (clipOf (now (file .entry)) .entries)) (now (entries .entry)) ⌝ }
 {
     let starts = Starts::read(file);
-    info_sections::fill(
-        Section::Sequences,
-        file,
-        starts.sequences,
-        atcs,
-        stcs,
-    );
-    info_sections::fill(
-        Section::Programs,
-        file,
-        starts.programs,
-        programs,
-        streams,
-    );
+    info_sections::fill(Section::Sequences, file, starts.sequences, atcs, stcs);
+    info_sections::fill(Section::Programs, file, starts.programs, programs, streams);
     cpi_fill::fill(file, starts.cpi, count, maps, entries);
 }
 

@@ -71,14 +71,7 @@ fn put_sections(
         out,
         programs_at,
     );
-    put_cpi(
-        file,
-        starts.cpi,
-        maps,
-        marks_at - cpi_at,
-        out,
-        cpi_at,
-    );
+    put_cpi(file, starts.cpi, maps, marks_at - cpi_at, out, cpi_at);
     put_marks(out, marks_at);
 }
 

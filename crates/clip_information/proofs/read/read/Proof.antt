@@ -17,6 +17,9 @@ use borrow.Author.Needs.{needs}
 use Rattle.clip_information.proofs.read.read.Statement.{statement}
 use Rattle.clip_information.proofs.read.read.Tie as tie
 
+enum-known-n : tie.Need-enum-known-n
+enum-known-n c = search needs
+
 -- the states that are named below, each found in a later one
 abbrev start-of : tie.After-six-lengths → tie.Start
 start-of six = search
@@ -144,7 +147,7 @@ read-spec =
     (λ c κs. search needs)
     (λ c κs. search needs)
     (λ c κs. search needs)
-    (λ c. search needs)
+    enum-known-n
     (λ c. search needs)
     (λ c. search needs)
     fill-sections-requires

@@ -46,6 +46,9 @@ returns-4 c = let k : tie.After-enum-told3 = search in under-40 (F (P k)) (most 
 returns-5 : tie.Need-returns-5
 returns-5 c = let k : tie.After-enum-told3 = search in under-194 (F (P k)) (most (P k)) _ (is-clip k) (omega arith) (c .if3 .taken)
 
+sub-if4 : tie.Need-sub-if4
+sub-if4 c = search needs
+
 returns-6 : tie.Need-returns-6
 returns-6 c =
     let k : tie.After-enum-told3 = search in
@@ -71,7 +74,7 @@ front-spec =
     (λ c. search needs)
     returns-4
     returns-5
-    (λ c. search needs)
+    sub-if4
     (λ c κs. search needs)
     (λ c. search needs)
     returns-6

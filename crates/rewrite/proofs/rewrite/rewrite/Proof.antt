@@ -13,6 +13,9 @@ use borrow.Author.Needs.{needs}
 use Rattle.rewrite.proofs.rewrite.rewrite.Statement.{statement}
 use Rattle.rewrite.proofs.rewrite.rewrite.Tie as tie
 
+enum-known-n : tie.Need-enum-known-n
+enum-known-n c = search needs
+
 -- counts and places were told
 module _ (k : tie.After-atcs) where
   abbrev S : tie.Start
@@ -40,13 +43,12 @@ unfolding rewriteAnswer
 returns c =
     let k : tie.After-atcs = search in
     let r = ready k (k .atcs .given .0 .1 .1 .1 .1 .1 .0 + 6) (omega arith) in
-    (answer-short (rewriteRefusal (F k)) (clipOf (F k)) (O k) (r .rewritable) (r .placed .marks-at) (c .if1 .taken), refl)
+    (answer-short (rewriteRefusal (F k)) (clipOf (F k)) (O k) (r .rewritable) (r .placed .marks-at) (omega arith), refl)
 
 put-sections-requires : tie.Need-put-sections-requires
 put-sections-requires c κs =
     let k : tie.After-atcs = search in
-    let room : tie.Else1 = search in
-    ready k (length (O k)) (room .if1 .left)
+    ready k (length (O k)) (omega arith)
 
 returns-2 : tie.Need-returns-2
 unfolding rewriteAnswer
@@ -61,17 +63,16 @@ returns-3 : tie.Need-returns-3
 unfolding rewriteAnswer
 returns-3 c =
     let k : tie.After-atcs = search in
-    let room : tie.Else1 = search in
     let stored : tie.After-put-sections = search in
-    let r = ready k (length (O k)) (room .if1 .left) in
-    (answer-written (rewriteRefusal (F k)) (clipOf (F k)) (O k) (r .rewritable) (r .placed .marks-at) (room .if1 .left), output-written (rewriteRefusal (F k)) (clipOf (F k)) (O k) (r .placed .marks-at) (room .if1 .left) (stored .put-sections .ensures))
+    let r = ready k (length (O k)) (omega arith) in
+    (answer-written (rewriteRefusal (F k)) (clipOf (F k)) (O k) (r .rewritable) (r .placed .marks-at) (r .placed .room), output-written (rewriteRefusal (F k)) (clipOf (F k)) (O k) (r .placed .marks-at) (r .placed .room) (stored .put-sections .ensures))
 
 pub rewrite-spec : {M : Type 1} → statement M
 rewrite-spec =
     tie.close
     (tie.spec
     (λ c κs. search needs)
-    (λ c. search needs)
+    enum-known-n
     (λ c. search needs)
     add-len
     returns
