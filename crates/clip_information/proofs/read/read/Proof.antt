@@ -42,6 +42,10 @@ starts-of x = search
 abbrev extensions-of : tie.After-fill-list → tie.After-fill
 extensions-of l = search
 
+-- tables 1 to 6 were filled
+abbrev filled-of : tie.After-fill-list → tie.After-fill-sections
+filled-of l = sections-of (starts-of (extensions-of l))
+
 -- the file, the nine tables, and what was prepared for their lengths
 module _ (p : tie.After-prepare) where
   abbrev S : tie.Start
@@ -90,7 +94,7 @@ fill-list-requires c κs =
 accepted-requires : tie.Need-accepted-requires
 accepted-requires c κs =
     let l : tie.After-fill-list = search in
-    ready (ready-of (sections-of (starts-of (extensions-of l)))) .accepts
+    ready (ready-of (filled-of l)) .accepts
 
 returns : tie.Need-returns
 returns c =
@@ -175,13 +179,13 @@ read-spec =
     (λ c. search needs)
     (λ c. search needs)
     returns-2
-    (λ c. search needs)
-    (λ c. search needs)
-    (λ c. search needs)
-    (λ c. search needs)
-    (λ c. search needs)
-    (λ c. search needs)
-    (λ c. search needs)
-    (λ c. search needs)
-    (λ c. search needs)
+    (λ c. let l : tie.After-fill-list = search in let f = filled-of l in search needs)
+    (λ c. let l : tie.After-fill-list = search in let f = filled-of l in search needs)
+    (λ c. let l : tie.After-fill-list = search in let f = filled-of l in search needs)
+    (λ c. let l : tie.After-fill-list = search in let f = filled-of l in search needs)
+    (λ c. let l : tie.After-fill-list = search in let f = filled-of l in search needs)
+    (λ c. let l : tie.After-fill-list = search in let f = filled-of l in search needs)
+    (λ c. let l : tie.After-fill-list = search in let x = extensions-of l in search needs)
+    (λ c. let l : tie.After-fill-list = search in search needs)
+    (λ c. let l : tie.After-fill-list = search in search needs)
     returns-3)
