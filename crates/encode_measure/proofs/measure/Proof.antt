@@ -4,6 +4,7 @@ use mathlib.Core.Path.{_≡_, refl, sym, _∙_}
 use native.Mathlib.Omega.{arith}
 use denote.Ref.{now}
 use lib.ListN.{length}
+use Rattle.format.specs.ClipRecord.{Clip}
 use Rattle.format.specs.Tables.{ClipTables, clipIn}
 use Rattle.format.specs.Refusals.{cellsFit, runsFit}
 use Rattle.format.specs.Rewriting.{cpiBytes}
@@ -17,146 +18,158 @@ use borrow.Author.Needs.{needs}
 use Rattle.encode_measure.proofs.measure.Statement.{statement}
 use Rattle.encode_measure.proofs.measure.Tie as tie
 
--- the tables that are handed over, from the first test on
-abbrev tables : tie.After-counts-add → ClipTables
-tables c =
-    let a = c .before .before .before .before .before .before .before .args in
+-- the states that are named below, each found in a later one
+abbrev start-of : tie.Else1 → tie.Start
+start-of e = search
+
+abbrev counted-of : tie.Else2 → tie.Else1
+counted-of e = search
+
+abbrev fields-of : tie.After-length → tie.Else2
+fields-of t = search
+
+abbrev told-of : tie.After-length2 → tie.After-length
+told-of b = search
+
+-- the tables that are handed over
+abbrev tables : tie.Start → ClipTables
+tables s =
+    let a = s .args in
     statedTables (scalarsBy (a .info)) (a .rows) (now (a .atcs)) (now (a .stcs)) (now (a .programs)) (now (a .streams)) (now (a .maps)) (now (a .entries))
 
 -- the counts add up
-counted : (c : tie.Else1) → pairsCounted (tables (c .before)) ≡ true
-counted c = counted-by (tables (c .before)) (c .before .counts-add .ensures) (c .if1 .left)
+counted : (e : tie.Else1) → pairsCounted (tables (start-of e)) ≡ true
+counted e =
+    let a : tie.After-counts-add = search in
+    counted-by (tables (start-of e)) (a .counts-add .ensures) (e .if1 .left)
 
 -- every cell but those of the entries fits
-fields : (c : tie.Else2) → fieldsOf (tables (c .before .before .before)) ≡ true
-fields c = fields-by (tables (c .before .before .before)) (c .before .fields-fit .ensures) (c .if2 .left)
+fields : (e : tie.Else2) → fieldsOf (tables (start-of (counted-of e))) ≡ true
+fields e =
+    let f : tie.After-fields-fit = search in
+    fields-by (tables (start-of (counted-of e))) (f .fields-fit .ensures) (e .if2 .left)
 
-module _ (c : tie.After-length) where
-  -- the test of the other cells, from where the entries fit
-  abbrev earlier : tie.Else2
-  earlier = c .before .before .before
+-- the entries fit
+module _ (t : tie.After-length) where
+  -- where the counts add up
+  abbrev added : tie.Else1
+  added = counted-of (fields-of t)
 
   -- the tables
   abbrev handed : ClipTables
-  handed = tables (earlier .before .before .before)
+  handed = tables (start-of added)
 
   -- all fit, and the length is told
-  fit : (cellsFit (clipIn handed) ≡ true) × (c .length .given .0 .0 ≡ lengthIn handed)
-  fit = entries-fit handed (fields earlier) (sym (c .before .before .cpi-length .ensures) ∙ c .length .given .1)
+  fit : (cellsFit (clipIn handed) ≡ true) × (t .length .given .0 .0 ≡ lengthIn handed)
+  fit =
+      let p : tie.After-cpi-length = search in
+      entries-fit handed (fields (fields-of t)) (sym (p .cpi-length .ensures) ∙ t .length .given .1)
 
-module _ (c : tie.After-length2) where
-  -- the length as it is told, from where no map has too many runs
-  abbrev told : tie.After-length
-  told = c .before .before .before
-
+-- no map has too many runs
+module _ (b : tie.After-length2) where
   -- the tables, which can be written
   abbrev writable : ClipTables
-  writable = handed told
+  writable = handed (told-of b)
+
+  -- their record
+  abbrev clip : Clip
+  clip = clipIn writable
 
   -- no map has too many runs, and the section's bytes are told
-  few : (runsFit (clipIn writable) ≡ true) × (c .length2 .given .0 .0 ≡ length (cpiBytes (clipIn writable)))
-  few = runs-few writable (sym (fit told .1) ∙ c .length2 .given .1)
+  few : (runsFit clip ≡ true) × (b .length2 .given .0 .0 ≡ length (cpiBytes clip))
+  few = runs-few writable (sym (fit (told-of b) .1) ∙ b .length2 .given .1)
 
   -- nothing is refused
   none : refusalIn writable ≡ 0
-  none = none-refused writable (record { counted = counted (earlier told .before .before); fit = fit told .0; runs-fit = few .0 })
-
-counts-add-requires : tie.Need-counts-add-requires
-counts-add-requires c κs = search needs
+  none = none-refused writable (record { counted = counted (added (told-of b)); fit = fit (told-of b) .0; runs-fit = few .0 })
 
 returns : tie.Need-returns
 returns c =
-    let l = tables (c .before) in
-    refused-by (refusalIn l) (clipIn l) 22 refl (refused-22 l (c .before .counts-add .ensures) (c .if1 .taken))
+    let s : tie.Start = search in
+    let a : tie.After-counts-add = search in
+    refused-by (refusalIn (tables s)) (clipIn (tables s)) 22 refl (refused-22 (tables s) (a .counts-add .ensures) (c .if1 .taken))
 
 fields-fit-requires : tie.Need-fields-fit-requires
-fields-fit-requires c κs = fields-there (tables (c .before)) (counted c)
+fields-fit-requires c κs = let e : tie.Else1 = search in fields-there (tables (start-of e)) (counted e)
 
 returns-2 : tie.Need-returns-2
 returns-2 c =
-    let l = tables (c .before .before .before) in
-    refused-by (refusalIn l) (clipIn l) 30 refl (fields-refused l (counted (c .before .before)) (c .before .fields-fit .ensures) (c .if2 .taken))
+    let e : tie.Else1 = search in
+    let f : tie.After-fields-fit = search in
+    let l = tables (start-of e) in
+    refused-by (refusalIn l) (clipIn l) 30 refl (fields-refused l (counted e) (f .fields-fit .ensures) (c .if2 .taken))
 
 cpi-length-requires : tie.Need-cpi-length-requires
 cpi-length-requires c κs =
-    let l = tables (c .before .before .before) in
-    (cpi-there l (counted (c .before .before)), cpi-counted l (counted (c .before .before)) (fields c))
-
-enum-known-length : tie.Need-enum-known-length
-enum-known-length c = search needs
-
-enum-told : tie.Need-enum-told
-enum-told c = search needs
+    let f : tie.Else2 = search in
+    let e = counted-of f in
+    let l = tables (start-of e) in
+    (cpi-there l (counted e), cpi-counted l (counted e) (fields f))
 
 returns-3 : tie.Need-returns-3
 returns-3 c =
-    let e = c .before .before .before in
-    let l = tables (e .before .before .before) in
-    refused-by (refusalIn l) (clipIn l) 30 refl (entries-refused l (counted (e .before .before)) (sym (c .before .before .cpi-length .ensures) ∙ c .enum-told .given .1))
-
-enum-known-length-2 : tie.Need-enum-known-length-2
-enum-known-length-2 c = search needs
-
-enum-told-2 : tie.Need-enum-told-2
-enum-told-2 c = search needs
+    let e : tie.Else1 = search in
+    let p : tie.After-cpi-length = search in
+    let l = tables (start-of e) in
+    refused-by (refusalIn l) (clipIn l) 30 refl (entries-refused l (counted e) (sym (p .cpi-length .ensures) ∙ c .enum-told .given .1))
 
 returns-4 : tie.Need-returns-4
 returns-4 c =
-    let t = c .before .before .before in
+    let t : tie.After-length = search in
     let l = handed t in
-    refused-by (refusalIn l) (clipIn l) 31 refl (runs-refused l (counted (earlier t .before .before)) (fit t .0) (sym (fit t .1) ∙ c .enum-told2 .given .1))
+    refused-by (refusalIn l) (clipIn l) 31 refl (runs-refused l (counted (added t)) (fit t .0) (sym (fit t .1) ∙ c .enum-told2 .given .1))
 
 section-length-requires : tie.Need-section-length-requires
-section-length-requires c κs = sequences-counted (writable (c .before)) (counted (earlier (told (c .before)) .before .before))
+section-length-requires c κs = let b : tie.After-length2 = search in sequences-counted (writable b) (counted (added (told-of b)))
 
 add-programs-at : tie.Need-add-programs-at
 add-programs-at c =
-    let t = c .before .before in
-    let l = writable t in
-    let c₀ = clipIn l in
-    record { fits = omega (arith, marks-bound l (none t), sequences-long l (c .section-length .ensures), place-programs c₀, place-cpi c₀, place-marks c₀) }
+    let b : tie.After-length2 = search in
+    let q : tie.After-section-length = search in
+    record { fits = omega (arith, marks-bound (writable b) (none b), sequences-long (writable b) (q .section-length .ensures), place-programs (clip b), place-cpi (clip b), place-marks (clip b)) }
 
 section-length-requires-2 : tie.Need-section-length-requires-2
-section-length-requires-2 c κs = let t = c .before .before in programs-counted (writable t) (counted (earlier (told t) .before .before))
+section-length-requires-2 c κs = let b : tie.After-length2 = search in programs-counted (writable b) (counted (added (told-of b)))
 
 add-cpi-at : tie.Need-add-cpi-at
 add-cpi-at c =
-    let t = c .before .before .before in
-    let l = writable t in
-    let c₀ = clipIn l in
-    record { fits = omega (arith, marks-bound l (none t), sequences-long l (c .before .section-length .ensures), programs-long l (c .section-length2 .ensures), place-programs c₀, place-cpi c₀, place-marks c₀) }
+    let b : tie.After-length2 = search in
+    let q : tie.After-section-length = search in
+    let p : tie.After-section-length2 = search in
+    record { fits = omega (arith, marks-bound (writable b) (none b), sequences-long (writable b) (q .section-length .ensures), programs-long (writable b) (p .section-length2 .ensures), place-programs (clip b), place-cpi (clip b), place-marks (clip b)) }
 
 add-marks-at : tie.Need-add-marks-at
 add-marks-at c =
-    let t = c .before .before .before in
-    let l = writable t in
-    let c₀ = clipIn l in
-    record { fits = omega (arith, marks-bound l (none t), few t .1, sequences-long l (c .before .section-length .ensures), programs-long l (c .section-length2 .ensures), place-programs c₀, place-cpi c₀, place-marks c₀) }
+    let b : tie.After-length2 = search in
+    let q : tie.After-section-length = search in
+    let p : tie.After-section-length2 = search in
+    record { fits = omega (arith, marks-bound (writable b) (none b), few b .1, sequences-long (writable b) (q .section-length .ensures), programs-long (writable b) (p .section-length2 .ensures), place-programs (clip b), place-cpi (clip b), place-marks (clip b)) }
 
 returns-5 : tie.Need-returns-5
 returns-5 c =
-    let t = c .before .before .before in
-    let l = writable t in
-    let c₀ = clipIn l in
-    let first = sequences-long l (c .before .section-length .ensures) in
-    let second = programs-long l (c .section-length2 .ensures) in
-    let third = few t .1 in
-    places-by (refusalIn l) c₀ (none t) (omega (arith, first, place-programs c₀)) (omega (arith, first, second, place-programs c₀, place-cpi c₀)) (omega (arith, first, second, third, place-programs c₀, place-cpi c₀, place-marks c₀))
+    let b : tie.After-length2 = search in
+    let q : tie.After-section-length = search in
+    let p : tie.After-section-length2 = search in
+    let first = sequences-long (writable b) (q .section-length .ensures) in
+    let second = programs-long (writable b) (p .section-length2 .ensures) in
+    let third = few b .1 in
+    let c₀ = clip b in
+    places-by (refusalIn (writable b)) c₀ (none b) (omega (arith, first, place-programs c₀)) (omega (arith, first, second, place-programs c₀, place-cpi c₀)) (omega (arith, first, second, third, place-programs c₀, place-cpi c₀, place-marks c₀))
 
 pub measure-spec : {M : Type 1} → statement M
 measure-spec =
     tie.close
     (tie.spec
-    counts-add-requires
+    (λ c κs. search needs)
     returns
     fields-fit-requires
     returns-2
     cpi-length-requires
-    enum-known-length
-    enum-told
+    (λ c. search needs)
+    (λ c. search needs)
     returns-3
-    enum-known-length-2
-    enum-told-2
+    (λ c. search needs)
+    (λ c. search needs)
     returns-4
     section-length-requires
     add-programs-at
