@@ -24,48 +24,45 @@ Inv-loop file m table₀ at w₀ k₀ table w k =
 abbrev μ-loop : tie.MeasureT-loop
 μ-loop file m table₀ at w₀ k₀ table w k = m .«num_fine» - k
 
-start-requires : tie.Need-start-requires Inv-loop μ-loop
-start-requires c κs = search needs
-
 loop-holds : tie.Need-loop-holds Inv-loop μ-loop
 loop-holds c =
-    let a = c .before .before .before .args in
-    let f = now (a .file) in
-    let z : a .at + entrySize * 0 ≡ a .at = omega arith in
-    (omega arith, c .start .ensures, refl, rw (z, left-all f (a .m)))
-
-cast-reach : tie.Need-cast-reach Inv-loop μ-loop
-cast-reach c = search needs
-
-reach-requires : tie.Need-reach-requires Inv-loop μ-loop
-reach-requires c κs = search needs
-
-run-end-requires : tie.Need-run-end-requires Inv-loop μ-loop
-run-end-requires c κs = search needs
+    let s : tie.Start Inv-loop μ-loop = search in
+    let z : s .args .at + entrySize * 0 ≡ s .args .at = omega arith in
+    (omega arith, c .start .ensures, refl, rw (z, left-all (now (s .args .file)) (s .args .m)))
 
 put-run-requires : tie.Need-put-run-requires Inv-loop μ-loop
 put-run-requires c κs =
-    let s = c .before .before .before .before .before .before .before .before .before in
-    let l = c .before .before .before .before .before .loop in
-    let end = c .before .run-end .ensures in
+    let s : tie.Start Inv-loop μ-loop = search in
+    let l : tie.At-loop Inv-loop μ-loop = search in
+    let w : tie.After-reach Inv-loop μ-loop = search in
+    let e : tie.After-run-end Inv-loop μ-loop = search in
+    let end = e .run-end .ensures in
     record {
-      turns = omega (arith, end, c .before .before .reach .ensures .beyond);
+      turns = omega (arith, end, w .reach .ensures .beyond);
       fine-in = omega (arith, end, s .pre .rows .fine-in);
-      fits = omega (arith, end, s .pre .fits, l .inv .2);
+      fits = omega (arith, end, s .pre .fits, l .loop .inv .2);
     }
 
 loop-less : tie.Need-loop-less Inv-loop μ-loop
-loop-less c = omega (arith, c .before .before .before .before .run-end .ensures, c .before .before .before .before .before .reach .ensures .beyond)
+loop-less c =
+    let w : tie.After-reach Inv-loop μ-loop = search in
+    let e : tie.After-run-end Inv-loop μ-loop = search in
+    omega (arith, e .run-end .ensures, w .reach .ensures .beyond)
 
 loop-again : tie.Need-loop-again Inv-loop μ-loop
 loop-again c =
-    let a = c .before .before .before .before .before .before .before .before .before .before .before .before .args in
+    let s : tie.Start Inv-loop μ-loop = search in
+    let turn : tie.At-loop Inv-loop μ-loop = search in
+    let reached : tie.After-reach Inv-loop μ-loop = search in
+    let ended : tie.After-run-end Inv-loop μ-loop = search in
+    let stored : tie.After-put-run Inv-loop μ-loop = search in
+    let a = s .args in
     let f = now (a .file) in
     let cs = coarseIn f (a .m) in
-    let l = c .before .before .before .before .before .before .before .before .loop in
-    let w = c .before .before .before .before .before .reach in
-    let end = c .before .before .before .before .run-end in
-    let put = c .before .before .put-run in
+    let l = turn .loop in
+    let w = reached .reach in
+    let end = ended .run-end in
+    let put = stored .put-run in
     let walk = w .ensures .reached cs (l .inv .1) in
     let on : l .k ≤ end .result = omega (arith, end .ensures, w .ensures .beyond) in (
       omega (arith, end .ensures),
@@ -74,15 +71,12 @@ loop-again c =
       run-put f (a .m) (w .result) (l .k) (end .result) (l .table) (a .at) on (end .ensures) walk (put .ensures) (l .inv .3),
     )
 
-same-length : tie.Need-same-length Inv-loop μ-loop
-same-length c = search needs
-
 returns : tie.Need-returns Inv-loop μ-loop
 returns c =
-    let a = c .before .before .before .before .before .before .args in
-    let f = now (a .file) in
-    let l = c .before .before .loop in
-    entries-done f (a .m) (l .k) (l .table) (a .at + entrySize * l .k) (c .if1 .left) (l .inv .3)
+    let s : tie.Start Inv-loop μ-loop = search in
+    let turn : tie.At-loop Inv-loop μ-loop = search in
+    let l = turn .loop in
+    entries-done (now (s .args .file)) (s .args .m) (l .k) (l .table) (s .args .at + entrySize * l .k) (c .if1 .left) (l .inv .3)
 
 pub put-entries-spec : {M : Type 1} → statement M
 put-entries-spec =
@@ -90,13 +84,13 @@ put-entries-spec =
     (tie.spec
     Inv-loop
     μ-loop
-    start-requires
+    (λ c κs. search needs)
     loop-holds
-    cast-reach
-    reach-requires
-    run-end-requires
+    (λ c. search needs)
+    (λ c κs. search needs)
+    (λ c κs. search needs)
     put-run-requires
     loop-less
     loop-again
-    same-length
+    (λ c. search needs)
     returns)

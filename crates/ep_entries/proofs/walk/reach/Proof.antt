@@ -11,31 +11,35 @@ abbrev μ-loop : tie.MeasureT-loop
 μ-loop file k w₀ w = w .left
 
 loop-holds : tie.Need-loop-holds Inv-loop μ-loop
-loop-holds c = let a = c .before .args in walking-first (now (a .file)) (a .k) (a .from) (c .before .pre .0)
+loop-holds c =
+    let s : tie.Start Inv-loop μ-loop = search in
+    walking-first (now (s .args .file)) (s .args .k) (s .args .from) (s .pre .0)
 
 at-row-requires : tie.Need-at-row-requires Inv-loop μ-loop
 at-row-requires c κs =
-    let s = c .before .before .before .before in
-    let w = c .before .before .loop in
-    (w .inv .steps .room, steps-on (now (s .args .file)) (s .args .k) (w .w) (w .inv .steps) (c .if1 .taken) (s .pre .1) .0)
+    let s : tie.Start Inv-loop μ-loop = search in
+    let l : tie.At-loop Inv-loop μ-loop = search in
+    (l .loop .inv .steps .room, steps-on (now (s .args .file)) (s .args .k) (l .loop .w) (l .loop .inv .steps) (c .if1 .taken) (s .pre .1) .0)
 
 loop-less : tie.Need-loop-less Inv-loop μ-loop
 loop-less c =
-    let s = c .before .before .before .before .before in
-    let w = c .before .before .before .loop in
-    walking-less (now (s .args .file)) (s .args .k) (w .w) (w .inv .steps) (c .before .if1 .taken) (s .pre .1) (c .at-row .ensures)
+    let s : tie.Start Inv-loop μ-loop = search in
+    let l : tie.At-loop Inv-loop μ-loop = search in
+    let t : tie.Then1 Inv-loop μ-loop = search in
+    walking-less (now (s .args .file)) (s .args .k) (l .loop .w) (l .loop .inv .steps) (t .if1 .taken) (s .pre .1) (c .at-row .ensures)
 
 loop-again : tie.Need-loop-again Inv-loop μ-loop
 loop-again c =
-    let s = c .before .before .before .before .before in
-    let w = c .before .before .before .loop in
-    walking-on (now (s .args .file)) (s .args .k) (s .args .from) (w .w) (w .inv) (c .before .if1 .taken) (s .pre .1) (c .at-row .ensures)
+    let s : tie.Start Inv-loop μ-loop = search in
+    let l : tie.At-loop Inv-loop μ-loop = search in
+    let t : tie.Then1 Inv-loop μ-loop = search in
+    walking-on (now (s .args .file)) (s .args .k) (s .args .from) (l .loop .w) (l .loop .inv) (t .if1 .taken) (s .pre .1) (c .at-row .ensures)
 
 returns : tie.Need-returns Inv-loop μ-loop
 returns c =
-    let s = c .before .before .before .before in
-    let w = c .before .before .loop in
-    walking-done (now (s .args .file)) (s .args .k) (s .args .from) (w .w) (w .inv) (c .if1 .left)
+    let s : tie.Start Inv-loop μ-loop = search in
+    let l : tie.At-loop Inv-loop μ-loop = search in
+    walking-done (now (s .args .file)) (s .args .k) (s .args .from) (l .loop .w) (l .loop .inv) (c .if1 .left)
 
 pub reach-spec : {M : Type 1} → statement M
 reach-spec =

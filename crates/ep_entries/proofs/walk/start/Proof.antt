@@ -8,15 +8,14 @@ use Rattle.ep_entries.proofs.walk.start.Statement.{statement}
 use Rattle.ep_entries.proofs.walk.start.Tie as tie
 
 returns : tie.Need-returns
-returns c = let a = c .before .before .args in walk-none (now (a .file)) (a .p) (a .n) _ (c .if1 .taken) (omega arith) refl
-
-at-row-requires : tie.Need-at-row-requires
-at-row-requires c κs = search needs
+returns c =
+    let s : tie.Start = search in
+    walk-none (now (s .args .file)) (s .args .p) (s .args .n) _ (c .if1 .taken) (omega arith) refl
 
 returns-2 : tie.Need-returns-2
 returns-2 c =
-    let a = c .before .before .before .args in
-    rw (c .at-row .ensures) (walk-first (now (a .file)) (a .p) (a .n) (omega arith) (omega arith))
+    let s : tie.Start = search in
+    rw (c .at-row .ensures) (walk-first (now (s .args .file)) (s .args .p) (s .args .n) (omega arith) (omega arith))
 
 pub start-spec : {M : Type 1} → statement M
-start-spec = tie.close (tie.spec returns at-row-requires returns-2)
+start-spec = tie.close (tie.spec returns (λ c κs. search needs) returns-2)
