@@ -13,46 +13,49 @@ Inv-loop file m from one walk₀ k₀ walk k = Along file m from walk k
 abbrev μ-loop : tie.MeasureT-loop
 μ-loop file m from one walk₀ k₀ walk k = m .«num_fine» - k
 
-add-k : tie.Need-add-k Inv-loop μ-loop
-add-k c = search needs
-
 loop-holds : tie.Need-loop-holds Inv-loop μ-loop
 loop-holds c =
-    let s = c .before .before .before in
-    along-first (now (s .args .file)) (s .args .m) (s .args .from) (s .args .first) (s .pre .2) (s .pre .1)
+    let s : tie.Start Inv-loop μ-loop = search in
+    let a = s .args in
+    along-first (now (a .file)) (a .m) (a .from) (a .first) (s .pre .2) (s .pre .1)
 
 meet-requires : tie.Need-meet-requires Inv-loop μ-loop
-meet-requires c κs = record { rows = c .before .before .before .before .before .before .pre .0; there = c .if1 .taken; walk-is = c .before .before .loop .inv .walk-is }
-
-same-run-requires : tie.Need-same-run-requires Inv-loop μ-loop
-same-run-requires c κs = search needs
+meet-requires c κs =
+    let s : tie.Start Inv-loop μ-loop = search in
+    let turn : tie.At-loop Inv-loop μ-loop = search in
+    record { rows = s .pre .0; there = c .if1 .taken; walk-is = turn .loop .inv .walk-is }
 
 returns : tie.Need-returns Inv-loop μ-loop
 returns c =
-    let s = c .before .before .before .before .before .before .before .before .before .before .before in
+    let s : tie.Start Inv-loop μ-loop = search in
+    let turn : tie.At-loop Inv-loop μ-loop = search in
+    let t : tie.Then1 Inv-loop μ-loop = search in
+    let m : tie.After-meet Inv-loop μ-loop = search in
+    let same : tie.After-same-run Inv-loop μ-loop = search in
     let a = s .args in
-    let l = c .before .before .before .before .before .before .before .loop in
-    let met = c .before .before .before .before .meet in
-    along-stop (now (a .file)) (a .m) (a .from) (a .first) (s .pre .2) (l .walk) (l .k) (l .inv) (c .before .before .before .before .before .if1 .taken) (met .result) (met .ensures) (c .before .same-run .ensures) (c .if2 .taken)
-
-add-k-2 : tie.Need-add-k-2 Inv-loop μ-loop
-add-k-2 c = search needs
+    let l = turn .loop in
+    along-stop (now (a .file)) (a .m) (a .from) (a .first) (s .pre .2) (l .walk) (l .k) (l .inv) (t .if1 .taken) (m .meet .result) (m .meet .ensures) (same .same-run .ensures) (c .if2 .taken)
 
 loop-less : tie.Need-loop-less Inv-loop μ-loop
-loop-less c = omega (arith, c .before .before .before .before .before .if1 .taken)
+loop-less c = let t : tie.Then1 Inv-loop μ-loop = search in omega (arith, t .if1 .taken)
 
 loop-again : tie.Need-loop-again Inv-loop μ-loop
 loop-again c =
-    let s = c .before .before .before .before .before .before .before .before .before .before .before in
+    let s : tie.Start Inv-loop μ-loop = search in
+    let turn : tie.At-loop Inv-loop μ-loop = search in
+    let t : tie.Then1 Inv-loop μ-loop = search in
+    let m : tie.After-meet Inv-loop μ-loop = search in
+    let same : tie.After-same-run Inv-loop μ-loop = search in
     let a = s .args in
-    let l = c .before .before .before .before .before .before .before .loop in
-    let met = c .before .before .before .before .meet in
-    along-turn (now (a .file)) (a .m) (a .from) (a .first) (s .pre .2) (l .walk) (l .k) (l .inv) (c .before .before .before .before .before .if1 .taken) (met .result) (met .ensures) (c .before .same-run .ensures) (c .if2 .left)
+    let l = turn .loop in
+    along-turn (now (a .file)) (a .m) (a .from) (a .first) (s .pre .2) (l .walk) (l .k) (l .inv) (t .if1 .taken) (m .meet .result) (m .meet .ensures) (same .same-run .ensures) (c .if2 .left)
 
 returns-2 : tie.Need-returns-2 Inv-loop μ-loop
 returns-2 c =
-    let a = c .before .before .before .before .before .before .args in
-    let l = c .before .before .loop in
+    let s : tie.Start Inv-loop μ-loop = search in
+    let turn : tie.At-loop Inv-loop μ-loop = search in
+    let a = s .args in
+    let l = turn .loop in
     along-done (now (a .file)) (a .m) (a .from) (l .walk) (l .k) (l .inv) (c .if1 .left)
 
 pub run-end-spec : {M : Type 1} → statement M
@@ -61,12 +64,12 @@ run-end-spec =
     (tie.spec
     Inv-loop
     μ-loop
-    add-k
+    (λ c. search needs)
     loop-holds
     meet-requires
-    same-run-requires
+    (λ c κs. search needs)
     returns
-    add-k-2
+    (λ c. search needs)
     loop-less
     loop-again
     returns-2)
