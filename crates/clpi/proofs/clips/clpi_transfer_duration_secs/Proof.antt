@@ -5,14 +5,9 @@ use borrow.Author.Needs.{needs}
 use Rattle.clpi.proofs.clips.clpi_transfer_duration_secs.Statement.{statement}
 use Rattle.clpi.proofs.clips.clpi_transfer_duration_secs.Tie as tie
 
-transfer-duration-secs-requires : tie.Need-transfer-duration-secs-requires
-transfer-duration-secs-requires c κs = search needs
-
-seconds-of-requires : tie.Need-seconds-of-requires
-seconds-of-requires c κs = search needs
-
 returns : tie.Need-returns
 returns c = c .seconds-of .ensures ∙ ap answerNumbers (c .before .transfer-duration-secs .ensures .0)
 
 pub clpi-transfer-duration-secs-spec : {M : Type 1} → statement M
-clpi-transfer-duration-secs-spec = tie.close (tie.spec transfer-duration-secs-requires seconds-of-requires returns)
+clpi-transfer-duration-secs-spec =
+    tie.close (tie.spec (λ c κs. search needs) (λ c κs. search needs) returns)

@@ -5,14 +5,9 @@ use borrow.Author.Needs.{needs}
 use Rattle.clpi.proofs.extension_data.clpi_extension_entry.Statement.{statement}
 use Rattle.clpi.proofs.extension_data.clpi_extension_entry.Tie as tie
 
-entry-requires : tie.Need-entry-requires
-entry-requires c κs = search needs
-
-answer-of-requires : tie.Need-answer-of-requires
-answer-of-requires c κs = search needs
-
 returns : tie.Need-returns
 returns c = c .answer-of .ensures ∙ ap answerNumbers (c .before .entry .ensures)
 
 pub clpi-extension-entry-spec : {M : Type 1} → statement M
-clpi-extension-entry-spec = tie.close (tie.spec entry-requires answer-of-requires returns)
+clpi-extension-entry-spec =
+    tie.close (tie.spec (λ c κs. search needs) (λ c κs. search needs) returns)

@@ -5,14 +5,9 @@ use borrow.Author.Needs.{needs}
 use Rattle.clpi.proofs.maps.clpi_entries_of_map.Statement.{statement}
 use Rattle.clpi.proofs.maps.clpi_entries_of_map.Tie as tie
 
-entries-of-map-requires : tie.Need-entries-of-map-requires
-entries-of-map-requires c κs = search needs
-
-rows-of-requires : tie.Need-rows-of-requires
-rows-of-requires c κs = search needs
-
 returns : tie.Need-returns
 returns c = c .rows-of .ensures ∙ ap ownedNumbers (c .before .entries-of-map .ensures)
 
 pub clpi-entries-of-map-spec : {M : Type 1} → statement M
-clpi-entries-of-map-spec = tie.close (tie.spec entries-of-map-requires rows-of-requires returns)
+clpi-entries-of-map-spec =
+    tie.close (tie.spec (λ c κs. search needs) (λ c κs. search needs) returns)

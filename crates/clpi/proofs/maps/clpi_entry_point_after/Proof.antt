@@ -5,15 +5,9 @@ use borrow.Author.Needs.{needs}
 use Rattle.clpi.proofs.maps.clpi_entry_point_after.Statement.{statement}
 use Rattle.clpi.proofs.maps.clpi_entry_point_after.Tie as tie
 
-entry-point-after-requires : tie.Need-entry-point-after-requires
-entry-point-after-requires c κs = search needs
-
-answer-of-requires : tie.Need-answer-of-requires
-answer-of-requires c κs = search needs
-
 returns : tie.Need-returns
 returns c = c .answer-of .ensures ∙ ap answerNumbers (c .before .entry-point-after .ensures)
 
 pub clpi-entry-point-after-spec : {M : Type 1} → statement M
 clpi-entry-point-after-spec =
-    tie.close (tie.spec entry-point-after-requires answer-of-requires returns)
+    tie.close (tie.spec (λ c κs. search needs) (λ c κs. search needs) returns)

@@ -5,15 +5,9 @@ use borrow.Author.Needs.{needs}
 use Rattle.clpi.proofs.maps.clpi_entry_point_at_or_before.Statement.{statement}
 use Rattle.clpi.proofs.maps.clpi_entry_point_at_or_before.Tie as tie
 
-entry-point-at-or-before-requires : tie.Need-entry-point-at-or-before-requires
-entry-point-at-or-before-requires c κs = search needs
-
-answer-of-requires : tie.Need-answer-of-requires
-answer-of-requires c κs = search needs
-
 returns : tie.Need-returns
 returns c = c .answer-of .ensures ∙ ap answerNumbers (c .before .entry-point-at-or-before .ensures)
 
 pub clpi-entry-point-at-or-before-spec : {M : Type 1} → statement M
 clpi-entry-point-at-or-before-spec =
-    tie.close (tie.spec entry-point-at-or-before-requires answer-of-requires returns)
+    tie.close (tie.spec (λ c κs. search needs) (λ c κs. search needs) returns)

@@ -5,14 +5,9 @@ use borrow.Author.Needs.{needs}
 use Rattle.clpi.proofs.maps.clpi_ep_map_by_kind.Statement.{statement}
 use Rattle.clpi.proofs.maps.clpi_ep_map_by_kind.Tie as tie
 
-ep-map-by-kind-requires : tie.Need-ep-map-by-kind-requires
-ep-map-by-kind-requires c κs = search needs
-
-answer-of-requires : tie.Need-answer-of-requires
-answer-of-requires c κs = search needs
-
 returns : tie.Need-returns
 returns c = c .answer-of .ensures ∙ ap answerNumbers (c .before .ep-map-by-kind .ensures)
 
 pub clpi-ep-map-by-kind-spec : {M : Type 1} → statement M
-clpi-ep-map-by-kind-spec = tie.close (tie.spec ep-map-by-kind-requires answer-of-requires returns)
+clpi-ep-map-by-kind-spec =
+    tie.close (tie.spec (λ c κs. search needs) (λ c κs. search needs) returns)

@@ -5,14 +5,8 @@ use borrow.Author.Needs.{needs}
 use Rattle.clpi.proofs.maps.clpi_last_pts.Statement.{statement}
 use Rattle.clpi.proofs.maps.clpi_last_pts.Tie as tie
 
-last-pts-requires : tie.Need-last-pts-requires
-last-pts-requires c κs = search needs
-
-answer-of-90-requires : tie.Need-answer-of-90-requires
-answer-of-90-requires c κs = search needs
-
 returns : tie.Need-returns
 returns c = c .answer-of-90 .ensures ∙ ap answerNumbers (c .before .last-pts .ensures)
 
 pub clpi-last-pts-spec : {M : Type 1} → statement M
-clpi-last-pts-spec = tie.close (tie.spec last-pts-requires answer-of-90-requires returns)
+clpi-last-pts-spec = tie.close (tie.spec (λ c κs. search needs) (λ c κs. search needs) returns)

@@ -5,14 +5,8 @@ use borrow.Author.Needs.{needs}
 use Rattle.clpi.proofs.maps.clpi_next_seek_spn.Statement.{statement}
 use Rattle.clpi.proofs.maps.clpi_next_seek_spn.Tie as tie
 
-next-seek-spn-requires : tie.Need-next-seek-spn-requires
-next-seek-spn-requires c κs = search needs
-
-answer-of-requires : tie.Need-answer-of-requires
-answer-of-requires c κs = search needs
-
 returns : tie.Need-returns
 returns c = c .answer-of .ensures ∙ ap answerNumbers (c .before .next-seek-spn .ensures)
 
 pub clpi-next-seek-spn-spec : {M : Type 1} → statement M
-clpi-next-seek-spn-spec = tie.close (tie.spec next-seek-spn-requires answer-of-requires returns)
+clpi-next-seek-spn-spec = tie.close (tie.spec (λ c κs. search needs) (λ c κs. search needs) returns)

@@ -5,15 +5,9 @@ use borrow.Author.Needs.{needs}
 use Rattle.clpi.proofs.maps.clpi_next_video_ep_map.Statement.{statement}
 use Rattle.clpi.proofs.maps.clpi_next_video_ep_map.Tie as tie
 
-next-video-ep-map-requires : tie.Need-next-video-ep-map-requires
-next-video-ep-map-requires c κs = search needs
-
-answer-of-requires : tie.Need-answer-of-requires
-answer-of-requires c κs = search needs
-
 returns : tie.Need-returns
 returns c = c .answer-of .ensures ∙ ap answerNumbers (c .before .next-video-ep-map .ensures)
 
 pub clpi-next-video-ep-map-spec : {M : Type 1} → statement M
 clpi-next-video-ep-map-spec =
-    tie.close (tie.spec next-video-ep-map-requires answer-of-requires returns)
+    tie.close (tie.spec (λ c κs. search needs) (λ c κs. search needs) returns)

@@ -5,15 +5,9 @@ use borrow.Author.Needs.{needs}
 use Rattle.clpi.proofs.maps.clpi_primary_next_seek_spn.Statement.{statement}
 use Rattle.clpi.proofs.maps.clpi_primary_next_seek_spn.Tie as tie
 
-primary-next-seek-spn-requires : tie.Need-primary-next-seek-spn-requires
-primary-next-seek-spn-requires c κs = search needs
-
-answer-of-requires : tie.Need-answer-of-requires
-answer-of-requires c κs = search needs
-
 returns : tie.Need-returns
 returns c = c .answer-of .ensures ∙ ap answerNumbers (c .before .primary-next-seek-spn .ensures)
 
 pub clpi-primary-next-seek-spn-spec : {M : Type 1} → statement M
 clpi-primary-next-seek-spn-spec =
-    tie.close (tie.spec primary-next-seek-spn-requires answer-of-requires returns)
+    tie.close (tie.spec (λ c κs. search needs) (λ c κs. search needs) returns)

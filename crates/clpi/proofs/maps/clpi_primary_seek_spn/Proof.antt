@@ -5,15 +5,9 @@ use borrow.Author.Needs.{needs}
 use Rattle.clpi.proofs.maps.clpi_primary_seek_spn.Statement.{statement}
 use Rattle.clpi.proofs.maps.clpi_primary_seek_spn.Tie as tie
 
-primary-seek-spn-requires : tie.Need-primary-seek-spn-requires
-primary-seek-spn-requires c κs = search needs
-
-answer-of-requires : tie.Need-answer-of-requires
-answer-of-requires c κs = search needs
-
 returns : tie.Need-returns
 returns c = c .answer-of .ensures ∙ ap answerNumbers (c .before .primary-seek-spn .ensures)
 
 pub clpi-primary-seek-spn-spec : {M : Type 1} → statement M
 clpi-primary-seek-spn-spec =
-    tie.close (tie.spec primary-seek-spn-requires answer-of-requires returns)
+    tie.close (tie.spec (λ c κs. search needs) (λ c κs. search needs) returns)

@@ -5,15 +5,9 @@ use borrow.Author.Needs.{needs}
 use Rattle.clpi.proofs.programs.clpi_next_audio_stream.Statement.{statement}
 use Rattle.clpi.proofs.programs.clpi_next_audio_stream.Tie as tie
 
-next-audio-stream-requires : tie.Need-next-audio-stream-requires
-next-audio-stream-requires c κs = search needs
-
-answer-of-requires : tie.Need-answer-of-requires
-answer-of-requires c κs = search needs
-
 returns : tie.Need-returns
 returns c = c .answer-of .ensures ∙ ap answerNumbers (c .before .next-audio-stream .ensures)
 
 pub clpi-next-audio-stream-spec : {M : Type 1} → statement M
 clpi-next-audio-stream-spec =
-    tie.close (tie.spec next-audio-stream-requires answer-of-requires returns)
+    tie.close (tie.spec (λ c κs. search needs) (λ c κs. search needs) returns)

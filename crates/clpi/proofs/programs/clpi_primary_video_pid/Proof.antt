@@ -5,15 +5,9 @@ use borrow.Author.Needs.{needs}
 use Rattle.clpi.proofs.programs.clpi_primary_video_pid.Statement.{statement}
 use Rattle.clpi.proofs.programs.clpi_primary_video_pid.Tie as tie
 
-primary-video-pid-requires : tie.Need-primary-video-pid-requires
-primary-video-pid-requires c κs = search needs
-
-answer-of-requires : tie.Need-answer-of-requires
-answer-of-requires c κs = search needs
-
 returns : tie.Need-returns
 returns c = c .answer-of .ensures ∙ ap answerNumbers (c .before .primary-video-pid .ensures)
 
 pub clpi-primary-video-pid-spec : {M : Type 1} → statement M
 clpi-primary-video-pid-spec =
-    tie.close (tie.spec primary-video-pid-requires answer-of-requires returns)
+    tie.close (tie.spec (λ c κs. search needs) (λ c κs. search needs) returns)

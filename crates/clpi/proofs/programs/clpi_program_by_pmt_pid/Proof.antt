@@ -5,15 +5,9 @@ use borrow.Author.Needs.{needs}
 use Rattle.clpi.proofs.programs.clpi_program_by_pmt_pid.Statement.{statement}
 use Rattle.clpi.proofs.programs.clpi_program_by_pmt_pid.Tie as tie
 
-program-by-pmt-pid-requires : tie.Need-program-by-pmt-pid-requires
-program-by-pmt-pid-requires c κs = search needs
-
-answer-of-requires : tie.Need-answer-of-requires
-answer-of-requires c κs = search needs
-
 returns : tie.Need-returns
 returns c = c .answer-of .ensures ∙ ap answerNumbers (c .before .program-by-pmt-pid .ensures)
 
 pub clpi-program-by-pmt-pid-spec : {M : Type 1} → statement M
 clpi-program-by-pmt-pid-spec =
-    tie.close (tie.spec program-by-pmt-pid-requires answer-of-requires returns)
+    tie.close (tie.spec (λ c κs. search needs) (λ c κs. search needs) returns)

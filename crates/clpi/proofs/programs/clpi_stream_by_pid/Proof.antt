@@ -5,14 +5,8 @@ use borrow.Author.Needs.{needs}
 use Rattle.clpi.proofs.programs.clpi_stream_by_pid.Statement.{statement}
 use Rattle.clpi.proofs.programs.clpi_stream_by_pid.Tie as tie
 
-stream-by-pid-requires : tie.Need-stream-by-pid-requires
-stream-by-pid-requires c κs = search needs
-
-answer-of-requires : tie.Need-answer-of-requires
-answer-of-requires c κs = search needs
-
 returns : tie.Need-returns
 returns c = c .answer-of .ensures ∙ ap answerNumbers (c .before .stream-by-pid .ensures)
 
 pub clpi-stream-by-pid-spec : {M : Type 1} → statement M
-clpi-stream-by-pid-spec = tie.close (tie.spec stream-by-pid-requires answer-of-requires returns)
+clpi-stream-by-pid-spec = tie.close (tie.spec (λ c κs. search needs) (λ c κs. search needs) returns)

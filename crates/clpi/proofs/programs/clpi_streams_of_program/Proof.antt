@@ -5,15 +5,9 @@ use borrow.Author.Needs.{needs}
 use Rattle.clpi.proofs.programs.clpi_streams_of_program.Statement.{statement}
 use Rattle.clpi.proofs.programs.clpi_streams_of_program.Tie as tie
 
-streams-of-program-requires : tie.Need-streams-of-program-requires
-streams-of-program-requires c κs = search needs
-
-rows-of-requires : tie.Need-rows-of-requires
-rows-of-requires c κs = search needs
-
 returns : tie.Need-returns
 returns c = c .rows-of .ensures ∙ ap ownedNumbers (c .before .streams-of-program .ensures)
 
 pub clpi-streams-of-program-spec : {M : Type 1} → statement M
 clpi-streams-of-program-spec =
-    tie.close (tie.spec streams-of-program-requires rows-of-requires returns)
+    tie.close (tie.spec (λ c κs. search needs) (λ c κs. search needs) returns)

@@ -12,57 +12,34 @@ use borrow.Author.Needs.{needs}
 use Rattle.clpi.proofs.read.clpi_read.Statement.{statement}
 use Rattle.clpi.proofs.read.clpi_read.Tie as tie
 
-read-requires : tie.Need-read-requires
-read-requires c κs = search needs
+-- the call's start, and the file as it is lent
+abbrev start-of : tie.After-read → tie.Start
+start-of r = search
+
+abbrev lent-of : tie.After-read → tie.After-shared-slice-known
+lent-of r = search
 
 -- the tables before and after
 module _ (r : tie.After-read) where
   abbrev F : List ℕ
-  F = now (r .before .before .before .before .before .before .before .before .before .before .before .before .before .before .before .before .before .before .before .before .args .file)
+  F = now (start-of r .args .file)
 
   abbrev T : Nine (List ℕ)
   T =
-      let a = r .before .before .before .before .before .before .before .before .before .before .before .before .before .before .before .before .before .before .before .before .args in
+      let a = start-of r .args in
       nineTables (now (a .atcs)) (now (a .stcs)) (now (a .programs)) (now (a .streams)) (now (a .maps)) (now (a .entries)) (now (a .extensions)) (now (a .programs2)) (now (a .streams2))
 
   bytes : IsBytes F
-  bytes i = r .before .before .before .before .before .before .before .before .before .before .before .before .before .before .before .before .before .before .before .shared-slice-known .given i .fits
+  bytes i = lent-of r .shared-slice-known .given i .fits
 
 reading-of-requires : tie.Need-reading-of-requires
 reading-of-requires c κs =
-    let r = c .before .before .before .before .before .before .before .before .before .before .before .before .before .before .before .before .before .before in
+    let r : tie.After-read = search in
     counts-fit (F r) (bytes r) (T r) (r .read .result) (r .read .ensures .0)
-
-same-length : tie.Need-same-length
-same-length c = search needs
-
-same-length-2 : tie.Need-same-length-2
-same-length-2 c = search needs
-
-same-length-3 : tie.Need-same-length-3
-same-length-3 c = search needs
-
-same-length-4 : tie.Need-same-length-4
-same-length-4 c = search needs
-
-same-length-5 : tie.Need-same-length-5
-same-length-5 c = search needs
-
-same-length-6 : tie.Need-same-length-6
-same-length-6 c = search needs
-
-same-length-7 : tie.Need-same-length-7
-same-length-7 c = search needs
-
-same-length-8 : tie.Need-same-length-8
-same-length-8 c = search needs
-
-same-length-9 : tie.Need-same-length-9
-same-length-9 c = search needs
 
 returns : tie.Need-returns
 returns c =
-    let r = c .before .before .before .before .before .before .before .before .before .before .before .before .before .before .before .before .before .before .before in
+    let r : tie.After-read = search in
     let e = r .read .ensures in
     let l = r .read .last in (
       c .reading-of .ensures ∙ ap readNumbers (e .0),
@@ -74,15 +51,15 @@ pub clpi-read-spec : {M : Type 1} → statement M
 clpi-read-spec =
     tie.close
     (tie.spec
-    read-requires
+    (λ c κs. search needs)
     reading-of-requires
-    same-length
-    same-length-2
-    same-length-3
-    same-length-4
-    same-length-5
-    same-length-6
-    same-length-7
-    same-length-8
-    same-length-9
+    (λ c. search needs)
+    (λ c. search needs)
+    (λ c. search needs)
+    (λ c. search needs)
+    (λ c. search needs)
+    (λ c. search needs)
+    (λ c. search needs)
+    (λ c. search needs)
+    (λ c. search needs)
     returns)

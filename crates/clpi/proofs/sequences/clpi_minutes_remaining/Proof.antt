@@ -5,15 +5,9 @@ use borrow.Author.Needs.{needs}
 use Rattle.clpi.proofs.sequences.clpi_minutes_remaining.Statement.{statement}
 use Rattle.clpi.proofs.sequences.clpi_minutes_remaining.Tie as tie
 
-minutes-remaining-requires : tie.Need-minutes-remaining-requires
-minutes-remaining-requires c κs = search needs
-
-answer-of-requires : tie.Need-answer-of-requires
-answer-of-requires c κs = search needs
-
 returns : tie.Need-returns
 returns c = c .answer-of .ensures ∙ ap answerNumbers (c .before .minutes-remaining .ensures)
 
 pub clpi-minutes-remaining-spec : {M : Type 1} → statement M
 clpi-minutes-remaining-spec =
-    tie.close (tie.spec minutes-remaining-requires answer-of-requires returns)
+    tie.close (tie.spec (λ c κs. search needs) (λ c κs. search needs) returns)

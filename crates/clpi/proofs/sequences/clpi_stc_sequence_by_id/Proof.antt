@@ -5,15 +5,9 @@ use borrow.Author.Needs.{needs}
 use Rattle.clpi.proofs.sequences.clpi_stc_sequence_by_id.Statement.{statement}
 use Rattle.clpi.proofs.sequences.clpi_stc_sequence_by_id.Tie as tie
 
-stc-sequence-by-id-requires : tie.Need-stc-sequence-by-id-requires
-stc-sequence-by-id-requires c κs = search needs
-
-answer-of-requires : tie.Need-answer-of-requires
-answer-of-requires c κs = search needs
-
 returns : tie.Need-returns
 returns c = c .answer-of .ensures ∙ ap answerNumbers (c .before .stc-sequence-by-id .ensures)
 
 pub clpi-stc-sequence-by-id-spec : {M : Type 1} → statement M
 clpi-stc-sequence-by-id-spec =
-    tie.close (tie.spec stc-sequence-by-id-requires answer-of-requires returns)
+    tie.close (tie.spec (λ c κs. search needs) (λ c κs. search needs) returns)

@@ -5,15 +5,9 @@ use borrow.Author.Needs.{needs}
 use Rattle.clpi.proofs.sequences.clpi_stc_sequence_for_spn.Statement.{statement}
 use Rattle.clpi.proofs.sequences.clpi_stc_sequence_for_spn.Tie as tie
 
-stc-sequence-for-spn-requires : tie.Need-stc-sequence-for-spn-requires
-stc-sequence-for-spn-requires c κs = search needs
-
-answer-of-requires : tie.Need-answer-of-requires
-answer-of-requires c κs = search needs
-
 returns : tie.Need-returns
 returns c = c .answer-of .ensures ∙ ap answerNumbers (c .before .stc-sequence-for-spn .ensures)
 
 pub clpi-stc-sequence-for-spn-spec : {M : Type 1} → statement M
 clpi-stc-sequence-for-spn-spec =
-    tie.close (tie.spec stc-sequence-for-spn-requires answer-of-requires returns)
+    tie.close (tie.spec (λ c κs. search needs) (λ c κs. search needs) returns)

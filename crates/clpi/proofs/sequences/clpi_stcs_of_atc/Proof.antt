@@ -5,14 +5,8 @@ use borrow.Author.Needs.{needs}
 use Rattle.clpi.proofs.sequences.clpi_stcs_of_atc.Statement.{statement}
 use Rattle.clpi.proofs.sequences.clpi_stcs_of_atc.Tie as tie
 
-stcs-of-atc-requires : tie.Need-stcs-of-atc-requires
-stcs-of-atc-requires c κs = search needs
-
-rows-of-requires : tie.Need-rows-of-requires
-rows-of-requires c κs = search needs
-
 returns : tie.Need-returns
 returns c = c .rows-of .ensures ∙ ap ownedNumbers (c .before .stcs-of-atc .ensures)
 
 pub clpi-stcs-of-atc-spec : {M : Type 1} → statement M
-clpi-stcs-of-atc-spec = tie.close (tie.spec stcs-of-atc-requires rows-of-requires returns)
+clpi-stcs-of-atc-spec = tie.close (tie.spec (λ c κs. search needs) (λ c κs. search needs) returns)

@@ -9,22 +9,20 @@ use borrow.Author.Needs.{needs}
 use Rattle.clpi.proofs.writing.clpi_rewrite.Statement.{statement}
 use Rattle.clpi.proofs.writing.clpi_rewrite.Tie as tie
 
-rewrite-requires : tie.Need-rewrite-requires
-rewrite-requires c κs = search needs
-
 writing-of-requires : tie.Need-writing-of-requires
 writing-of-requires c κs =
-    let a = c .before .before .before .before .before .before .args in
-    answer-narrow (now (a .file)) (λ i. c .before .before .before .before .before .shared-slice-known .given i .fits) (now (a .output)) (c .before .before .rewrite .ensures .0)
-
-same-length : tie.Need-same-length
-same-length c = search needs
+    let s : tie.Start = search in
+    let lent : tie.After-shared-slice-known = search in
+    let w : tie.After-rewrite = search in
+    answer-narrow (now (s .args .file)) (λ i. lent .shared-slice-known .given i .fits) (now (s .args .output)) (w .rewrite .ensures .0)
 
 returns : tie.Need-returns
 returns c =
-    let a = c .before .before .before .before .before .before .before .args in
-    let w = c .before .before .before .rewrite in
-    (c .writing-of .ensures ∙ ap writeNumbers (w .ensures .0), w .ensures .1 ∙ ap (λ x. outputBy x (encode (clipOf (now (a .file)))) (now (a .output))) (w .ensures .0))
+    let s : tie.Start = search in
+    let w : tie.After-rewrite = search in
+    let e = w .rewrite .ensures in
+    (c .writing-of .ensures ∙ ap writeNumbers (e .0), e .1 ∙ ap (λ x. outputBy x (encode (clipOf (now (s .args .file)))) (now (s .args .output))) (e .0))
 
 pub clpi-rewrite-spec : {M : Type 1} → statement M
-clpi-rewrite-spec = tie.close (tie.spec rewrite-requires writing-of-requires same-length returns)
+clpi-rewrite-spec =
+    tie.close (tie.spec (λ c κs. search needs) writing-of-requires (λ c. search needs) returns)

@@ -7,16 +7,17 @@ use borrow.Author.Needs.{needs}
 use Rattle.clpi.proofs.writing.clpi_rewritten_length.Statement.{statement}
 use Rattle.clpi.proofs.writing.clpi_rewritten_length.Tie as tie
 
-rewritten-length-requires : tie.Need-rewritten-length-requires
-rewritten-length-requires c κs = search needs
-
 length-of-requires : tie.Need-length-of-requires
 length-of-requires c κs =
-    let a = c .before .before .args in
-    length-narrow (now (a .file)) (λ i. c .before .shared-slice-known .given i .fits) (c .rewritten-length .ensures)
+    let s : tie.Start = search in
+    let lent : tie.After-shared-slice-known = search in
+    length-narrow (now (s .args .file)) (λ i. lent .shared-slice-known .given i .fits) (c .rewritten-length .ensures)
 
 returns : tie.Need-returns
-returns c = c .length-of .ensures ∙ ap lengthNumbers (c .before .rewritten-length .ensures)
+returns c =
+    let l : tie.After-rewritten-length = search in
+    c .length-of .ensures ∙ ap lengthNumbers (l .rewritten-length .ensures)
 
 pub clpi-rewritten-length-spec : {M : Type 1} → statement M
-clpi-rewritten-length-spec = tie.close (tie.spec rewritten-length-requires length-of-requires returns)
+clpi-rewritten-length-spec =
+    tie.close (tie.spec (λ c κs. search needs) length-of-requires returns)
