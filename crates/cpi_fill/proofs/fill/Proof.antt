@@ -21,83 +21,97 @@ abbrev μ-loop : tie.MeasureT-loop
 
 loop-holds : tie.Need-loop-holds Inv-loop μ-loop
 loop-holds c =
-    let s = c .before .before .before in
+    let s : tie.Start Inv-loop μ-loop = search in
     let a = s .args in
     filling-first (now (a .file)) (a .start) (a .count) (now (a .maps)) (now (a .entries)) (s .pre)
 
--- within the loop: the headers are in the file, and there is room for this turn's entries
-module _ (c : tie.In-loop Inv-loop μ-loop) where
+-- a turn of the loop
+module _ (t : tie.In-loop Inv-loop μ-loop) where
+  -- the call's start
+  abbrev B : tie.Start Inv-loop μ-loop
+  B = search
+
+  -- the turn's values
+  abbrev L : tie.At-loop Inv-loop μ-loop
+  L = search
+
+  -- the file, the section's start and how many maps it has
   abbrev F : List ℕ
-  F = now (c .before .before .before .before .before .args .file)
+  F = now (B .args .file)
 
   abbrev C : ℕ
-  C = c .before .before .before .before .before .args .start
+  C = B .args .start
 
   abbrev N : ℕ
-  N = c .before .before .before .before .before .args .count
+  N = B .args .count
 
+  -- the section is in the file
   abbrev S : CpiSection F C N
-  S = c .before .before .before .before .before .pre .section
+  S = B .pre .section
 
-  bounds : (C + 8 + 12 * N ≤ length F) × (length F ≤ 536870912) × (c .before .loop .k < N)
-  bounds = (there F C N S (omega (arith, c .loop-test .taken)) .headers, S .small, c .loop-test .taken)
+  -- and so are the headers
+  bounds : (C + 8 + 12 * N ≤ length F) × (length F ≤ 536870912) × (L .loop .k < N)
+  bounds = (there F C N S (omega (arith, t .loop-test .taken)) .headers, S .small, t .loop-test .taken)
 
-  -- there is room for its entries
-  room : c .before .loop .at + entrySize * fineCountAt F (C + 8 + 12 * c .before .loop .k) ≤ length (c .before .loop .entries)
-  room = entries-room (c .before .loop .inv) (c .loop-test .taken)
+  -- there is room for the map's entries
+  room : L .loop .at + entrySize * fineCountAt F (C + 8 + 12 * L .loop .k) ≤ length (L .loop .entries)
+  room = entries-room (L .loop .inv) (t .loop-test .taken)
 
 add-q : tie.Need-add-q Inv-loop μ-loop
-add-q c = omega (arith, bounds c)
+add-q c = let t : tie.In-loop Inv-loop μ-loop = search in omega (arith, bounds t)
 
 mul-q : tie.Need-mul-q Inv-loop μ-loop
-mul-q c = omega (arith, bounds c)
+mul-q c = let t : tie.In-loop Inv-loop μ-loop = search in omega (arith, bounds t)
 
 add-q-2 : tie.Need-add-q-2 Inv-loop μ-loop
-add-q-2 c = omega (arith, bounds c)
+add-q-2 c = let t : tie.In-loop Inv-loop μ-loop = search in omega (arith, bounds t)
 
 mul-put-map : tie.Need-mul-put-map Inv-loop μ-loop
-mul-put-map c = omega (arith, bounds (c .before))
+mul-put-map c = let t : tie.In-loop Inv-loop μ-loop = search in omega (arith, bounds t)
 
 put-map-requires : tie.Need-put-map-requires Inv-loop μ-loop
-put-map-requires c κs = (omega (arith, bounds (c .before)), map-room (c .before .before .loop .inv) (c .before .loop-test .taken))
+put-map-requires c κs =
+    let turn : tie.At-loop Inv-loop μ-loop = search in
+    let t : tie.In-loop Inv-loop μ-loop = search in
+    (omega (arith, bounds t), map-room (turn .loop .inv) (t .loop-test .taken))
 
 put-map-entries-requires : tie.Need-put-map-entries-requires Inv-loop μ-loop
 put-map-entries-requires c κs =
-    let i = c .before .before .before .before .before in
-    record { map-in = left-map (F i) (C i) (N i) (i .before .loop .k) (i .loop-test .taken) (S i) (i .before .loop .inv .left); fits = room i }
+    let turn : tie.At-loop Inv-loop μ-loop = search in
+    let t : tie.In-loop Inv-loop μ-loop = search in
+    record { map-in = left-map (F t) (C t) (N t) (turn .loop .k) (t .loop-test .taken) (S t) (turn .loop .inv .left); fits = room t }
 
 mul-at : tie.Need-mul-at Inv-loop μ-loop
 mul-at c =
-    let i = c .before .before .before .before .before .before .before .before in
-    omega (arith, bounds i, room i, c .before .before .put-map-entries .ensures .0)
+    let t : tie.In-loop Inv-loop μ-loop = search in
+    let put : tie.After-put-map-entries Inv-loop μ-loop = search in
+    omega (arith, bounds t, room t, put .put-map-entries .ensures .0)
 
 add-at : tie.Need-add-at Inv-loop μ-loop
 add-at c =
-    let i = c .before .before .before .before .before .before .before .before in
-    omega (arith, bounds i, room i, c .before .before .put-map-entries .ensures .0)
-
-add-k : tie.Need-add-k Inv-loop μ-loop
-add-k c = search needs
-
-loop-less : tie.Need-loop-less Inv-loop μ-loop
-loop-less c = search needs
+    let t : tie.In-loop Inv-loop μ-loop = search in
+    let put : tie.After-put-map-entries Inv-loop μ-loop = search in
+    let s = B t in
+    let l = L t .loop in
+    omega (arith, bounds t, room t, put .put-map-entries .ensures .0)
 
 loop-again : tie.Need-loop-again Inv-loop μ-loop
 loop-again c =
-    let i = c .before .before .before .before .before .before .before .before in
-    let l = i .before .loop in
-    let pm = c .before .before .before .before .before .before .put-map in
-    let pe = c .before .before .put-map-entries in
-    filling-next (l .inv) (i .loop-test .taken) (pe .result) (pe .ensures .0) (pm .ensures) (pe .ensures .1)
+    let turn : tie.At-loop Inv-loop μ-loop = search in
+    let t : tie.In-loop Inv-loop μ-loop = search in
+    let pm : tie.After-put-map Inv-loop μ-loop = search in
+    let pe : tie.After-put-map-entries Inv-loop μ-loop = search in
+    let l = turn .loop in
+    filling-next (l .inv) (t .loop-test .taken) (pe .put-map-entries .result) (pe .put-map-entries .ensures .0) (pm .put-map .ensures) (pe .put-map-entries .ensures .1)
 
 same-length : tie.Need-same-length Inv-loop μ-loop
-same-length c = c .before .loop .inv .maps-left .long
+same-length c = let turn : tie.At-loop Inv-loop μ-loop = search in turn .loop .inv .maps-left .long
 
 same-length-2 : tie.Need-same-length-2 Inv-loop μ-loop
-same-length-2 c = c .before .loop .inv .entries-left .long
+same-length-2 c = let turn : tie.At-loop Inv-loop μ-loop = search in turn .loop .inv .entries-left .long
 
 returns : tie.Need-returns Inv-loop μ-loop
-returns c = filling-done (c .before .loop .inv) (c .loop-test .left)
+returns c = let turn : tie.At-loop Inv-loop μ-loop = search in filling-done (turn .loop .inv) (c .loop-test .left)
 
 pub fill-spec : {M : Type 1} → statement M
 fill-spec =
@@ -114,8 +128,8 @@ fill-spec =
     put-map-entries-requires
     mul-at
     add-at
-    add-k
-    loop-less
+    (λ c. search needs)
+    (λ c. search needs)
     loop-again
     same-length
     same-length-2

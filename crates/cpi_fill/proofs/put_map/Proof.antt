@@ -6,41 +6,27 @@ use borrow.Author.Needs.{needs}
 use Rattle.cpi_fill.proofs.put_map.Statement.{statement}
 use Rattle.cpi_fill.proofs.put_map.Tie as tie
 
-add-u48-at : tie.Need-add-u48-at
-add-u48-at c = search needs
-
-u48-at-requires : tie.Need-u48-at-requires
-u48-at-requires c κs = search needs
-
-map-header-requires : tie.Need-map-header-requires
-map-header-requires c κs = search needs
-
-u16-at-requires : tie.Need-u16-at-requires
-u16-at-requires c κs = search needs
-
-put-row3-requires : tie.Need-put-row3-requires
-put-row3-requires c κs = search needs
-
-same-length : tie.Need-same-length
-same-length c = search needs
-
 returns : tie.Need-returns
 returns c =
-    let a = c .before .before .before .before .before .before .before .before .before .args in
+    let s : tie.Start = search in
+    let u48-at : tie.After-u48-at = search in
+    let h : tie.After-map-header = search in
+    let u16-at : tie.After-u16-at = search in
+    let put-row3 : tie.After-put-row3 = search in
+    let a = s .args in
     let f = now (a .file) in
-    let h = c .before .before .before .before .before .map-header in
-    let n = header-read f (a .q) (c .before .before .before .before .before .before .u48-at .result) (h .result) (c .before .before .before .before .before .before .u48-at .ensures .same) (h .ensures) in
-    map-stored f (now (a .table)) (a .q) (a .at) (c .before .before .before .before .u16-at .result) (h .result .«ep_stream_type») (h .result .«num_fine»)
-    (c .before .before .before .before .u16-at .ensures .same) (n .0) (n .2) (c .before .before .put-row3 .ensures)
+    let n = header-read f (a .q) (u48-at .u48-at .result) (h .map-header .result) (u48-at .u48-at .ensures .same) (h .map-header .ensures) in
+    map-stored f (now (a .table)) (a .q) (a .at) (u16-at .u16-at .result) (h .map-header .result .«ep_stream_type») (h .map-header .result .«num_fine»)
+    (u16-at .u16-at .ensures .same) (n .0) (n .2) (put-row3 .put-row3 .ensures)
 
 pub put-map-spec : {M : Type 1} → statement M
 put-map-spec =
     tie.close
     (tie.spec
-    add-u48-at
-    u48-at-requires
-    map-header-requires
-    u16-at-requires
-    put-row3-requires
-    same-length
+    (λ c. search needs)
+    (λ c κs. search needs)
+    (λ c κs. search needs)
+    (λ c κs. search needs)
+    (λ c κs. search needs)
+    (λ c. search needs)
     returns)

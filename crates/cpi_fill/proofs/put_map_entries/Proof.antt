@@ -11,31 +11,27 @@ use borrow.Author.Needs.{needs}
 use Rattle.cpi_fill.proofs.put_map_entries.Statement.{statement}
 use Rattle.cpi_fill.proofs.put_map_entries.Tie as tie
 
-map-body-requires : tie.Need-map-body-requires
-map-body-requires c κs = search needs
-
 put-entries-requires : tie.Need-put-entries-requires
 put-entries-requires c κs =
-    let s = c .before .before .before .before in
+    let s : tie.Start = search in
+    let m : tie.After-map-body = search in
     let a = s .args in
-    let m = c .before .map-body in
     record {
-      rows = rows-in (now (a .file)) (a .start) (a .q) (m .result) (m .ensures) (s .pre .map-in);
-      fits = omega (arith, own-count (now (a .file)) (a .start) (a .q) (m .result) (m .ensures), s .pre .fits);
+      rows = rows-in (now (a .file)) (a .start) (a .q) (m .map-body .result) (m .map-body .ensures) (s .pre .map-in);
+      fits = omega (arith, own-count (now (a .file)) (a .start) (a .q) (m .map-body .result) (m .map-body .ensures), s .pre .fits);
     }
-
-same-length : tie.Need-same-length
-same-length c = search needs
 
 returns : tie.Need-returns
 returns c =
-    let a = c .before .before .before .before .before .before .before .args in
-    let f = now (a .file) in
-    let m = c .before .before .before .before .map-body in (
-      own-count f (a .start) (a .q) (m .result) (m .ensures),
-      c .before .before .put-entries .ensures ∙ ap (λ (x : MapBody). sets (now (a .table)) (a .at) (tableBytes (entriesIn f x))) (m .ensures),
+    let s : tie.Start = search in
+    let m : tie.After-map-body = search in
+    let put-entries : tie.After-put-entries = search in
+    let a = s .args in
+    let f = now (a .file) in (
+      own-count f (a .start) (a .q) (m .map-body .result) (m .map-body .ensures),
+      put-entries .put-entries .ensures ∙ ap (λ (x : MapBody). sets (now (a .table)) (a .at) (tableBytes (entriesIn f x))) (m .map-body .ensures),
     )
 
 pub put-map-entries-spec : {M : Type 1} → statement M
 put-map-entries-spec =
-    tie.close (tie.spec map-body-requires put-entries-requires same-length returns)
+    tie.close (tie.spec (λ c κs. search needs) put-entries-requires (λ c. search needs) returns)

@@ -16,68 +16,60 @@ abbrev μ-loop : tie.MeasureT-loop
 μ-loop file start count end entries₀ k₀ entries k = count - k
 
 loop-holds : tie.Need-loop-holds Inv-loop μ-loop
-loop-holds c = let s = c .before in (omega arith, counting-first (now (s .args .file)) (s .args .start) (s .args .count) (s .pre .counted))
-
-add-map-rows : tie.Need-add-map-rows Inv-loop μ-loop
-add-map-rows c = search needs
-
-mul-map-rows : tie.Need-mul-map-rows Inv-loop μ-loop
-mul-map-rows c = search needs
-
-add-map-rows-2 : tie.Need-add-map-rows-2 Inv-loop μ-loop
-add-map-rows-2 c = search needs
+loop-holds c =
+    let s : tie.Start Inv-loop μ-loop = search in
+    (omega arith, counting-first (now (s .args .file)) (s .args .start) (s .args .count) (s .pre .counted))
 
 map-rows-requires : tie.Need-map-rows-requires Inv-loop μ-loop
 map-rows-requires c κs =
-    let s = c .before .before .before in
+    let s : tie.Start Inv-loop μ-loop = search in
     let h = s .pre .headers in
     let n = s .pre .small in
     record { small = n; start-in = omega arith; end-is = s .pre .end-is; end-in = s .pre .end-in; header = omega arith }
 
-enum-known-n : tie.Need-enum-known-n Inv-loop μ-loop
-enum-known-n c = search needs
-
-enum-told : tie.Need-enum-told Inv-loop μ-loop
-enum-told c = search needs
-
 returns : tie.Need-returns Inv-loop μ-loop
 returns c =
-    let s = c .before .before .before .before .before .before in
-    let l = c .before .before .before .before .loop in
-    counting-bad (now (s .args .file)) (s .args .start) (s .args .count) (s .pre .counted) (l .entries) (l .k) (l .inv .1) (c .before .before .before .loop-test .taken)
-    (sym (c .before .before .map-rows .ensures) ∙ c .enum-told .given .1)
+    let s : tie.Start Inv-loop μ-loop = search in
+    let turn : tie.At-loop Inv-loop μ-loop = search in
+    let t : tie.In-loop Inv-loop μ-loop = search in
+    let map-rows : tie.After-map-rows Inv-loop μ-loop = search in
+    let l = turn .loop in
+    counting-bad (now (s .args .file)) (s .args .start) (s .args .count) (s .pre .counted) (l .entries) (l .k) (l .inv .1) (t .loop-test .taken)
+    (sym (map-rows .map-rows .ensures) ∙ c .enum-told .given .1)
 
 add-entries : tie.Need-add-entries Inv-loop μ-loop
 add-entries c =
-    let s = c .before .before .before .before .before .before .before in
-    let l = c .before .before .before .before .before .loop in
+    let s : tie.Start Inv-loop μ-loop = search in
+    let turn : tie.At-loop Inv-loop μ-loop = search in
+    let map-rows : tie.After-map-rows Inv-loop μ-loop = search in
+    let n : tie.After-n Inv-loop μ-loop = search in
+    let l = turn .loop in
     let q = s .args .start + 8 + 12 * l .k in
-    let v = c .before .n .given in
+    let v = n .n .given in
     let h = s .pre .headers in
     let z = s .pre .small in
     let few = l .inv .1 .few in
-    omega (arith, map-said (now (s .args .file)) (s .args .start) q (v .0 .0) (sym (c .before .before .before .map-rows .ensures) ∙ v .1) .1, counts-small (now (s .args .file)) q .1)
-
-add-k : tie.Need-add-k Inv-loop μ-loop
-add-k c = search needs
-
-loop-less : tie.Need-loop-less Inv-loop μ-loop
-loop-less c = search needs
+    omega (arith, map-said (now (s .args .file)) (s .args .start) q (v .0 .0) (sym (map-rows .map-rows .ensures) ∙ v .1) .1, counts-small (now (s .args .file)) q .1)
 
 loop-again : tie.Need-loop-again Inv-loop μ-loop
 loop-again c =
-    let s = c .before .before .before .before .before .before .before in
-    let l = c .before .before .before .before .before .loop in
-    let v = c .before .n .given in (
+    let s : tie.Start Inv-loop μ-loop = search in
+    let turn : tie.At-loop Inv-loop μ-loop = search in
+    let t : tie.In-loop Inv-loop μ-loop = search in
+    let map-rows : tie.After-map-rows Inv-loop μ-loop = search in
+    let n : tie.After-n Inv-loop μ-loop = search in
+    let l = turn .loop in
+    let v = n .n .given in (
       omega arith,
-      counting-next (now (s .args .file)) (s .args .start) (s .args .count) (s .pre .counted) (l .entries) (l .k) (l .inv .1) (v .0 .0) (c .before .before .before .before .loop-test .taken)
-          (sym (c .before .before .before .map-rows .ensures) ∙ v .1),
+      counting-next (now (s .args .file)) (s .args .start) (s .args .count) (s .pre .counted) (l .entries) (l .k) (l .inv .1) (v .0 .0) (t .loop-test .taken)
+          (sym (map-rows .map-rows .ensures) ∙ v .1),
     )
 
 returns-2 : tie.Need-returns-2 Inv-loop μ-loop
 returns-2 c =
-    let s = c .before .before .before in
-    let l = c .before .loop in
+    let s : tie.Start Inv-loop μ-loop = search in
+    let turn : tie.At-loop Inv-loop μ-loop = search in
+    let l = turn .loop in
     counting-done (now (s .args .file)) (s .args .start) (s .args .count) (s .pre .counted) (l .entries) (l .k) (l .inv .1) (c .loop-test .left)
 
 pub measure-maps-spec : {M : Type 1} → statement M
@@ -87,15 +79,15 @@ measure-maps-spec =
     Inv-loop
     μ-loop
     loop-holds
-    add-map-rows
-    mul-map-rows
-    add-map-rows-2
+    (λ c. search needs)
+    (λ c. search needs)
+    (λ c. search needs)
     map-rows-requires
-    enum-known-n
-    enum-told
+    (λ c. search needs)
+    (λ c. search needs)
     returns
     add-entries
-    add-k
-    loop-less
+    (λ c. search needs)
+    (λ c. search needs)
     loop-again
     returns-2)
