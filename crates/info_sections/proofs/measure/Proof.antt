@@ -23,115 +23,121 @@ Inv-loop section file start count heads pos₀ rows₀ k₀ pos rows k =
 abbrev μ-loop : tie.MeasureT-loop
 μ-loop section file start count heads pos₀ rows₀ k₀ pos rows k = heads - k
 
--- the section, and the file
-abbrev kind : tie.After-known-told Inv-loop μ-loop → Section
-kind c = c .before .before .before .before .before .args .section
+-- the count of header rows is told
+module _ (k : tie.After-count Inv-loop μ-loop) where
+  -- the call's start
+  abbrev S : tie.Start Inv-loop μ-loop
+  S = search
 
-abbrev bytes : tie.After-known-told Inv-loop μ-loop → List ℕ
-bytes c = now (c .before .before .before .before .before .args .file)
+  -- the count as it is read
+  abbrev R : tie.After-read-count Inv-loop μ-loop
+  R = search
 
--- the count of header rows, and the first of them behind it
-front : (c : tie.After-known-told Inv-loop μ-loop)
-    → Got (bytes c) (c .before .before .before .before .before .args .start + 5) 1 (c .before .count .given .0 .0) (c .before .count .given .0 .1 .0)
-front c = got (bytes c) (c .before .before .before .before .before .args .start + 5) 1 (sym (c .before .count .given .1) ∙ c .before .before .before .read-count .ensures .same)
+  -- the section, and the file
+  abbrev kind : Section
+  kind = S .args .section
 
--- the count is a byte
-small : (c : tie.After-known-told Inv-loop μ-loop) → c .before .count .given .0 .0 < 256
-small c = rw (c .before .count .given .1) at (c .before .before .before .read-count .ensures .below)
+  abbrev bytes : List ℕ
+  bytes = now (S .args .file)
 
--- the section, the file, and the place of the header row that was passed
-abbrev own : tie.After-known-told2 Inv-loop μ-loop → Section
-own c = kind (c .before .before .before .before .before .before)
+  -- the count, and the first header row behind it
+  front : Got bytes (S .args .start + 5) 1 (k .count .given .0 .0) (k .count .given .0 .1 .0)
+  front = got bytes (S .args .start + 5) 1 (sym (k .count .given .1) ∙ R .read-count .ensures .same)
 
-abbrev file : tie.After-known-told2 Inv-loop μ-loop → List ℕ
-file c = bytes (c .before .before .before .before .before .before)
+  -- the count is a byte
+  small : k .count .given .0 .0 < 256
+  small = rw (k .count .given .1) at (R .read-count .ensures .below)
 
-abbrev place : tie.After-known-told2 Inv-loop μ-loop → ℕ
-place c = c .before .before .before .before .before .loop .pos
+-- the next header row is told
+module _ (n : tie.After-next Inv-loop μ-loop) where
+  -- the count
+  abbrev K : tie.After-count Inv-loop μ-loop
+  K = search
 
--- the header row at the reader ends with its own rows within the file, and the next one stands behind them
-passed : (c : tie.After-known-told2 Inv-loop μ-loop)
-    → (nextHead (own c) (file c) (place c) ≤ length (file c))
-    × (c .before .next .given .0 .0 .pos ≡ nextHead (own c) (file c) (place c))
-passed c = went (file c) (nextHead (own c) (file c) (place c)) (sym (c .before .next .given .1) ∙ c .before .before .before .skip-group .ensures)
+  -- the turn's values
+  abbrev L : tie.At-loop Inv-loop μ-loop
+  L = search
 
-read-count-requires : tie.Need-read-count-requires Inv-loop μ-loop
-read-count-requires c κs = search needs
+  -- the header row that was passed
+  abbrev G : tie.After-skip-group Inv-loop μ-loop
+  G = search
 
-enum-known-count : tie.Need-enum-known-count Inv-loop μ-loop
-enum-known-count c = search needs
+  -- the section, the file, and the place of that header row
+  abbrev own : Section
+  own = kind K
 
-enum-told : tie.Need-enum-told Inv-loop μ-loop
-enum-told c = search needs
+  abbrev file : List ℕ
+  file = bytes K
+
+  abbrev place : ℕ
+  place = L .loop .pos
+
+  -- it ends with its own rows within the file, and the next one stands behind them
+  passed : (nextHead own file place ≤ length file) × (n .next .given .0 .0 .pos ≡ nextHead own file place)
+  passed = went file (nextHead own file place) (sym (n .next .given .1) ∙ G .skip-group .ensures)
 
 returns : tie.Need-returns Inv-loop μ-loop
 returns c =
-    let a = c .before .before .before .before .args in
+    let s′ : tie.Start Inv-loop μ-loop = search in
+    let read-count : tie.After-read-count Inv-loop μ-loop = search in
+    let a = s′ .args in
     let s = a .section in
     let f = now (a .file) in
-    let cut = not-got f (a .start + 5) 1 (sym (c .enum-told .given .1) ∙ c .before .before .read-count .ensures .same) in
+    let cut = not-got f (a .start + 5) 1 (sym (c .enum-told .given .1) ∙ read-count .read-count .ensures .same) in
     section-short Measured.Counts Measured.PastEnd (headAt s f) (ownRows s f) (nextHead s f) f (a .start) (up-head s f) (omega arith) ∙ measured-as s f (a .start)
 
 loop-holds : tie.Need-loop-holds Inv-loop μ-loop
 loop-holds c =
-    let f = bytes c in
-    let g = front c in
-    (along-first (nextHead (kind c) f) (omega (arith, g .inside, g .behind)), counted-first (ownRows (kind c) f) (nextHead (kind c) f))
-
-skip-group-requires : tie.Need-skip-group-requires Inv-loop μ-loop
-skip-group-requires c κs = search needs
-
-enum-known-next : tie.Need-enum-known-next Inv-loop μ-loop
-enum-known-next c = search needs
-
-enum-told-2 : tie.Need-enum-told-2 Inv-loop μ-loop
-enum-told-2 c = search needs
+    let k : tie.After-count Inv-loop μ-loop = search in
+    let g = front k in
+    (along-first (nextHead (kind k) (bytes k)) (omega (arith, g .inside, g .behind)), counted-first (ownRows (kind k) (bytes k)) (nextHead (kind k) (bytes k)))
 
 returns-2 : tie.Need-returns-2 Inv-loop μ-loop
 returns-2 c =
-    let l = c .before .before .before .before .loop in
-    let start = c .before .before .before .before .before in
-    let a = start .before .before .before .before .before .args in
-    let s = a .section in
-    let f = now (a .file) in
-    let g = front start in
-    section-past Measured.Counts Measured.PastEnd (headAt s f) (ownRows s f) (nextHead s f) f (a .start) (g .value) (omega (arith, g .behind)) (l .inv .0) (up-head s f)
-    (c .before .before .before .loop-test .taken) (stayed f (nextHead s f (l .pos)) (sym (c .enum-told2 .given .1) ∙ c .before .before .skip-group .ensures))
-    ∙ measured-as s f (a .start)
+    let k : tie.After-count Inv-loop μ-loop = search in
+    let turn : tie.At-loop Inv-loop μ-loop = search in
+    let t : tie.In-loop Inv-loop μ-loop = search in
+    let group : tie.After-skip-group Inv-loop μ-loop = search in
+    let l = turn .loop in
+    let s = kind k in
+    let f = bytes k in
+    let at = S k .args .start in
+    let g = front k in
+    section-past Measured.Counts Measured.PastEnd (headAt s f) (ownRows s f) (nextHead s f) f at (g .value) (omega (arith, g .behind)) (l .inv .0) (up-head s f)
+    (t .loop-test .taken) (stayed f (nextHead s f (l .pos)) (sym (c .enum-told2 .given .1) ∙ group .skip-group .ensures))
+    ∙ measured-as s f at
 
 own-count-requires : tie.Need-own-count-requires Inv-loop μ-loop
-own-count-requires c κs = le-trans (count-before (own c) (file c) (place c)) (passed c .0)
-
-cast-rows : tie.Need-cast-rows Inv-loop μ-loop
-cast-rows c = search needs
+own-count-requires c κs = let n : tie.After-next Inv-loop μ-loop = search in le-trans (count-before (own n) (file n) (place n)) (passed n .0)
 
 add-rows : tie.Need-add-rows Inv-loop μ-loop
-add-rows c = omega (arith, c .before .before .before .before .before .before .loop .inv .1 .small, small (c .before .before .before .before .before .before .before))
-
-add-k : tie.Need-add-k Inv-loop μ-loop
-add-k c = search needs
-
-loop-less : tie.Need-loop-less Inv-loop μ-loop
-loop-less c = search needs
+add-rows c =
+    let n : tie.After-next Inv-loop μ-loop = search in
+    omega (arith, L n .loop .inv .1 .small, small (K n))
 
 loop-again : tie.Need-loop-again Inv-loop μ-loop
 loop-again c =
-    let l = c .before .before .before .before .before .before .loop in
-    let more = c .before .before .before .before .before .loop-test .taken in
-    let next = passed (c .before) in (
+    let t : tie.In-loop Inv-loop μ-loop = search in
+    let n : tie.After-next Inv-loop μ-loop = search in
+    let o : tie.After-own-count Inv-loop μ-loop = search in
+    let l = L n .loop in
+    let more = t .loop-test .taken in
+    let next = passed n in (
       along-turn (l .inv .0) more (next .1) (omega (arith, next .0, next .1)),
-      counted-turn (l .inv .1) more (next .1) (c .own-count .ensures .same ∙ sym (own-length (own (c .before)) (file (c .before)) (l .pos))) (c .own-count .ensures .below),
+      counted-turn (l .inv .1) more (next .1) (o .own-count .ensures .same ∙ sym (own-length (own n) (file n) (l .pos))) (o .own-count .ensures .below),
     )
 
 returns-3 : tie.Need-returns-3 Inv-loop μ-loop
 returns-3 c =
-    let l = c .before .loop in
-    let a = c .before .before .before .before .before .before .before .args in
-    let s = a .section in
-    let f = now (a .file) in
-    let g = front (c .before .before) in
-    section-done Measured.Counts Measured.PastEnd (headAt s f) (ownRows s f) (nextHead s f) f (a .start) (g .value) (omega (arith, g .behind)) (l .inv .0) (l .inv .1) (c .loop-test .left)
-    ∙ measured-as s f (a .start)
+    let k : tie.After-count Inv-loop μ-loop = search in
+    let turn : tie.At-loop Inv-loop μ-loop = search in
+    let l = turn .loop in
+    let s = kind k in
+    let f = bytes k in
+    let at = S k .args .start in
+    let g = front k in
+    section-done Measured.Counts Measured.PastEnd (headAt s f) (ownRows s f) (nextHead s f) f at (g .value) (omega (arith, g .behind)) (l .inv .0) (l .inv .1) (c .loop-test .left)
+    ∙ measured-as s f at
 
 pub measure-spec : {M : Type 1} → statement M
 measure-spec =
@@ -139,19 +145,19 @@ measure-spec =
     (tie.spec
     Inv-loop
     μ-loop
-    read-count-requires
-    enum-known-count
-    enum-told
+    (λ c κs. search needs)
+    (λ c. search needs)
+    (λ c. search needs)
     returns
     loop-holds
-    skip-group-requires
-    enum-known-next
-    enum-told-2
+    (λ c κs. search needs)
+    (λ c. search needs)
+    (λ c. search needs)
     returns-2
     own-count-requires
-    cast-rows
+    (λ c. search needs)
     add-rows
-    add-k
-    loop-less
+    (λ c. search needs)
+    (λ c. search needs)
     loop-again
     returns-3)

@@ -8,25 +8,22 @@ enum-told : tie.Need-enum-told
 enum-told c = search needs
 
 add-u8-at : tie.Need-add-u8-at
-add-u8-at c = omega (arith, rw (c .enum-told .given .1) at (c .before .before .before .pre))
+add-u8-at c = let s : tie.Start = search in omega (arith, rw (c .enum-told .given .1) at (s .pre))
 
 u8-at-requires : tie.Need-u8-at-requires
-u8-at-requires c κs = rw (c .enum-told .given .1) at (c .before .before .before .pre)
-
-enum-told-2 : tie.Need-enum-told-2
-enum-told-2 c = search needs
+u8-at-requires c κs = let s : tie.Start = search in rw (c .enum-told .given .1) at (s .pre)
 
 add-u8-at-2 : tie.Need-add-u8-at-2
-add-u8-at-2 c = omega (arith, rw (c .enum-told2 .given .1) at (c .before .before .before .pre))
+add-u8-at-2 c = let s : tie.Start = search in omega (arith, rw (c .enum-told2 .given .1) at (s .pre))
 
 u8-at-requires-2 : tie.Need-u8-at-requires-2
-u8-at-requires-2 c κs = rw (c .enum-told2 .given .1) at (c .before .before .before .pre)
+u8-at-requires-2 c κs = let s : tie.Start = search in rw (c .enum-told2 .given .1) at (s .pre)
 
 returns : tie.Need-returns
-returns c = rw (c .before .enum-told .given .1) (c .u8-at .ensures)
+returns c = let enum-told : tie.After-enum-told = search in rw (enum-told .enum-told .given .1) (c .u8-at .ensures)
 
 returns-2 : tie.Need-returns-2
-returns-2 c = rw (c .before .enum-told2 .given .1) (c .u8-at2 .ensures)
+returns-2 c = let enum-told2 : tie.After-enum-told2 = search in rw (enum-told2 .enum-told2 .given .1) (c .u8-at2 .ensures)
 
 pub own-count-spec : {M : Type 1} → statement M
 own-count-spec =
@@ -35,7 +32,7 @@ own-count-spec =
     enum-told
     add-u8-at
     u8-at-requires
-    enum-told-2
+    (λ c. search needs)
     add-u8-at-2
     u8-at-requires-2
     returns

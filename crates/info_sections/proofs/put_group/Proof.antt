@@ -13,93 +13,95 @@ use borrow.Author.Needs.{needs}
 use Rattle.info_sections.proofs.put_group.Statement.{statement}
 use Rattle.info_sections.proofs.put_group.Tie as tie
 
+-- the call's start, where the section's kind is told
+abbrev atc-start : tie.After-enum-told → tie.Start
+atc-start t = search
+
+abbrev program-start : tie.After-enum-told2 → tie.Start
+program-start t = search
+
 -- an ATC and its STCs are there
-atc-there : (c : tie.After-enum-told) → let a = c .before .before .before .before .before .args in
+atc-there : (t : tie.After-enum-told) → let a = atc-start t .args in
     GroupThere Section.Sequences (now (a .file)) (a .p) (a .n) (now (a .heads)) (a .at) (now (a .rows)) (a .to)
-atc-there c = rw (c .enum-told .given .1) at (c .before .before .before .before .before .pre)
+atc-there t = let s : tie.Start = search in rw (t .enum-told .given .1) at (s .pre)
 
 -- a program and its streams are there
-program-there : (c : tie.After-enum-told2) → let a = c .before .before .before .before .before .args in
+program-there : (t : tie.After-enum-told2) → let a = program-start t .args in
     GroupThere Section.Programs (now (a .file)) (a .p) (a .n) (now (a .heads)) (a .at) (now (a .rows)) (a .to)
-program-there c = rw (c .enum-told2 .given .1) at (c .before .before .before .before .before .pre)
-
-enum-told : tie.Need-enum-told
-enum-told c = search needs
+program-there t = let s : tie.Start = search in rw (t .enum-told2 .given .1) at (s .pre)
 
 put-atc-requires : tie.Need-put-atc-requires
 put-atc-requires c κs =
-    let a = c .before .before .before .before .before .before .args in
-    let g = atc-there (c .before) in
+    let t : tie.After-enum-told = search in
+    let a = atc-start t .args in
+    let g = atc-there t in
     (omega (arith, g .ends, atc-head (now (a .file)) (a .p)), g .head-room)
 
 add-put-stcs : tie.Need-add-put-stcs
 add-put-stcs c =
-    let a = c .before .before .before .before .before .before .before .before .before .args in
-    omega (arith, atc-there (c .before .before .before .before) .ends, atc-head (now (a .file)) (a .p))
+    let t : tie.After-enum-told = search in
+    let a = atc-start t .args in
+    omega (arith, atc-there t .ends, atc-head (now (a .file)) (a .p))
 
 put-stcs-requires : tie.Need-put-stcs-requires
-put-stcs-requires c κs = let g = atc-there (c .before .before .before .before .before) in (rw (g .says) (g .ends), g .rows-room)
-
-enum-told-2 : tie.Need-enum-told-2
-enum-told-2 c = search needs
+put-stcs-requires c κs =
+    let t : tie.After-enum-told = search in
+    let g = atc-there t in
+    (rw (g .says) (g .ends), g .rows-room)
 
 put-program-requires : tie.Need-put-program-requires
 put-program-requires c κs =
-    let a = c .before .before .before .before .before .before .args in
-    let g = program-there (c .before) in
+    let t : tie.After-enum-told2 = search in
+    let a = program-start t .args in
+    let g = program-there t in
     (omega (arith, g .ends, program-head (now (a .file)) (a .p)), g .head-room)
 
 add-put-streams : tie.Need-add-put-streams
 add-put-streams c =
-    let a = c .before .before .before .before .before .before .before .before .before .args in
-    omega (arith, program-there (c .before .before .before .before) .ends, program-head (now (a .file)) (a .p))
+    let t : tie.After-enum-told2 = search in
+    let a = program-start t .args in
+    omega (arith, program-there t .ends, program-head (now (a .file)) (a .p))
 
 put-streams-requires : tie.Need-put-streams-requires
-put-streams-requires c κs = let g = program-there (c .before .before .before .before .before) in (rw (g .says) (g .ends), g .rows-room)
-
-same-length : tie.Need-same-length
-same-length c = search needs
-
-same-length-2 : tie.Need-same-length-2
-same-length-2 c = search needs
+put-streams-requires c κs =
+    let t : tie.After-enum-told2 = search in
+    let g = program-there t in
+    (rw (g .says) (g .ends), g .rows-room)
 
 returns : tie.Need-returns
 returns c =
-    let told = c .before .before .before .before .before .before .before .before in
-    let a = told .before .before .before .before .before .args in
-    let says = atc-there told .says in
-    let put = c .before .before .put-stcs .ensures in
-    rw (told .enum-told .given .1) (put .0 ∙ ap (endOf nextStc (a .p + 6)) says, (c .before .before .before .before .before .before .put-atc .ensures, rw says at (put .1)))
-
-same-length-3 : tie.Need-same-length-3
-same-length-3 c = search needs
-
-same-length-4 : tie.Need-same-length-4
-same-length-4 c = search needs
+    let t : tie.After-enum-told = search in
+    let head : tie.After-put-atc = search in
+    let rows : tie.After-put-stcs = search in
+    let says = atc-there t .says in
+    let put = rows .put-stcs .ensures in
+    rw (t .enum-told .given .1) (put .0 ∙ ap (endOf nextStc (atc-start t .args .p + 6)) says, (head .put-atc .ensures, rw says at (put .1)))
 
 returns-2 : tie.Need-returns-2
 returns-2 c =
-    let told = c .before .before .before .before .before .before .before .before in
-    let a = told .before .before .before .before .before .args in
-    let says = program-there told .says in
-    let put = c .before .before .put-streams .ensures in
-    rw (told .enum-told2 .given .1) (put .0 ∙ ap (endOf (nextStream (now (a .file))) (a .p + 8)) says, (c .before .before .before .before .before .before .put-program .ensures, rw says at (put .1)))
+    let t : tie.After-enum-told2 = search in
+    let head : tie.After-put-program = search in
+    let rows : tie.After-put-streams = search in
+    let a = program-start t .args in
+    let says = program-there t .says in
+    let put = rows .put-streams .ensures in
+    rw (t .enum-told2 .given .1) (put .0 ∙ ap (endOf (nextStream (now (a .file))) (a .p + 8)) says, (head .put-program .ensures, rw says at (put .1)))
 
 pub put-group-spec : {M : Type 1} → statement M
 put-group-spec =
     tie.close
     (tie.spec
-    enum-told
+    (λ c. search needs)
     put-atc-requires
     add-put-stcs
     put-stcs-requires
-    enum-told-2
+    (λ c. search needs)
     put-program-requires
     add-put-streams
     put-streams-requires
-    same-length
-    same-length-2
+    (λ c. search needs)
+    (λ c. search needs)
     returns
-    same-length-3
-    same-length-4
+    (λ c. search needs)
+    (λ c. search needs)
     returns-2)
