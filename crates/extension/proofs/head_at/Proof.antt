@@ -11,145 +11,153 @@ use Rattle.extension.proofs.head_at.Statement.{statement}
 use Rattle.extension.proofs.head_at.Tie as tie
 
 -- the reader stands at the block
-module _ (c : tie.After-known-told) where
+module _ (b : tie.After-front) where
+  -- the call's start
+  abbrev S : tie.Start
+  S = search
+
+  -- the reader's way to it
+  abbrev K : tie.After-seek
+  K = search
+
+  -- the file, and the block's start
   abbrev file : List ℕ
-  file = now (c .before .before .before .before .before .before .before .before .args .file)
+  file = now (S .args .file)
 
   abbrev start : ℕ
-  start = c .before .before .before .before .before .before .before .before .args .start
+  start = S .args .start
 
-  at-front : c .before .front .given .0 .0 .pos ≡ start
-  at-front = went file start (sym (c .before .front .given .1) ∙ c .before .before .before .seek .ensures) .1
+  -- where the reader stands
+  at-front : b .front .given .0 .0 .pos ≡ start
+  at-front = went file start (sym (b .front .given .1) ∙ K .seek .ensures) .1
 
 -- the block length is read
-got-length : (c : tie.After-known-told2) → Got (file (c .before .before .before .before)) (start (c .before .before .before .before)) 4 (c .before .length .given .0 .0) (c .before .length .given .0 .1 .0)
-got-length c =
-    let b = c .before .before .before .before in
-    got (file b) (start b) 4 (rw (at-front b) at (sym (c .before .length .given .1) ∙ c .before .before .before .read-u32 .ensures .same))
+module _ (l : tie.After-length) where
+  -- the block's front
+  abbrev B : tie.After-front
+  B = search
 
-length-below : (c : tie.After-known-told2) → c .before .length .given .0 .0 < 4294967296
-length-below c = rw (c .before .length .given .1) at (c .before .before .before .read-u32 .ensures .below)
+  -- it is the file's
+  got-length : Got (file B) (start B) 4 (l .length .given .0 .0) (l .length .given .0 .1 .0)
+  got-length =
+      let b : tie.After-front = search in
+      let r : tie.After-read-u32 = search in
+      got (file b) (start b) 4 (rw (at-front b) at (sym (l .length .given .1) ∙ r .read-u32 .ensures .same))
+
+  -- and has 32 bits
+  length-below : l .length .given .0 .0 < 4294967296
+  length-below = let r : tie.After-read-u32 = search in rw (l .length .given .1) at (r .read-u32 .ensures .below)
 
 -- the reader stands at the count
-at-count : (c : tie.After-known-told3) → c .before .count .given .0 .0 .pos ≡ start (c .before .before .before .before .before .before .before .before .before) + 11
-at-count c =
-    let b = c .before .before .before .before .before .before .before .before .before in
-    let l = got-length (c .before .before .before .before .before) in
-    went (file b) (start b + 11) (rw (l .behind, seven (start b)) at (sym (c .before .count .given .1) ∙ c .before .before .before .skip .ensures)) .1
+module _ (k : tie.After-count) where
+  -- the block length
+  abbrev L : tie.After-length
+  L = search
+
+  -- where the reader stands
+  at-count : k .count .given .0 .0 .pos ≡ start (B L) + 11
+  at-count =
+      let b : tie.After-front = search in
+      let l : tie.After-length = search in
+      let p : tie.After-skip = search in
+      went (file b) (start b + 11) (rw (got-length l .behind, seven (start b)) at (sym (k .count .given .1) ∙ p .skip .ensures)) .1
 
 -- the count is read
-got-count : (c : tie.After-known-told4) → Got (file (c .before .before .before .before .before .before .before .before .before .before .before .before .before)) (start (c .before .before .before .before .before .before .before .before .before .before .before .before .before) + 11) 1 (c .before .n .given .0 .0) (c .before .n .given .0 .1 .0)
-got-count c =
-    let b = c .before .before .before .before .before .before .before .before .before .before .before .before .before in
-    got (file b) (start b + 11) 1 (rw (at-count (c .before .before .before .before)) at (sym (c .before .n .given .1) ∙ c .before .before .before .read-u8 .ensures .same))
+module _ (n : tie.After-n) where
+  -- its place
+  abbrev C : tie.After-count
+  C = search
+
+  -- it is the file's
+  got-count : Got (file (B (L C))) (start (B (L C)) + 11) 1 (n .n .given .0 .0) (n .n .given .0 .1 .0)
+  got-count =
+      let k : tie.After-count = search in
+      let r : tie.After-read-u8 = search in
+      got (file (B (L k))) (start (B (L k)) + 11) 1 (rw (at-count k) at (sym (n .n .given .1) ∙ r .read-u8 .ensures .same))
 
 returns : tie.Need-returns
-returns c = at-zero (now (c .before .before .args .file)) (c .before .before .args .start) (c .if1 .taken)
+returns c = let s : tie.Start = search in at-zero (now (s .args .file)) (s .args .start) (c .if1 .taken)
 
 returns-2 : tie.Need-returns-2
-returns-2 c = at-end (now (c .before .before .before .args .file)) (c .before .before .before .args .start) (c .if2 .taken)
-
-new-requires : tie.Need-new-requires
-new-requires c κs = search needs
-
-seek-requires : tie.Need-seek-requires
-seek-requires c κs = search needs
-
-enum-known-front : tie.Need-enum-known-front
-enum-known-front c = search needs
-
-enum-told : tie.Need-enum-told
-enum-told c = search needs
+returns-2 c = let s : tie.Start = search in at-end (now (s .args .file)) (s .args .start) (c .if2 .taken)
 
 returns-3 : tie.Need-returns-3
 returns-3 c =
-    let a = c .before .before .before .before .before .before .before .args in
-    too-short (now (a .file)) (a .start) (omega (arith, stayed (now (a .file)) (a .start) (sym (c .enum-told .given .1) ∙ c .before .before .seek .ensures)))
-
-read-u32-requires : tie.Need-read-u32-requires
-read-u32-requires c κs = search needs
-
-enum-known-length : tie.Need-enum-known-length
-enum-known-length c = search needs
-
-enum-told-2 : tie.Need-enum-told-2
-enum-told-2 c = search needs
+    let s : tie.Start = search in
+    let k : tie.After-seek = search in
+    let f = now (s .args .file) in
+    too-short f (s .args .start) (omega (arith, stayed f (s .args .start) (sym (c .enum-told .given .1) ∙ k .seek .ensures)))
 
 returns-4 : tie.Need-returns-4
 returns-4 c =
-    let b = c .before .before .before in
-    too-short (file b) (start b) (omega (arith, not-got (file b) (start b) 4 (rw (at-front b) at (sym (c .enum-told2 .given .1) ∙ c .before .before .read-u32 .ensures .same))))
+    let b : tie.After-front = search in
+    let r : tie.After-read-u32 = search in
+    too-short (file b) (start b) (omega (arith, not-got (file b) (start b) 4 (rw (at-front b) at (sym (c .enum-told2 .given .1) ∙ r .read-u32 .ensures .same))))
 
 returns-5 : tie.Need-returns-5
-returns-5 c = let b = c .before .before .before .before .before in no-length (file b) (start b) (got-length (c .before) .value) (c .if3 .taken)
-
-skip-requires : tie.Need-skip-requires
-skip-requires c κs = search needs
-
-enum-known-count : tie.Need-enum-known-count
-enum-known-count c = search needs
-
-enum-told-3 : tie.Need-enum-told-3
-enum-told-3 c = search needs
+returns-5 c =
+    let l : tie.After-length = search in
+    no-length (file (B l)) (start (B l)) (got-length l .value) (c .if3 .taken)
 
 returns-6 : tie.Need-returns-6
 returns-6 c =
-    let b = c .before .before .before .before .before .before .before .before in
-    let next = c .before .before .before .before .before .length .given .0 .1 .0 in
-    too-short (file b) (start b) (omega (arith, got-length (c .before .before .before .before) .behind, stayed (file b) (next .pos + 7) (sym (c .enum-told3 .given .1) ∙ c .before .before .skip .ensures)))
-
-read-u8-requires : tie.Need-read-u8-requires
-read-u8-requires c κs = search needs
-
-enum-known-n : tie.Need-enum-known-n
-enum-known-n c = search needs
-
-enum-told-4 : tie.Need-enum-told-4
-enum-told-4 c = search needs
+    let l : tie.After-length = search in
+    let p : tie.After-skip = search in
+    let next = l .length .given .0 .1 .0 in
+    too-short (file (B l)) (start (B l)) (omega (arith, got-length l .behind, stayed (file (B l)) (next .pos + 7) (sym (c .enum-told3 .given .1) ∙ p .skip .ensures)))
 
 returns-7 : tie.Need-returns-7
 returns-7 c =
-    let b = c .before .before .before .before .before .before .before .before .before .before .before .before in
-    too-short (file b) (start b) (omega (arith, not-got (file b) (start b + 11) 1 (rw (at-count (c .before .before .before)) at (sym (c .enum-told4 .given .1) ∙ c .before .before .read-u8 .ensures .same))))
+    let k : tie.After-count = search in
+    let r : tie.After-read-u8 = search in
+    let b = B (L k) in
+    too-short (file b) (start b) (omega (arith, not-got (file b) (start b + 11) 1 (rw (at-count k) at (sym (c .enum-told4 .given .1) ∙ r .read-u8 .ensures .same))))
 
 mul-skip : tie.Need-mul-skip
-mul-skip c = omega (arith, rw (c .before .n .given .1) at (c .before .before .before .read-u8 .ensures .below))
-
-skip-requires-2 : tie.Need-skip-requires-2
-skip-requires-2 c κs = search needs
-
-enum-told-5 : tie.Need-enum-told-5
-enum-told-5 c = search needs
-
-enum-told-6 : tie.Need-enum-told-6
-enum-told-6 c = search needs
+mul-skip c =
+    let n : tie.After-n = search in
+    let r : tie.After-read-u8 = search in
+    omega (arith, rw (n .n .given .1) at (r .read-u8 .ensures .below))
 
 returns-8 : tie.Need-returns-8
 returns-8 c =
-    let b = c .before .before .before .before .before .before .before .before .before .before .before .before .before .before .before .before in
-    let next = c .before .before .before .before .n .given .0 .1 .0 in
-    let n = c .before .before .before .before .n .given .0 .0 in
-    let count = got-count (c .before .before .before) in
-    too-short (file b) (start b) (omega (arith, count .value, count .behind, stayed (file b) (next .pos + 12 * n) (sym (c .enum-told6 .given .1) ∙ c .before .before .skip2 .ensures)))
+    let n : tie.After-n = search in
+    let p : tie.After-skip2 = search in
+    let b = B (L (C n)) in
+    let count = got-count n in
+    too-short (file b) (start b) (omega (arith, count .value, count .behind, stayed (file b) (n .n .given .0 .1 .0 .pos + 12 * n .n .given .0 .0) (sym (c .enum-told6 .given .1) ∙ p .skip2 .ensures)))
 
 add-smaller : tie.Need-add-smaller
-add-smaller c = omega (arith, got-length (c .before .before .before .before .before .before .before .before .before .before .before .before) .inside, c .before .before .before .before .before .before .before .before .before .before .before .before .before .before .before .before .before .before .before .before .before .before .before .before .pre)
+add-smaller c =
+    let n : tie.After-n = search in
+    let l = L (C n) in
+    omega (arith, got-length l .inside, S (B l) .pre)
 
 add-smaller-2 : tie.Need-add-smaller-2
-add-smaller-2 c = omega (arith, got-length (c .before .before .before .before .before .before .before .before .before .before .before .before) .inside, length-below (c .before .before .before .before .before .before .before .before .before .before .before .before), c .before .before .before .before .before .before .before .before .before .before .before .before .before .before .before .before .before .before .before .before .before .before .before .before .pre)
+add-smaller-2 c =
+    let n : tie.After-n = search in
+    let l = L (C n) in
+    omega (arith, got-length l .inside, length-below l, S (B l) .pre)
 
-smaller-requires : tie.Need-smaller-requires
-smaller-requires c κs = search needs
+-- where the block's length is not 0, the block is not past the file's end, and its start is not 0
+module _ (e : tie.Else3) where
+  abbrev E2 : tie.Else2
+  E2 = search
+
+  abbrev E1 : tie.Else1
+  E1 = search
 
 returns-9 : tie.Need-returns-9
 returns-9 c =
-    let b = c .before .before .before .before .before .before .before .before .before .before .before .before .before .before .before .before .before in
-    let l = got-length (c .before .before .before .before .before .before .before .before .before .before .before .before .before) in
-    let count = got-count (c .before .before .before .before) in
-    let next = c .before .before .before .before .before .n .given .0 .1 .0 in
-    let n = c .before .before .before .before .before .n .given .0 .0 in
-    let all = went (file b) (next .pos + 12 * n) (sym (c .before .enum-told5 .given .1) ∙ c .before .before .before .skip2 .ensures) in
-    entries (file b) (start b) (b .before .before .before .before .before .before .if1 .left) (b .before .before .before .before .before .if2 .left) (l .value) (c .before .before .before .before .before .before .before .before .before .before .before .before .if3 .left) (count .value) (omega (arith, count .behind, all .0)) (c .smaller .ensures)
+    let n : tie.After-n = search in
+    let p : tie.After-skip2 = search in
+    let e : tie.Else3 = search in
+    let told : tie.After-enum-told5 = search in
+    let l = L (C n) in
+    let b = B l in
+    let count = got-count n in
+    let all = went (file b) (n .n .given .0 .1 .0 .pos + 12 * n .n .given .0 .0) (sym (told .enum-told5 .given .1) ∙ p .skip2 .ensures) in
+    entries (file b) (start b) (E1 e .if1 .left) (E2 e .if2 .left) (got-length l .value) (e .if3 .left) (count .value) (omega (arith, count .behind, all .0)) (c .smaller .ensures)
 
 pub head-at-spec : {M : Type 1} → statement M
 head-at-spec =
@@ -157,30 +165,30 @@ head-at-spec =
     (tie.spec
     returns
     returns-2
-    new-requires
-    seek-requires
-    enum-known-front
-    enum-told
+    (λ c κs. search needs)
+    (λ c κs. search needs)
+    (λ c. search needs)
+    (λ c. search needs)
     returns-3
-    read-u32-requires
-    enum-known-length
-    enum-told-2
+    (λ c κs. search needs)
+    (λ c. search needs)
+    (λ c. search needs)
     returns-4
     returns-5
-    skip-requires
-    enum-known-count
-    enum-told-3
+    (λ c κs. search needs)
+    (λ c. search needs)
+    (λ c. search needs)
     returns-6
-    read-u8-requires
-    enum-known-n
-    enum-told-4
+    (λ c κs. search needs)
+    (λ c. search needs)
+    (λ c. search needs)
     returns-7
     mul-skip
-    skip-requires-2
-    enum-told-5
-    enum-told-6
+    (λ c κs. search needs)
+    (λ c. search needs)
+    (λ c. search needs)
     returns-8
     add-smaller
     add-smaller-2
-    smaller-requires
+    (λ c κs. search needs)
     returns-9)

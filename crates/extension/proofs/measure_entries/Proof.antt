@@ -13,43 +13,31 @@ Inv-loop file start n end rows₀ list₀ p₀ k₀ rows list p k = Counted file
 abbrev μ-loop : tie.MeasureT-loop
 μ-loop file start n end rows₀ list₀ p₀ k₀ rows list p k = n - k
 
-add-p : tie.Need-add-p Inv-loop μ-loop
-add-p c = search needs
-
 loop-holds : tie.Need-loop-holds Inv-loop μ-loop
-loop-holds c = none-counted (now (c .before .args .file)) (c .before .args .start) (c .before .args .n)
-
-entry-at-requires : tie.Need-entry-at-requires Inv-loop μ-loop
-entry-at-requires c κs = search needs
-
-rows-of-requires : tie.Need-rows-of-requires Inv-loop μ-loop
-rows-of-requires c κs = search needs
+loop-holds c = let s : tie.Start Inv-loop μ-loop = search in none-counted (now (s .args .file)) (s .args .start) (s .args .n)
 
 add-rows : tie.Need-add-rows Inv-loop μ-loop
-add-rows c = omega (arith, one-row (c .before .entry-at .result), c .rows-of .ensures, c .before .before .before .loop .inv .few)
-
-listed-requires : tie.Need-listed-requires Inv-loop μ-loop
-listed-requires c κs = search needs
-
-add-p-2 : tie.Need-add-p-2 Inv-loop μ-loop
-add-p-2 c = search needs
-
-add-k : tie.Need-add-k Inv-loop μ-loop
-add-k c = search needs
-
-loop-less : tie.Need-loop-less Inv-loop μ-loop
-loop-less c = search needs
+add-rows c =
+    let turn : tie.At-loop Inv-loop μ-loop = search in
+    let entry-at : tie.After-entry-at Inv-loop μ-loop = search in
+    omega (arith, one-row (entry-at .entry-at .result), c .rows-of .ensures, turn .loop .inv .few)
 
 loop-again : tie.Need-loop-again Inv-loop μ-loop
 loop-again c =
-    let a = c .before .before .before .before .before .before .args in
-    let l = c .before .before .before .before .loop in
-    one-counted (now (a .file)) (a .start) (a .n) (c .before .before .entry-at .result) (c .before .before .before .loop-test .taken) (c .before .before .entry-at .ensures) (c .before .rows-of .ensures) (c .listed .ensures) (l .inv)
+    let s : tie.Start Inv-loop μ-loop = search in
+    let turn : tie.At-loop Inv-loop μ-loop = search in
+    let t : tie.In-loop Inv-loop μ-loop = search in
+    let entry-at : tie.After-entry-at Inv-loop μ-loop = search in
+    let rows-of : tie.After-rows-of Inv-loop μ-loop = search in
+    let a = s .args in
+    let l = turn .loop in
+    one-counted (now (a .file)) (a .start) (a .n) (entry-at .entry-at .result) (t .loop-test .taken) (entry-at .entry-at .ensures) (rows-of .rows-of .ensures) (c .listed .ensures) (l .inv)
 
 returns : tie.Need-returns Inv-loop μ-loop
 returns c =
-    let s = c .before .before .before in
-    all-counted (now (s .args .file)) (s .args .start) (s .args .n) (c .loop-test .left) (s .pre .few) (c .before .loop .inv)
+    let s : tie.Start Inv-loop μ-loop = search in
+    let turn : tie.At-loop Inv-loop μ-loop = search in
+    all-counted (now (s .args .file)) (s .args .start) (s .args .n) (c .loop-test .left) (s .pre .few) (turn .loop .inv)
 
 pub measure-entries-spec : {M : Type 1} → statement M
 measure-entries-spec =
@@ -57,14 +45,14 @@ measure-entries-spec =
     (tie.spec
     Inv-loop
     μ-loop
-    add-p
+    (λ c. search needs)
     loop-holds
-    entry-at-requires
-    rows-of-requires
+    (λ c κs. search needs)
+    (λ c κs. search needs)
     add-rows
-    listed-requires
-    add-p-2
-    add-k
-    loop-less
+    (λ c κs. search needs)
+    (λ c. search needs)
+    (λ c. search needs)
+    (λ c. search needs)
     loop-again
     returns)

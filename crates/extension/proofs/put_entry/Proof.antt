@@ -6,41 +6,34 @@ use Rattle.extension.proofs.Laws.{none-put, entry-size, one-put}
 use Rattle.extension.proofs.put_entry.Statement.{statement}
 use Rattle.extension.proofs.put_entry.Tie as tie
 
-enum-known-entry : tie.Need-enum-known-entry
-enum-known-entry c = search needs
-
-enum-told : tie.Need-enum-told
-enum-told c = search needs
-
 returns : tie.Need-returns
 returns c =
-    let a = c .before .before .before .args in
+    let s : tie.Start = search in
+    let a = s .args in
     none-put (a .entry) (a .at) (now (a .table)) (c .enum-told .given .1)
 
 put-row4-requires : tie.Need-put-row4-requires
 put-row4-requires c κs =
-    let s = c .before .before .before .before .before in
-    omega (arith, s .pre, entry-size (s .args .entry) (c .before .before .entry .given .1))
-
-add-result : tie.Need-add-result
-add-result c = search needs
-
-same-length : tie.Need-same-length
-same-length c = search needs
+    let s : tie.Start = search in
+    let entry : tie.After-entry = search in
+    omega (arith, s .pre, entry-size (s .args .entry) (entry .entry .given .1))
 
 returns-2 : tie.Need-returns-2
 returns-2 c =
-    let a = c .before .before .before .before .before .before .before .before .args in
-    one-put (a .entry) (c .before .before .before .before .before .entry .given .1) (a .at) (now (a .table)) (c .before .before .put-row4 .ensures)
+    let s : tie.Start = search in
+    let entry : tie.After-entry = search in
+    let put-row4 : tie.After-put-row4 = search in
+    let a = s .args in
+    one-put (a .entry) (entry .entry .given .1) (a .at) (now (a .table)) (put-row4 .put-row4 .ensures)
 
 pub put-entry-spec : {M : Type 1} → statement M
 put-entry-spec =
     tie.close
     (tie.spec
-    enum-known-entry
-    enum-told
+    (λ c. search needs)
+    (λ c. search needs)
     returns
     put-row4-requires
-    add-result
-    same-length
+    (λ c. search needs)
+    (λ c. search needs)
     returns-2)
