@@ -163,8 +163,7 @@ impl Cells {
         let any = random.pick(&[1, 4, 8]);
         let low = |random: &mut Random| if random.one_in(any) { cell(random) } else { random.pick(&self.times) };
         let high = |random: &mut Random| if self.long_times && random.one_in(2) { cell(random) } else { 0 };
-        let mut times: Vec<u64> =
-            (0..count).map(|_| u64::from(high(random)) << 32 | u64::from(low(random))).collect();
+        let mut times: Vec<u64> = (0..count).map(|_| u64::from(high(random)) << 32 | u64::from(low(random))).collect();
         if random.one_in(3) {
             times.sort_unstable();
             times.dedup();

@@ -5,7 +5,9 @@ use crate::compare::{Difference, must};
 use crate::guarded::Guarded;
 use crate::make::Maker;
 use crate::ours::{Reader, Reading};
-use crate::record::{ATCS, CELLS, ENTRIES, MAPS, PROGRAMS, Record, STCS, STREAMS, Scalars, TIME, TIME_HIGH, entry_cells};
+use crate::record::{
+    ATCS, CELLS, ENTRIES, MAPS, PROGRAMS, Record, STCS, STREAMS, Scalars, TIME, TIME_HIGH, entry_cells,
+};
 use crate::rust_answers;
 use crate::writer::{Info, TABLES};
 use oracle::bdmv::clpi::ClipInformation;
@@ -48,7 +50,8 @@ pub fn small() -> Made {
     made.cells[MAPS] = [[0x1011, 1, 3], [0x1012, 6, 0], [0x1013, 8, 2]].concat();
     let three_runs = [(0, 1, 512, 7, 1), (1, 2, 524_288, 7, 1), (0, 3, 524_800, 131_079, 1)];
     let entries = three_runs.into_iter().chain([(1, 4, 1024, 0, 8), (0, 5, 2048, 99, 8)]);
-    made.cells[ENTRIES] = entries.flat_map(|(a, i, time, packet, kind)| entry_cells(a, i, time, packet, kind)).collect();
+    made.cells[ENTRIES] =
+        entries.flat_map(|(a, i, time, packet, kind)| entry_cells(a, i, time, packet, kind)).collect();
     made
 }
 
@@ -92,7 +95,9 @@ impl Made {
         self.cells[ENTRIES].clear();
         for (map, entries) in of_maps.iter().enumerate() {
             self.cells[MAPS].extend([0x1011 + map as u32, 1, entries.len() as u32]);
-            entries.iter().for_each(|(time, packet)| self.cells[ENTRIES].extend(entry_cells(0, 1, (*time).into(), *packet, 1)));
+            entries
+                .iter()
+                .for_each(|(time, packet)| self.cells[ENTRIES].extend(entry_cells(0, 1, (*time).into(), *packet, 1)));
         }
     }
 }
