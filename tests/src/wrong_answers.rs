@@ -17,7 +17,9 @@ pub enum WrongAnswer {
     SearchedByHalves,
     FirstAfter,
     SignedTimes,
+    SignedLongTimes,
     TimesOf32Bits,
+    FarTimeNotFound,
     EmptyMapRowZero,
     RowOfWholeTable,
     EmptyMapPacketZero,
@@ -143,8 +145,16 @@ pub enum WrongAnswer {
 use WrongAnswer::*;
 
 /// The wrong rules that no file can show: its cells are never wide enough.
-pub const NOT_BY_FILES: &[WrongAnswer] =
-    &[TimesOf32Bits, TypeNotMasked, PidOf16Bits, CodingOf8Bits, OffsetOf8Bits, IdsOf16Bits];
+pub const NOT_BY_FILES: &[WrongAnswer] = &[
+    SignedLongTimes,
+    TimesOf32Bits,
+    FarTimeNotFound,
+    TypeNotMasked,
+    PidOf16Bits,
+    CodingOf8Bits,
+    OffsetOf8Bits,
+    IdsOf16Bits,
+];
 
 /// The wrong rules that an answerer about a row of records can have too: those of lookups by time, of packets and spans.
 pub const OF_RECORDS: &[WrongAnswer] = &[
@@ -233,8 +243,10 @@ pub const WRONG_ANSWERS: &[(WrongAnswer, &str, Of)] = &[
     (AllLaterLeast, "the least time where all are later", BEFORE),
     (SearchedByHalves, "at or before searched by halves in any order", BEFORE),
     (FirstAfter, "after: the first row above, not the least time", AFTER),
-    (SignedTimes, "times compared as signed numbers", LOOKUPS),
+    (SignedTimes, "times compared by their low 32 bits as signed numbers", LOOKUPS),
+    (SignedLongTimes, "times compared as signed numbers of 64 bits", LOOKUPS),
     (TimesOf32Bits, "times compared by their low 32 bits", LOOKUPS),
+    (FarTimeNotFound, "after: a time 2^32 or more ahead not found", AFTER),
     (EmptyMapRowZero, "row 0 of an empty map", ROWS_BY_TIME),
     (RowOfWholeTable, "entry rows counted from the table's start", ROWS_BY_TIME),
     (EmptyMapPacketZero, "packet 0 in an empty map", PACKETS_BY_TIME),

@@ -18,6 +18,7 @@ fn time(input: &Input, row: usize) -> u64 {
 fn at_most(one: u64, other: u64, wrong: WrongAnswer) -> bool {
     match wrong {
         SignedTimes => one as i32 <= other as i32,
+        SignedLongTimes => one as i64 <= other as i64,
         TimesOf32Bits => one as u32 <= other as u32,
         _ => one <= other,
     }
@@ -108,7 +109,11 @@ fn by_halves(input: &Input, first: usize, end: usize, at: u64) -> usize {
 pub fn after(input: &Input, (first, end): (usize, usize), at: u64, wrong: WrongAnswer) -> Option<usize> {
     let mut best: Option<usize> = None;
     for row in first..end {
-        let allowed = !at_most(time(input, row), at, wrong) || wrong == AfterIncludesEqual && time(input, row) == at;
+        let allowed = match wrong {
+            AfterIncludesEqual => time(input, row) >= at,
+            FarTimeNotFound => (1..1 << 32).contains(&time(input, row).saturating_sub(at)),
+            _ => !at_most(time(input, row), at, wrong),
+        };
         let better = best.is_none_or(|best| match wrong {
             LatestOfEqualsAfter => time(input, row) <= time(input, best),
             FirstAfter => false,
