@@ -6,13 +6,14 @@ use crate::by_hand::ByHand;
 use crate::compare::Comparison;
 use crate::entry_rows::{EntryRows, MISREAD, Misread, RowAnswerer};
 use crate::limits::Limits;
+use crate::long_times;
 use crate::make::{CLASSES, Maker};
 use crate::mutation::{Mutation, WRONG};
 use crate::plain_answers::Plain;
 use crate::plain_writer;
 use crate::records::Records;
 use crate::wrong::Wrong;
-use crate::wrong_answers::{NOT_BY_FILES, OF_RECORDS, WRONG_ANSWERS, WrongAnswer, of_records, questions_of};
+use crate::wrong_answers::{BY_NAMES, NOT_BY_FILES, OF_RECORDS, WRONG_ANSWERS, WrongAnswer, of_records, questions_of};
 use crate::wrong_writes::{BY_FILES, NOT_BY_RECORDS, WrongWrite, by_hand as by_limits};
 
 /// The first seed below `count` whose file catches a reader, an answerer or a writer.
@@ -104,16 +105,18 @@ fn reader_caught(mutation: Mutation, words: &str, count: u64) -> bool {
 }
 
 /// The first seed by whose file, where a file can, and the first by whose tables made by hand an answerer is caught that
-/// has a rule wrong in one question; none where it isn't caught.
+/// has a rule wrong in one question; none where it isn't caught by these, or by a lookup with a name where it must be.
 fn answerer_caught(answer: WrongAnswer, question: Question, count: u64) -> Option<(u64, u64)> {
     let wrong = || Plain::wrong(answer, question);
     let by_file = || by_file(Mutation::Right, wrong(), WrongWrite::Right, count);
     let file = if NOT_BY_FILES.contains(&answer) { Some(0) } else { by_file() };
     let hand = by_hand(wrong(), count);
-    if file.is_none() || hand.is_none() {
-        println!("NOT CAUGHT {question:?}: {answer:?}: by a file {file:?}, by hand {hand:?}");
+    let named = !BY_NAMES.contains(&answer) || long_times::first(&mut wrong()).is_some();
+    if file.is_none() || hand.is_none() || !named {
+        println!("NOT CAUGHT {question:?}: {answer:?}: by a file {file:?}, by hand {hand:?}, by a name {named}");
+        return None;
     }
-    Some((file?, hand?))
+    file.zip(hand)
 }
 
 /// Runs a wrong rule in each question that has it; how many there are, and how many of these are caught.
@@ -143,6 +146,7 @@ pub fn mutants(count: u64) -> bool {
         .or(by_row(Plain::right(), count))
         .or(by_record(WrongWrite::Right, count))
         .map(|seed| format!("seed {seed}"))
+        .or(long_times::first(&mut Plain::right()))
         .or(by_limit(WrongWrite::Right));
     if let Some(name) = &right {
         println!("{name} accuses the reader, the answerer or the writer with no wrong rule");

@@ -156,6 +156,26 @@ pub const NOT_BY_FILES: &[WrongAnswer] = &[
     IdsOf16Bits,
 ];
 
+/// The wrong rules that the lookups with names must catch too.
+pub const BY_NAMES: &[WrongAnswer] = &[
+    LatestOfEqualsAfter,
+    BeforeOnly,
+    AfterIncludesEqual,
+    AllLaterNone,
+    AllLaterLeast,
+    FirstAfter,
+    SignedTimes,
+    SignedLongTimes,
+    TimesOf32Bits,
+    FarTimeNotFound,
+    LeastForFirst,
+    LastForFirst,
+    GreatestForLast,
+    FirstForLast,
+    SpanGreatestLessLeast,
+    SpanWraps,
+];
+
 /// The wrong rules that an answerer about a row of records can have too: those of lookups by time, of packets and spans.
 pub const OF_RECORDS: &[WrongAnswer] = &[
     LatestOfEquals,
