@@ -1,6 +1,6 @@
 //! The wrong rules of writing and rewriting that the comparison must catch, one at a time.
 
-use crate::record::{ATCS, ENTRIES, MAPS, PROGRAMS, STCS, STREAMS};
+use crate::record::{ATCS, ENTRIES, MAPS, PROGRAMS, STCS, STREAMS, TIME_HIGH};
 
 /// Which rule a writer has wrong.
 #[derive(Clone, Copy, PartialEq, Eq, Debug)]
@@ -239,5 +239,5 @@ const NARROW: [(usize, usize); 16] = [
     (MAPS, 2),
     (ENTRIES, 0),
     (ENTRIES, 1),
-    (ENTRIES, 3),
+    (ENTRIES, TIME_HIGH),
 ];
