@@ -391,9 +391,10 @@ struct clpi_part clpi_extension_data(
  * more rows are stated than lent, where a row number is not one of them, or, where a table of counts and the table
  * counted are both lent, where the counts don't add up to the rows stated. A time in 90 kHz ticks has 32 bits where
  * entries are looked up, else 64: C cuts a longer one off without a word, so look up UINT32_MAX where a time is greater,
- * which has the same answer. Ids and types of 8 bits, PIDs and extension ids of 16, and row and packet numbers of 32 are
- * cut off in the same way, so that 257 asks for id 1: test longer ones first. A part of a table may be lent as a table:
- * the streams of one program, say; and tables 8 and 9 may be lent where tables 3 and 4 are asked for. */
+ * which has the same answer where no entry's time is 2^32 or more, as in tables that were read. Ids and types of 8
+ * bits, PIDs and extension ids of 16, and row and packet numbers of 32 are cut off in the same way, so that 257 asks
+ * for id 1: test longer ones first. A part of a table may be lent as a table: the streams of one program, say; and
+ * tables 8 and 9 may be lent where tables 3 and 4 are asked for. */
 
 /* An answer. `found` is 0 where there is none, which is no refusal; then, and beside a refusal, `value` is 0. Below,
  * "nothing" is `found` 0, and "0" is a value that is found. */

@@ -8,11 +8,11 @@ use lib.ListN.{length}
 use lib.Dec.{leb, eqb}
 use borrow.Author.Tests.{leb-true}
 use Rattle.format.specs.Bytes.{pick}
-use Rattle.format.specs.ClipRecord.{extensionsStart, marksStart, marksFrom}
+use Rattle.format.specs.ClipRecord.{extensionsStart, marksStart, marksFrom, entrySize}
 use Rattle.format.specs.Extensions.{extensionRows}
 use Rattle.format.specs.Reading.{clipOf, recordOf}
 use Rattle.format.specs.Refusals.{refused, accepted, refusalOf, tablesOf, statedOf, tablesAnswer, readAnswer}
-use Rattle.format.specs.Tables.{Nine, rowRoom, extensionCells, entrySize}
+use Rattle.format.specs.Tables.{Nine, rowRoom, extensionCells}
 use Rattle.format.proofs.Tests.{ap-pick}
 use Rattle.extension.specs.declared.ListData.{ListData}
 use Rattle.clip_sections.specs.Infos.{clipInfoOf}

@@ -4,11 +4,11 @@ use mathlib.Core.Path.{_≡_}
 use mathlib.Core.List.{List}
 use mathlib.Core.Bool.{Bool, true}
 use lib.ListN.{length}
-use Rattle.format.specs.ClipRecord.{extensionsStart, marksIn}
+use Rattle.format.specs.ClipRecord.{extensionsStart, marksIn, entryCells}
 use Rattle.format.specs.Extensions.{extensionsFrom, listData}
 use Rattle.format.specs.Reading.{clipOf, recordOf}
 use Rattle.format.specs.Refusals.{refusalOf}
-use Rattle.format.specs.Tables.{rowRoom, atcCells, stcCells, programCells, streamCells, mapCells, entryCells}
+use Rattle.format.specs.Tables.{rowRoom, atcCells, stcCells, programCells, streamCells, mapCells}
 use Rattle.extension.specs.Block.{foundIn, listEnd}
 use Rattle.extension.specs.declared.ListData.{ListData}
 

@@ -8,10 +8,10 @@ use lib.ListN.{length, getD}
 use lib.Dec.{lit≤}
 use borrow.Author.Tests.{le-leb, lt-leb}
 use Rattle.format.specs.Bytes.{IsBytes}
-use Rattle.format.specs.ClipRecord.{Row, time}
+use Rattle.format.specs.ClipRecord.{Row, time, entryCells, entrySize}
 use Rattle.format.specs.Reading.{clipOf, recordOf}
 use Rattle.format.specs.Refusals.{tablesOf, statedOf, readAnswer, tableBy, entryBits}
-use Rattle.format.specs.Tables.{tableBytes, tableRows, cellsAt, overwritten, entryCells, entrySize}
+use Rattle.format.specs.Tables.{tableBytes, tableRows, cellsAt, overwritten}
 use Rattle.format.specs.Listing.{line, refusedWord, linesBy, listing, listingTables}
 use Rattle.format.proofs.Cell.{item-at}
 use Rattle.format.proofs.Fields.{Fit, one}

@@ -2,7 +2,8 @@
 use Prim.Native.Nat.{ℕ, _≤_}
 use mathlib.Core.List.{List, [], _∷_}
 use lib.ListN.{length}
-use Rattle.format.specs.Tables.{tableRows, mapCells, entryCells}
+use Rattle.format.specs.ClipRecord.{entryCells}
+use Rattle.format.specs.Tables.{tableRows, mapCells}
 use Rattle.format.specs.Listing.{line, refusedWord}
 use Rattle.clip_sections.specs.declared.info.ClipInfo.{ClipInfo}
 use Rattle.nine_tables.specs.declared.Rows.{Rows}

@@ -1,4 +1,4 @@
-// The front of a file: four letters, HDMV or CLPI, a version of four bytes, and the starts of the sections behind it. Only this file knows their places.
+// The front of a file: four letters, HDMV or CLPI, a version of four bytes, and the starts of the sections behind it. No other file reads them.
 ghost use mathlib.Core.Path.{_≡_};
 ghost use Prim.Native.Nat.{_≤_};
 ghost use lib.ListN.{length};
@@ -35,7 +35,7 @@ const SIZE: usize = 8;
 const HDMV: u32 = 0x48444D56;
 
 // The letters CLPI as one number.
-const CLPI: u32 = 0x434C5049;
+pub const CLPI: u32 = 0x434C5049;
 
 // Whether four letters as one number are those of a clip file.
 fn is_clip(letters: u32) -> bool

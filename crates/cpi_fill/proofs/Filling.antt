@@ -6,9 +6,9 @@ use native.Mathlib.Omega.{arith}
 use lib.ListN.{length}
 use lib.Seq.{sets}
 use Rattle.format.specs.Bytes.{beAt, rowsAt, gather}
-use Rattle.format.specs.ClipRecord.{Row}
+use Rattle.format.specs.ClipRecord.{Row, entryCells, entrySize}
 use Rattle.format.specs.EntryPoints.{coarseAt, fineAt, nextCoarse, nextFine, mapTypeAt, coarseCountAt, fineCountAt, mapAt, nextMap, bodyAt, fineStart, entriesFor, entriesOf, mapCount, mapsFrom, entriesFrom}
-use Rattle.format.specs.Tables.{rowBytes, tableBytes, overwritten, entryCells, entrySize}
+use Rattle.format.specs.Tables.{rowBytes, tableBytes, overwritten}
 use Rattle.format.proofs.Lists.{none, more}
 use Rattle.format.proofs.Rows.{rows-all, gather-all}
 use Rattle.format.proofs.Read.{own-length}

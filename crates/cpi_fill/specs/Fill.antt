@@ -3,7 +3,8 @@ use Prim.Native.Nat.{ℕ, _+_, _*_, _≤_}
 use mathlib.Core.List.{List}
 use lib.ListN.{length}
 use Rattle.format.specs.EntryPoints.{fineCountAt, mapsFrom, entriesFrom}
-use Rattle.format.specs.Tables.{rowRoom, mapCells, entryCells, entrySize}
+use Rattle.format.specs.ClipRecord.{entryCells, entrySize}
+use Rattle.format.specs.Tables.{rowRoom, mapCells}
 use Rattle.ep_entries.specs.Body.{CpiSection, MapAt}
 
 -- a map's header and body are in the file, and the table has room for its entries

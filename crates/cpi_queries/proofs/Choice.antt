@@ -9,10 +9,10 @@ use lib.Dec.{eqb, ltb, lit<}
 use lib.ListN.{length}
 use borrow.Author.Tests.{ne-eqb, lt-ltb, le-ltb, ltb-true, ltb-false, leb-true, le-leb}
 use Rattle.format.specs.Bytes.{both, pick}
-use Rattle.format.specs.ClipRecord.{Row, mapPid, mapType, entryCount}
+use Rattle.format.specs.ClipRecord.{Row, mapPid, mapType, entryCount, entryCells}
 use Rattle.format.specs.Questions.{epMapByKind, nextVideoEpMap, primaryVideoEpMap, Answer, refused, none, number, Best, nothing, best, better, bestOf, firstWhere, rowOr, orElse, isVideoMap, kinds, primaryMap, ofMap, ofPrimaryMap, unless22, answer, ask}
 use Rattle.format.specs.Questions as of
-use Rattle.format.specs.Tables.{Table, isStated, addUp, isRow, rowsOf, rowRoom, cellsAt, tableRows, clipIn, mapCells, entryCells}
+use Rattle.format.specs.Tables.{Table, isStated, addUp, isRow, rowsOf, rowRoom, cellsAt, tableRows, clipIn, mapCells}
 use Rattle.format.proofs.Lookups.{NoneOrRow, primary-row, primary-none, primary-empty, primary-rows}
 use Rattle.format.proofs.Rows.{rows-length}
 use Rattle.format.proofs.Tests.{both-true}

@@ -8,10 +8,10 @@ use borrow.Author.Tests.{not-true, not-false}
 use lib.Dec.{leb}
 use lib.ListN.{length, length-append}
 use Rattle.format.specs.Bytes.{both, every, fieldBytes}
-use Rattle.format.specs.ClipRecord.{Row, mapType}
+use Rattle.format.specs.ClipRecord.{Row, mapType, entryCells, entrySize}
 use Rattle.format.specs.Refusals.{entryFits, everyMap}
 use Rattle.format.specs.Rewriting.{bodyBytes, bodies, headers, cpiBytesBy}
-use Rattle.format.specs.Tables.{tableRows, mapCells, entryCells, entrySize}
+use Rattle.format.specs.Tables.{tableRows, mapCells}
 use Rattle.format.proofs.Cpi.{headers-length}
 use Rattle.format.proofs.Numbers.{bytes-length}
 use Rattle.format.proofs.Tests.{both-assoc, picked, not-picked}

@@ -7,10 +7,10 @@ use native.Mathlib.Omega.{arith}
 use borrow.Author.Tests.{eqb-true, leb-true}
 use lib.ListN.{length, take, drop, length-append, length-take}
 use Rattle.format.specs.Bytes.{both, every, total}
-use Rattle.format.specs.ClipRecord.{Row, mapType, entryCount}
+use Rattle.format.specs.ClipRecord.{Row, mapType, entryCount, entryCells, entrySize}
 use Rattle.format.specs.Refusals.{mapFits, everyMap}
 use Rattle.format.specs.Rewriting.{runs, bodyBytes, bodies, headerBytes, headers}
-use Rattle.format.specs.Tables.{cellsAt, tableRows, mapCells, entryCells, entrySize}
+use Rattle.format.specs.Tables.{cellsAt, tableRows, mapCells}
 use Rattle.format.proofs.Cpi.{body-length}
 use Rattle.format.proofs.Fields.{Fit, one, fits-fit}
 use Rattle.format.proofs.Lists.{All, more, every-all, all-map}

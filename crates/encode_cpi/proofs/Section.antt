@@ -9,10 +9,10 @@ use borrow.Author.Tests.{leb-true}
 use lib.ListN.{length, length-append}
 use lib.Seq.{sets, length-sets}
 use Rattle.format.specs.Bytes.{bytesOf, fieldBytes, total}
-use Rattle.format.specs.ClipRecord.{Row, mapType, entryCount}
+use Rattle.format.specs.ClipRecord.{Row, mapType, entryCount, entryCells, entrySize}
 use Rattle.format.specs.Refusals.{everyMap}
 use Rattle.format.specs.Rewriting.{runs, bodyBytes, bodies, headerBytes, headers, cpiBytesBy}
-use Rattle.format.specs.Tables.{cellAt, tableRows, mapCells, entryCells, entrySize}
+use Rattle.format.specs.Tables.{cellAt, tableRows, mapCells}
 use Rattle.format.proofs.Cell.{row-cell}
 use Rattle.format.proofs.Cpi.{header-length, headers-length}
 use Rattle.format.proofs.Numbers.{bytes-length}

@@ -6,10 +6,10 @@ use mathlib.Core.Bool.{Bool, true}
 use lib.ListN.{length}
 use lib.Dec.{leb}
 use Rattle.format.specs.Bytes.{pick, every}
-use Rattle.format.specs.ClipRecord.{Row, mapType, entryCount}
+use Rattle.format.specs.ClipRecord.{Row, mapType, entryCount, entryCells}
 use Rattle.format.specs.Refusals.{mapFits, entryFits, everyMap}
 use Rattle.format.specs.Rewriting.{runs, bodies, cpiBytesBy}
-use Rattle.format.specs.Tables.{addUp, tableRows, rowRoom, mapCells, entryCells}
+use Rattle.format.specs.Tables.{addUp, tableRows, rowRoom, mapCells}
 use Rattle.encode_cpi.specs.declared.Length.{Length}
 use Rattle.encode_cpi.specs.declared.Tested.{Tested}
 

@@ -8,12 +8,10 @@ ghost use Rattle.format.specs.Rewriting.{headBytes};
 ghost use Rattle.clip_information.specs.Read.{scalarsBy};
 ghost use Rattle.encode_head.specs.Heads.{headerWidths, headerNumbers, formatWidths, formatNumbers, infoWidths, infoNumbers};
 use clip_sections::info::ClipInfo;
+use common::header::CLPI;
 use numbers::put_u8;
 use numbers::put_u16;
 use numbers::put_u32;
-
-// The letters CLPI.
-const CLPI: u32 = 1129074761;
 
 // Stores n zero bytes from `at`.
 fn put_zeros(out: &mut [u8], at: usize, n: usize)

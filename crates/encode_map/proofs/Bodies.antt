@@ -1,5 +1,5 @@
 -- The loops that store the coarse rows and the fine rows of a map, and its body.
-use Prim.Native.Nat.{ℕ, suc, _+_, _*_, _-_, _/_, _%_, _^_, _<_, _≤_}
+use Prim.Native.Nat.{ℕ, suc, _+_, _*_, _-_, _^_, _<_, _≤_}
 use mathlib.Core.Path.{_≡_, refl, sym, ap, ap₂, subst, _∙_}
 use mathlib.Core.List.{List, [], _∷_, _++_, append-nil}
 use mathlib.Core.Bool.{Bool, true, false}
@@ -8,11 +8,11 @@ use native.Mathlib.Omega.{arith}
 use lib.ListN.{length, length-append}
 use lib.Seq.{sets, length-sets}
 use Rattle.format.specs.Bytes.{bytesOf, fieldBytes, fits, packed, flat}
-use Rattle.format.specs.ClipRecord.{Row, mapPid, mapType, angle, iEnd, time}
+use Rattle.format.specs.ClipRecord.{Row, mapPid, mapType, angle, iEnd, time, entryCells, entrySize}
 use Rattle.format.specs.EntryPoints.{headerWidths, coarseWidths, fineWidths}
 use Rattle.format.specs.Refusals.{entryBits, entryFits}
-use Rattle.format.specs.Rewriting.{sameRun, unlessSame, coarseRow, coarseRows, runs, coarseBytes, fineBytes, bodyBytes, headerBytes}
-use Rattle.format.specs.Tables.{cellsAt, entryCells, entrySize}
+use Rattle.format.specs.Rewriting.{sameRun, unlessSame, coarseRow, coarseRows, runs, coarseBytes, fineBytes, bodyBytes, headerBytes, sameKeys, coarseBy, fineBy}
+use Rattle.format.specs.Tables.{cellsAt}
 use Rattle.format.proofs.Cpi.{body-length}
 use Rattle.format.proofs.Fields.{Fit, one, fits-fit}
 use Rattle.format.proofs.Lists.{every-all, all-at}
@@ -24,7 +24,7 @@ use Rattle.format.proofs.Rows.{all-rows, rows-length, left-all, left-turn, left
 use Rattle.format.proofs.Tests.{both-true}
 use Rattle.cells.specs.Reads.{CellIs}
 use Rattle.entry_rows.specs.Reads.{EntryHas}
-use Rattle.runs.specs.Runs.{entriesAt, entriesFrom, sameKeys, coarseBy, fineBy, PairIs, begun}
+use Rattle.runs.specs.Runs.{entriesAt, entriesFrom, PairIs, begun}
 use Rattle.runs.specs.declared.Pair.{Pair}
 use Rattle.format.proofs.Cell.{row-cell, item-at}
 use Rattle.runs.proofs.Runs.{begun-none, begun-first, begun-later, begun-few}

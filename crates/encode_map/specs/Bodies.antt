@@ -5,11 +5,11 @@ use mathlib.Core.List.{List, []}
 use mathlib.Core.Bool.{true}
 use lib.ListN.{length}
 use Rattle.format.specs.Bytes.{every}
-use Rattle.format.specs.ClipRecord.{Row, mapType}
+use Rattle.format.specs.ClipRecord.{Row, mapType, entryCells, entrySize}
 use Rattle.format.specs.Refusals.{entryFits}
-use Rattle.format.specs.Rewriting.{sameRun, unlessSame, coarseRow, runs, bodyBytes}
-use Rattle.format.specs.Tables.{cellsAt, mapCells, entryCells, entrySize}
-use Rattle.runs.specs.Runs.{entriesAt, sameKeys, coarseBy, PairIs}
+use Rattle.format.specs.Rewriting.{sameRun, unlessSame, coarseRow, runs, bodyBytes, sameKeys, coarseBy}
+use Rattle.format.specs.Tables.{cellsAt, mapCells}
+use Rattle.runs.specs.Runs.{entriesAt, PairIs}
 use Rattle.runs.specs.declared.Pair.{Pair}
 
 -- entries of one type, each of which fits

@@ -7,7 +7,8 @@ use native.Mathlib.Omega.{arith}
 use lib.ListN.{length}
 use borrow.Author.Tests.{not-true, not-false}
 use Rattle.format.specs.Bytes.{both, unless}
-use Rattle.format.specs.Tables.{ClipTables, clipIn, isStated, rowsOf, rowRoom, atcCells, stcCells, programCells, streamCells, mapCells, entryCells}
+use Rattle.format.specs.ClipRecord.{entryCells}
+use Rattle.format.specs.Tables.{ClipTables, clipIn, isStated, rowsOf, rowRoom, atcCells, stcCells, programCells, streamCells, mapCells}
 use Rattle.format.specs.Rewriting.{sequencesBytes, programsBytes, cpiBytes, cpiBytesBy}
 use Rattle.format.specs.Refusals.{scalarsFit, cellsFit, runsFit, allStated, writeRefusal}
 use Rattle.format.proofs.Tests.{both-true, true-both, passed, picked, not-picked, left-fails, right-fails}

@@ -5,8 +5,8 @@ use lib.ListN.{length}
 use lib.Dec.{eqb}
 use mathlib.Core.Bool.{Bool}
 use Rattle.format.specs.Bytes.{both, pick, unless}
-use Rattle.format.specs.ClipRecord.{Clip}
-use Rattle.format.specs.Tables.{ClipTables, clipIn, stcCells, streamCells, entryCells}
+use Rattle.format.specs.ClipRecord.{Clip, entryCells}
+use Rattle.format.specs.Tables.{ClipTables, clipIn, stcCells, streamCells}
 use Rattle.format.specs.Rewriting.{sequencesBytes, programsBytes, cpiBytes}
 use Rattle.format.specs.Refusals.{allStated, writeRefusal}
 use Rattle.table_rows.specs.OwnRows.{isCounted}

@@ -6,8 +6,8 @@ use native.Mathlib.Omega.{arith}
 use lib.Dec.{lit<}
 use lib.ListN.{length, getD}
 use lib.Seq.{sets}
-use Rattle.format.specs.ClipRecord.{Row, entryRow, angle, iEnd, packet, entryType}
-use Rattle.format.specs.Tables.{cellBytes, cellsAt, rowBytes, entryCells}
+use Rattle.format.specs.ClipRecord.{Row, entryRow, angle, iEnd, packet, entryType, entryCells}
+use Rattle.format.specs.Tables.{cellBytes, cellsAt, rowBytes}
 use Rattle.format.proofs.Cell.{row-cell}
 use Rattle.format.proofs.Loops.{flat-append}
 use Rattle.format.proofs.Stores.{part-then}

@@ -8,10 +8,10 @@ use native.Mathlib.Omega.{arith}
 use borrow.Author.Tests.{eq-eqb, not-true, not-false}
 use lib.ListN.{length, take, drop}
 use Rattle.format.specs.Bytes.{both, pick, every}
-use Rattle.format.specs.ClipRecord.{Row}
+use Rattle.format.specs.ClipRecord.{Row, time, packet, entryCells, entrySize}
 use Rattle.format.specs.Refusals.{entryFits}
 use Rattle.format.specs.Rewriting.{timeKey, packetKey, sameRun, coarseRow, coarseAfter, runs}
-use Rattle.format.specs.Tables.{cellsAt, entryCells, entrySize}
+use Rattle.format.specs.Tables.{cellsAt}
 use Rattle.format.proofs.Rows.{rows-length, drop-rows, left-all, left-turn, left-done}
 use Rattle.format.proofs.Tests.{both-true, true-both, left-fails, picked, not-picked}
 use Rattle.entry_rows.specs.declared.Words.{Words}
@@ -26,7 +26,7 @@ use Rattle.entry_runs.proofs.Words.{words-same, words-go-on}
 
 -- an entry is in its own run
 same-self : (e : Row) → sameRun e e ≡ true
-same-self e = true-both (eq-eqb (timeKey e) (timeKey e) refl) (eq-eqb (packetKey e) (packetKey e) refl)
+same-self e = true-both (eq-eqb (timeKey (time e)) (timeKey (time e)) refl) (eq-eqb (packetKey (packet e)) (packetKey (packet e)) refl)
 
 module _ (t : List ℕ) (p n type : ℕ) where
   -- row k

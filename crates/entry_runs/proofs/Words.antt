@@ -1,25 +1,24 @@
 -- Entries by their words: what the masks leave tells whether a run goes on.
 use Prim.Native.Nat.{ℕ, _+_, _*_, _/_, _%_, _^_, _<_}
 use mathlib.Core.Path.{_≡_, refl, sym, ap, ap₂, _∙_}
-use mathlib.Core.List.{List, _∷_}
+use mathlib.Core.List.{List}
 use mathlib.Core.Bool.{Bool, true, false, not}
 use native.Mathlib.Omega.{arith}
-use borrow.Author.Tests.{lt-ltb, ltb-true, eqb-true, eqb-false, eq-eqb, ne-eqb, not-false}
+use borrow.Author.Tests.{lt-ltb, eqb-true, eqb-false, eq-eqb, ne-eqb, not-false}
 use lib.Bits.{bitAnd}
 use lib.Dec.{eqb, ltb, lit≤}
 use Rattle.format.specs.Bytes.{both, pick, fits}
-use Rattle.format.specs.ClipRecord.{Row, time, entryType}
+use Rattle.format.specs.ClipRecord.{Row, time, entryType, entryCells}
 use Rattle.format.specs.Refusals.{entryBits, entryFits}
-use Rattle.format.specs.Rewriting.{sameRun}
+use Rattle.format.specs.Rewriting.{sameRun, sameKeys}
 use Rattle.format.proofs.Fields.{Fit, one, fits-fit, words-masked, gap-masked, time-cells}
 use Rattle.format.proofs.Tests.{both-true}
-use Rattle.format.specs.Tables.{cellsAt, entryCells}
+use Rattle.format.specs.Tables.{cellsAt}
 use Rattle.entry_rows.specs.declared.Words.{Words}
-use Rattle.entry_rows.specs.Reads.{WordsAre}
+use Rattle.entry_rows.specs.Reads.{WordsAre, wordsRow, wordsType}
 use Rattle.entry_rows.proofs.Laws.{entry-whole}
-use Rattle.runs.specs.Runs.{sameKeys}
 use Rattle.row_limits.proofs.Fits.{angle-masked, last-test, last-fails}
-use Rattle.entry_runs.specs.Fitting.{wordsRow, wordsType, wordsSame, goesOn}
+use Rattle.entry_runs.specs.Fitting.{wordsSame, goesOn}
 use Rattle.entry_runs.specs.declared.RunEnd.{RunEnd}
 
 -- two times of which the first is a multiple of 512 agree in all bits but those of a fine time where their keys are equal and the second is one too

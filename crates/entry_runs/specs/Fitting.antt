@@ -1,14 +1,15 @@
 -- Runs of entries that are tested to fit: where one ends, and how many there are.
-use Prim.Native.Nat.{ℕ, _-_, _/_, _%_}
+use Prim.Native.Nat.{ℕ, _-_}
 use mathlib.Core.List.{List}
 use mathlib.Core.Bool.{Bool}
 use lib.ListN.{take}
 use Rattle.format.specs.Bytes.{both, pick, every}
-use Rattle.format.specs.ClipRecord.{Row, entryRow}
+use Rattle.format.specs.ClipRecord.{Row}
 use Rattle.format.specs.Refusals.{entryFits}
-use Rattle.format.specs.Rewriting.{runs}
+use Rattle.format.specs.Rewriting.{runs, sameKeys}
 use Rattle.entry_rows.specs.declared.Words.{Words}
-use Rattle.runs.specs.Runs.{sameKeys, endFrom}
+use Rattle.entry_rows.specs.Reads.{wordsPacket, wordsType, wordsRow}
+use Rattle.runs.specs.Runs.{endFrom}
 use Rattle.entry_runs.specs.declared.RunEnd.{RunEnd}
 use Rattle.entry_runs.specs.declared.RunCount.{RunCount}
 
@@ -24,16 +25,9 @@ endFit type k es = fitUntil type (endFrom k es) k es
 unfoldable pub runsFit : ℕ → List Row → RunCount
 runsFit type es = pick (every (entryFits type) es) (RunCount.Runs (runs es)) RunCount.Unfit
 
--- the entry that these words are, and its type
-abbrev pub wordsRow : Words → Row
-wordsRow w = entryRow (w .front % 4294967296) (w .front / 4294967296) (w .time) (w .back % 4294967296) (w .back / 4294967296)
-
-abbrev pub wordsType : Words → ℕ
-wordsType w = w .back / 4294967296
-
 -- two entries by their words have equal keys
 abbrev pub wordsSame : Words → Words → Bool
-wordsSame a b = sameKeys (a .time) (a .back % 4294967296) (b .time) (b .back % 4294967296)
+wordsSame a b = sameKeys (a .time) (wordsPacket a) (b .time) (wordsPacket b)
 
 -- one is in the run of the other, and fits a map of the other's type
 abbrev pub goesOn : Words → Words → Bool

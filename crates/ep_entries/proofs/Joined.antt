@@ -6,9 +6,9 @@ use native.Mathlib.Numerals.{add-one}
 use native.Mathlib.Omega.{arith}
 use lib.Seq.{sets}
 use Rattle.format.specs.Bytes.{beAt, unpacked, rowsAt}
-use Rattle.format.specs.ClipRecord.{Row}
+use Rattle.format.specs.ClipRecord.{Row, entryCells, entrySize}
 use Rattle.format.specs.EntryPoints.{fineWidths, fineAt, nextFine, joinTime, joinPacket}
-use Rattle.format.specs.Tables.{rowBytes, tableBytes, entryCells, entrySize}
+use Rattle.format.specs.Tables.{rowBytes, tableBytes}
 use Rattle.format.proofs.Loops.{one-left, none-left, put-more}
 use Rattle.format.proofs.Rows as Rows
 use Rattle.format.proofs.Sweep.{row-bytes, rows-bytes}

@@ -3,8 +3,8 @@ use Prim.Native.Nat.{ℕ}
 use mathlib.Core.Path.{_≡_}
 use mathlib.Core.List.{List, map}
 use mathlib.Core.Bool.{true}
-use Rattle.format.specs.ClipRecord.{entryCount, time}
-use Rattle.format.specs.Tables.{Table, rowsOf, isStated, addUp, isRow, mapCells, entryCells}
+use Rattle.format.specs.ClipRecord.{entryCount, time, entryCells}
+use Rattle.format.specs.Tables.{Table, rowsOf, isStated, addUp, isRow, mapCells}
 use Rattle.format.specs.Questions.{ask, entryPointAtOrBefore, entryPointAfter, seekSpn, nextSeekSpn, indexedSpan90k, ticks90, ownRows, atOrBefore, after, seek, nextSeek, spanOf}
 use Rattle.queries.specs.Asked.{mapsAndEntries}
 use Rattle.ep_entry_steps.specs.declared.EpEntry.{EpEntry}

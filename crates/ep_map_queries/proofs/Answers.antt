@@ -5,10 +5,10 @@ use mathlib.Core.List.{List, [], _∷_, map}
 use mathlib.Core.Bool.{Bool, true, false}
 use native.Mathlib.Omega.{arith}
 use lib.ListN.{length}
-use Rattle.format.specs.ClipRecord.{Row, entryCount, time, packet}
+use Rattle.format.specs.ClipRecord.{Row, entryCount, time, packet, entryCells, entrySize}
 use Rattle.format.specs.Questions.{Question, partsOf, Answer, refused, number, ofRow, ownRows, ofMap, answer, ask}
 use Rattle.format.specs.Questions as of
-use Rattle.format.specs.Tables.{Table, rowsOf, cellsAt, clipIn, mapCells, entryCells, entrySize}
+use Rattle.format.specs.Tables.{Table, rowsOf, cellsAt, clipIn, mapCells}
 use Rattle.format.proofs.Cell.{item-at}
 use Rattle.format.proofs.Lookups.{before-row, after-row}
 use Rattle.entry_rows.specs.Reads.{EntryHas}

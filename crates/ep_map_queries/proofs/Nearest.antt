@@ -6,8 +6,8 @@ use mathlib.Core.Bool.{Bool}
 use native.Mathlib.Numerals.{add-one}
 use native.Mathlib.Omega.{arith}
 use lib.ListN.{length, getD, length-map, List·getD-map}
-use Rattle.format.specs.ClipRecord.{Row, time}
-use Rattle.format.specs.Tables.{cellsAt, entryCells, entrySize}
+use Rattle.format.specs.ClipRecord.{Row, time, entryCells, entrySize}
+use Rattle.format.specs.Tables.{cellsAt}
 use Rattle.format.proofs.Cell.{item-at}
 use Rattle.format.proofs.Rows.{rows-length}
 use Rattle.entry_rows.specs.Reads.{TimeIs}

@@ -2,9 +2,9 @@
 use Prim.Native.Nat.{ℕ}
 use mathlib.Core.List.{List, map}
 use mathlib.Core.Bool.{Bool, true, false}
-use Rattle.format.specs.ClipRecord.{Row, time, packet}
+use Rattle.format.specs.ClipRecord.{Row, time, packet, entryCells}
 use Rattle.format.specs.Questions.{Question, entryPointAtOrBefore, entryPointAfter, seekSpn, nextSeekSpn, primarySeekSpn, primaryNextSeekSpn, Answer, ofRow}
-use Rattle.format.specs.Tables.{Table, entryCells}
+use Rattle.format.specs.Tables.{Table}
 use Rattle.nearest.specs.Nearest.{rowIn}
 use Rattle.table_rows.specs.OwnRows.{Owned, ownedRows, rowsFrom}
 

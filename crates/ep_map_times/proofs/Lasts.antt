@@ -5,10 +5,10 @@ use mathlib.Core.List.{List}
 use mathlib.Core.Bool.{Bool, true, false}
 use native.Mathlib.Omega.{arith}
 use Rattle.format.specs.Bytes.{rowsAt}
-use Rattle.format.specs.ClipRecord.{entryTime}
+use Rattle.format.specs.ClipRecord.{entryTime, entryCells, entrySize}
 use Rattle.format.specs.Ticks.{Ticks90, less90}
 use Rattle.format.specs.Questions.{none, ticks90, lastOf, spanOf, indexedSpan90k, answer}
-use Rattle.format.specs.Tables.{Table, cellsAt, clipIn, entryCells, entrySize}
+use Rattle.format.specs.Tables.{Table, cellsAt, clipIn}
 use Rattle.entry_rows.specs.Reads.{TimeIs}
 use Rattle.ep_map_queries.specs.InMap.{entriesAt}
 use Rattle.ep_map_queries.proofs.Answers.{AsksMap}

@@ -2,9 +2,9 @@
 ghost use mathlib.Core.Path.{_≡_};
 ghost use Prim.Native.Nat.{_+_, _*_, _≤_};
 ghost use lib.ListN.{length};
-ghost use Rattle.format.specs.ClipRecord.{entryTime};
+ghost use Rattle.format.specs.ClipRecord.{entryTime, entryCells, entrySize};
 ghost use Rattle.format.specs.Questions.{ask, indexedSpan90k, spanOf, firstPts, lastPts};
-ghost use Rattle.format.specs.Tables.{cellsAt, entryCells, entrySize};
+ghost use Rattle.format.specs.Tables.{cellsAt};
 ghost use Rattle.ticks.specs.Times.{as90};
 ghost use Rattle.queries.specs.Answers.{time90Of};
 ghost use Rattle.queries.specs.Asked.{stated, mapsAndEntries};

@@ -6,10 +6,10 @@ use mathlib.Core.Bool.{true}
 use lib.ListN.{length, drop}
 use lib.Dec.{lit<, lit≤}
 use borrow.Author.Tests.{le-leb}
-use Rattle.format.specs.ClipRecord.{Row, Clip}
+use Rattle.format.specs.ClipRecord.{Row, Clip, entryCells}
 use Rattle.format.specs.Questions.{Part, scalars, atcs, stcs, programs, streams, maps, entries, partsOf, partStated, HoldsPart, Question, entryPointAtOrBefore, entryPointAfter, primaryVideoEpMap, spnToByte, byteToSpn, stcSequenceById, stcSequenceForSpn, streamByPid, primaryVideoPid, duration45k, duration90k, presentationSpan90k, indexedSpan90k, transferDurationSecs, minutesRemaining, seekSpn, nextSeekSpn, primarySeekSpn, primaryNextSeekSpn, firstPts, lastPts, epMapByKind, nextVideoEpMap, clipByteLen, firstStcSequence, programByPmtPid, nextVideoStream, nextAudioStream, answer, ask}
 use Rattle.format.specs.Refusals.{accepted, tablesOf, statedOf, tablesAnswer, allStated}
-use Rattle.format.specs.Tables.{tableBytes, rowRoom, overwritten, atcCells, stcCells, programCells, streamCells, mapCells, entryCells, Table, isStated, rowsOf, ClipTables, clipIn, Nine, HoldsRows, HoldsClip, Room}
+use Rattle.format.specs.Tables.{tableBytes, rowRoom, overwritten, atcCells, stcCells, programCells, streamCells, mapCells, Table, isStated, rowsOf, ClipTables, clipIn, Nine, HoldsRows, HoldsClip, Room}
 use Rattle.format.proofs.Fields.{Fit}
 use Rattle.format.proofs.Lists.{All, all-every, all-append, all-map, none, more}
 use Rattle.format.proofs.Tables.{Cells, fit-cells, table-back, table-room}

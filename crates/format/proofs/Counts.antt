@@ -8,13 +8,13 @@ use native.Mathlib.Omega.{arith}
 use lib.ListN.{length, take, drop, length-append}
 use lib.Dec.{leb, eqb, lit<, lit≤}
 use Rattle.format.specs.Bytes.{IsBytes, both, pick, beAt, gather}
-use Rattle.format.specs.ClipRecord.{Row, sequencesStart, programsStart, cpiStart, extensionsStart, stcsOf, nextAtc, atcsFrom, stcsFrom}
+use Rattle.format.specs.ClipRecord.{Row, sequencesStart, programsStart, cpiStart, extensionsStart, stcsOf, nextAtc, atcsFrom, stcsFrom, entryCells}
 use Rattle.format.specs.Programs.{streamsOf, nextProgram, programsFrom, streamsFrom}
 use Rattle.format.specs.EntryPoints.{nextMap, entriesOf, mapCount, mapsFrom, entriesFrom}
 use Rattle.format.specs.Extensions.{Found, nothing, found, isKept, extensionAt, keptAt, nextExtension, extensionCount, hasExtensions, extensionRows, dataLength, dataStart, dataOf, extensionOf, extensionsFrom, listData, listIn, listProgramsOf, listStreamsOf}
 use Rattle.format.specs.Reading.{clipOf, recordOf}
 use Rattle.format.specs.Refusals.{ReadAnswer, refused, tooShort, accepted, refusalOf, tablesOf, statedOf, tablesAnswer, readAnswer}
-use Rattle.format.specs.Tables.{Nine, atcCells, stcCells, programCells, streamCells, mapCells, entryCells, extensionCells, rowRoom}
+use Rattle.format.specs.Tables.{Nine, atcCells, stcCells, programCells, streamCells, mapCells, extensionCells, rowRoom}
 use Rattle.format.proofs.Read.{own-length, few-maps}
 use Rattle.format.proofs.Rows.{rows-length}
 use Rattle.format.proofs.Stores.{be-below}

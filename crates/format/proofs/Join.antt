@@ -7,7 +7,7 @@ use native.Mathlib.Nat.{le-refl}
 use native.Mathlib.Omega.{arith}
 use lib.ListN.{getD}
 use borrow.Author.Tests.{le-leb, lt-leb, eqb-true}
-use Rattle.format.specs.ClipRecord.{Row, time, entryType}
+use Rattle.format.specs.ClipRecord.{Row, time, packet, entryType}
 use Rattle.format.specs.EntryPoints.{coarseTime, coarsePacket, entryOf, stepOn, coarseFor, entriesFor}
 use Rattle.format.specs.Refusals.{entryBits}
 use Rattle.format.specs.Rewriting.{timeKey, packetKey, sameRun, coarseRow, unlessSame, coarseAfter, coarseRows, fineRow}
@@ -35,8 +35,8 @@ finesOf (e ∷ es) = fineRow e ∷ finesOf es
 
 -- coarse row c has the key of entry e
 record Covers (c e : Row) : Type 0 where
-  same-time : coarseTime c ≡ timeKey e
-  same-packet : coarsePacket c / 131072 ≡ packetKey e
+  same-time : coarseTime c ≡ timeKey (time e)
+  same-packet : coarsePacket c / 131072 ≡ packetKey (packet e)
 
 -- an entry of a map of this type
 pub record GoodEntry (type : ℕ) (e : Row) : Type 0 where
@@ -73,8 +73,8 @@ module _ (type : ℕ) (whole : List Row) where
       go true t way rest =
           let b = both-true t in
           let cov′ : Covers c x = record {
-            same-time = cov .same-time ∙ eqb-true (timeKey e) (timeKey x) (b .0);
-            same-packet = cov .same-packet ∙ eqb-true (packetKey e) (packetKey x) (b .1);
+            same-time = cov .same-time ∙ eqb-true (timeKey (time e)) (timeKey (time x)) (b .0);
+            same-packet = cov .same-packet ∙ eqb-true (packetKey (packet e)) (packetKey (packet x)) (b .1);
           } in
           ap₂ (λ (y : Row) (ys : List Row). y ∷ ys)
           (here c cov′ (way k (le-refl k) ∙ stay c x k (suc k) xs (le-refl (suc k))))

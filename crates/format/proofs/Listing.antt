@@ -7,10 +7,10 @@ use lib.ListN.{length, drop, length-replicate}
 use lib.Dec.{leb, eqb, lit<}
 use borrow.Author.Tests.{leb-true}
 use Rattle.format.specs.Bytes.{IsBytes, total}
-use Rattle.format.specs.ClipRecord.{Row, entryCount}
+use Rattle.format.specs.ClipRecord.{Row, entryCount, entryCells}
 use Rattle.format.specs.Reading.{clipOf}
 use Rattle.format.specs.Refusals.{Stated, ReadAnswer, refused, tooShort, accepted, refusalOf, tablesOf, statedOf, unlessShort, tablesAnswer, readAnswer}
-use Rattle.format.specs.Tables.{Nine, Room, tableBytes, tableRows, rowRoom, overwritten, atcCells, stcCells, programCells, streamCells, mapCells, entryCells, extensionCells}
+use Rattle.format.specs.Tables.{Nine, Room, tableBytes, tableRows, rowRoom, overwritten, atcCells, stcCells, programCells, streamCells, mapCells, extensionCells}
 use Rattle.format.specs.Listing.{rows4096, listingTables}
 use Rattle.format.proofs.Counts.{AtMost}
 use Rattle.format.proofs.Tests.{picked}

@@ -9,7 +9,7 @@ use lib.Seq.{take-at, drop-at}
 use lib.Dec.{leb, eqb, lit<}
 use borrow.Author.Tests.{leb-true, le-leb, lt-leb}
 use Rattle.format.specs.Bytes.{IsBytes, both, pick, beAt, rowsAt, gather}
-use Rattle.format.specs.ClipRecord.{Row, Clip, atcStcCount, streamCount, entryCount, scalarsOf, atcAt, stcAt, nextStc, stcsOf, nextAtc, atcsFrom, stcsFrom}
+use Rattle.format.specs.ClipRecord.{Row, Clip, atcStcCount, streamCount, entryCount, versionOf, sequencesStart, programsStart, cpiStart, scalarsOf, atcAt, stcAt, nextStc, stcsOf, nextAtc, atcsFrom, stcsFrom}
 use Rattle.format.specs.EntryPoints.{coarseAt, nextCoarse, firstFine, fineAt, nextFine, joinTime, joinPacket, entryOf, stepOn, coarseFor, entriesFor, mapTypeAt, coarseCountAt, fineCountAt, mapAt, nextMap, bodyAt, fineStart, entriesOf, hasMaps, mapCount, mapsFrom, entriesFrom}
 use Rattle.format.specs.Programs.{isVideo, lower, lowered, codingAt, formatAt, aspectAt, languageAt, streamAt, nextStream, programAt, streamsOf, nextProgram, programsFrom, streamsFrom, loweredStream}
 use Rattle.format.specs.Reading.{clipOf}
@@ -284,13 +284,13 @@ module _ (f : List ℕ) (bytes : IsBytes f) where
   pub good-clip : GoodClip 262143 (clipOf f)
   unfolding clipOf scalarsOf atcsFrom stcsFrom programsFrom streamsFrom mapsFrom entriesFrom
   good-clip =
-      let a = beAt f 8 4 in
-      let b = beAt f 12 4 in
-      let c = beAt f 16 4 in
+      let a = sequencesStart f in
+      let b = programsStart f in
+      let c = cpiStart f in
       let na = below (a + 5) 1 in
       let nb = below (b + 5) 1 in
       record {
-        scalars = fit 32 (beAt f 4 4) (below 4 4) (fit 8 (beAt f 46 1) (below 46 1) (fit 8 (beAt f 47 1) (below 47 1)
+        scalars = fit 32 (versionOf f) (below 4 4) (fit 8 (beAt f 46 1) (below 46 1) (fit 8 (beAt f 47 1) (below 47 1)
             (fit 32 (beAt f 52 4) (below 52 4) (fit 32 (beAt f 56 4) (below 56 4) (fit 8 (beAt f 188 1) (below 188 1)
             (fit 32 (beAt f 190 4) (below 190 4) Fit.none))))));
         atcs-few = rw rows-length (omega arith);

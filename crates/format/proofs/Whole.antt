@@ -8,7 +8,7 @@ use lib.ListN.{length, getD, length-append}
 use lib.Dec.{leb, lit<}
 use borrow.Author.Tests.{le-leb}
 use Rattle.format.specs.Bytes.{beAt, fieldBytes, fieldsAt}
-use Rattle.format.specs.ClipRecord.{Clip, lettersRight, scalarsOf, clipInfoIn, atcsFrom, stcsFrom, sequencesEnd, marksFrom, marksIn}
+use Rattle.format.specs.ClipRecord.{Clip, lettersRight, sequencesStart, programsStart, cpiStart, marksStart, scalarsOf, clipInfoIn, atcsFrom, stcsFrom, sequencesEnd, marksFrom, marksIn}
 use Rattle.format.specs.EntryPoints.{mapsFrom, entriesFrom, cpiIn, mapsIn}
 use Rattle.format.specs.Extensions.{extensionRows, extensionsFrom, listData, listIn}
 use Rattle.format.specs.Programs.{programsFrom, streamsFrom, programsEnd, loweredStream, loweredClip}
@@ -143,12 +143,12 @@ module _ (c : Clip) (good : GoodClip 65535 c) where
   pub reads-back : clipOf (encode c) ≡ loweredClip c
   unfolding clipOf loweredClip
   reads-back =
-      let a : atcsFrom (encode c) (beAt (encode c) 8 4) ≡ c .atcs = rw (at 2) (sequences .0) in
-      let b : stcsFrom (encode c) (beAt (encode c) 8 4) ≡ c .stcs = rw (at 2) (sequences .1) in
-      let d : programsFrom (encode c) (beAt (encode c) 12 4) ≡ c .programs = rw (at 3) (programs .0) in
-      let e : streamsFrom (encode c) (beAt (encode c) 12 4) ≡ map loweredStream (c .streams) = rw (at 3) (programs .1) in
-      let m : mapsFrom (encode c) (beAt (encode c) 16 4) ≡ c .maps = rw (at 4) (cpi .0) in
-      let n : entriesFrom (encode c) (beAt (encode c) 16 4) ≡ c .entries = rw (at 4) (cpi .1) in
+      let a : atcsFrom (encode c) (sequencesStart (encode c)) ≡ c .atcs = rw (at 2) (sequences .0) in
+      let b : stcsFrom (encode c) (sequencesStart (encode c)) ≡ c .stcs = rw (at 2) (sequences .1) in
+      let d : programsFrom (encode c) (programsStart (encode c)) ≡ c .programs = rw (at 3) (programs .0) in
+      let e : streamsFrom (encode c) (programsStart (encode c)) ≡ map loweredStream (c .streams) = rw (at 3) (programs .1) in
+      let m : mapsFrom (encode c) (cpiStart (encode c)) ≡ c .maps = rw (at 4) (cpi .0) in
+      let n : entriesFrom (encode c) (cpiStart (encode c)) ≡ c .entries = rw (at 4) (cpi .1) in
       λ i. record { scalars = scalars i; atcs = a i; stcs = b i; programs = d i; streams = e i; maps = m i; entries = n i }
 
   -- no marks, and no extensions
@@ -175,13 +175,13 @@ module _ (c : Clip) (good : GoodClip 65535 c) where
       let l = facts c good .long in
       let t2 : lettersRight (encode c) ≡ true = rw (at 0) in
       let t3 : clipInfoIn (encode c) ≡ true = true-both (le-leb 194 n (omega arith)) (rw (at 8) (le-leb 220 n (omega arith))) in
-      let t4 : leb (sequencesEnd (encode c) (beAt (encode c) 8 4)) n ≡ true =
+      let t4 : leb (sequencesEnd (encode c) (sequencesStart (encode c))) n ≡ true =
       rw (at 2, sequences .2) (le-leb (220 + length (sequencesBytes c)) n (omega arith)) in
-      let t5 : leb (programsEnd (encode c) (beAt (encode c) 12 4)) n ≡ true =
+      let t5 : leb (programsEnd (encode c) (programsStart (encode c))) n ≡ true =
       rw (at 3, programs .2) (le-leb (pr c good + length (programsBytes c)) n (omega arith)) in
-      let t6 : cpiIn (encode c) (beAt (encode c) 16 4) ≡ true = rw (at 4) (cpi .2) in
-      let t7 : mapsIn (encode c) (beAt (encode c) 16 4) ≡ true = rw (at 4) (cpi .3) in
-      let t8 : marksIn (encode c) (beAt (encode c) 20 4) ≡ true =
+      let t6 : cpiIn (encode c) (cpiStart (encode c)) ≡ true = rw (at 4) (cpi .2) in
+      let t7 : mapsIn (encode c) (cpiStart (encode c)) ≡ true = rw (at 4) (cpi .3) in
+      let t8 : marksIn (encode c) (marksStart (encode c)) ≡ true =
       rw (at 5, is-present (encode c) (mk c good) (λ e. omega arith) (omega arith)) (le-leb (mk c good + 6) n (omega arith)) in
       pass 20 (le-leb n 536870912 (omega arith))
       (pass 1 (le-leb 8 n (omega arith))

@@ -96,24 +96,38 @@ mapType map = getD map 1 0
 abbrev pub entryCount : Row → ℕ
 entryCount map = getD map 2 0
 
+-- an entry of these five numbers. Its time is the one number of a table that has 64 bits: two cells, its low 32 bits in the first
+abbrev pub entryRow : (angle iEnd time packet type : ℕ) → Row
+entryRow a i t p y = a ∷ i ∷ t % 2 ^ 32 ∷ t / 2 ^ 32 ∷ p ∷ y ∷ []
+
+-- how many cells that are, and how many bytes, four for each
+abbrev pub entryCells : ℕ
+entryCells = 6
+
+abbrev pub entrySize : ℕ
+entrySize = 4 * entryCells
+
+-- an entry's cells in their order
 abbrev pub angle : Row → ℕ
 angle entry = getD entry 0 0
 
 abbrev pub iEnd : Row → ℕ
 iEnd entry = getD entry 1 0
 
--- an entry of these five numbers. Its time is the one number of a table that has 64 bits: two cells, its low 32 bits in the first
-abbrev pub entryRow : (angle iEnd time packet type : ℕ) → Row
-entryRow a i t p y = a ∷ i ∷ t % 2 ^ 32 ∷ t / 2 ^ 32 ∷ p ∷ y ∷ []
+abbrev pub timeLow : Row → ℕ
+timeLow entry = getD entry 2 0
 
--- an entry's time as the number that is read and written, and as what it counts
+abbrev pub timeHigh : Row → ℕ
+timeHigh entry = getD entry 3 0
+
+-- the time as the number that is read and written, and as what it counts
 abbrev pub time : Row → ℕ
-time entry = getD entry 2 0 + getD entry 3 0 * 2 ^ 32
+time entry = timeLow entry + timeHigh entry * 2 ^ 32
 
 abbrev pub entryTime : Row → Ticks90
 entryTime entry = record { ticks = time entry }
 
--- an entry's last two cells: its packet, and its type, which is to be its map's
+-- the last two: the packet, and the type, which is to be its map's
 abbrev pub packet : Row → ℕ
 packet entry = getD entry 4 0
 
@@ -133,9 +147,13 @@ clpi = 0x434C5049
 abbrev pub areLetters : ℕ → Bool
 areLetters letters = either (eqb letters hdmv) (eqb letters clpi)
 
--- HDMV or CLPI at 0, not kept
+-- the four bytes at 0 as one number, whatever they say
+abbrev pub lettersOf : List ℕ → ℕ
+lettersOf f = beAt f 0 4
+
+-- HDMV or CLPI, not kept
 unfoldable pub lettersRight : List ℕ → Bool
-lettersRight f = areLetters (beAt f 0 4)
+lettersRight f = areLetters (lettersOf f)
 
 -- four bytes as one number, whatever they say
 abbrev pub versionOf : List ℕ → ℕ

@@ -4,9 +4,9 @@ use mathlib.Core.List.{List, [], _∷_, _++_}
 use lib.ListN.{length, take, drop, replicate}
 use lib.Dec.{leb, ltb}
 use Rattle.format.specs.Bytes.{pick, flat}
-use Rattle.format.specs.ClipRecord.{Row, Record, mapPid, mapType, entryCount, time, packet}
+use Rattle.format.specs.ClipRecord.{Row, Record, mapPid, mapType, entryCount, time, packet, entryCells}
 use Rattle.format.specs.Reading.{recordOf}
-use Rattle.format.specs.Tables.{Nine, atcCells, stcCells, programCells, streamCells, mapCells, entryCells, extensionCells}
+use Rattle.format.specs.Tables.{Nine, atcCells, stcCells, programCells, streamCells, mapCells, extensionCells}
 use Rattle.format.specs.Refusals.{ReadAnswer, refused, tooShort, accepted, readAnswer}
 
 -- ---- numbers and lines

@@ -9,9 +9,9 @@ use lib.IntN.{pos}
 use lib.Ieee.{Float, nan, inf, fin, binary64, up, down, ofInt, div, ofBits, toBits}
 use Rattle.format.specs.Bytes.{both, either, pick, every, total}
 use Rattle.format.specs.Ticks.{Ticks45, Ticks90, doubled, less45, less90, minutes}
-use Rattle.format.specs.ClipRecord.{Row, Clip, atcStcCount, offsetId, stcPacket, stcStart, stcEnd, pmtPid, streamPid, codingType, mapPid, mapType, entryCount, time, packet, entryTime}
+use Rattle.format.specs.ClipRecord.{Row, Clip, atcStcCount, offsetId, stcPacket, stcStart, stcEnd, pmtPid, streamPid, codingType, mapPid, mapType, entryCount, time, packet, entryTime, entryCells}
 use Rattle.format.specs.Programs.{isVideo}
-use Rattle.format.specs.Tables.{ClipTables, isStated, addUp, isRow, clipIn, HoldsRows, atcCells, stcCells, programCells, streamCells, mapCells, entryCells}
+use Rattle.format.specs.Tables.{ClipTables, isStated, addUp, isRow, clipIn, HoldsRows, atcCells, stcCells, programCells, streamCells, mapCells}
 
 -- every question with its arguments, and what it answers. Rows are counted from 0, entries within their map, STCs through all ATCs.
 -- A caller's 90 kHz time has 32 bits for entry lookups and 64 elsewhere; the answers here hold for any number.

@@ -5,12 +5,12 @@ use mathlib.Core.Bool.{Bool, true, false}
 use lib.ListN.{length, getD, take, drop, replicate}
 use lib.Dec.{leb, ltb, eqb}
 use Rattle.format.specs.Bytes.{both, pick, every, unless, fits}
-use Rattle.format.specs.ClipRecord.{Row, Scalars, Clip, atcStcCount, streamCount, codingType, aspect, language, mapType, entryCount, time, entryType, lettersRight, clipInfoIn, sequencesStart, programsStart, cpiStart, marksStart, extensionsStart, sequencesEnd, marksIn}
+use Rattle.format.specs.ClipRecord.{Row, Scalars, Clip, atcStcCount, streamCount, codingType, aspect, language, mapType, entryCount, time, entryType, lettersRight, clipInfoIn, sequencesStart, programsStart, cpiStart, marksStart, extensionsStart, sequencesEnd, marksIn, entryCells}
 use Rattle.format.specs.Programs.{isVideo, programsEnd}
 use Rattle.format.specs.EntryPoints.{cpiIn, mapsIn}
 use Rattle.format.specs.Extensions.{extensionRows, dataStart, dataLength, dataOf, dataIn}
 use Rattle.format.specs.Reading.{recordOf}
-use Rattle.format.specs.Tables.{Nine, tableBytes, rowRoom, overwritten, Table, isStated, addUp, rowsOf, ClipTables, clipIn, atcCells, stcCells, programCells, streamCells, mapCells, entryCells, extensionCells}
+use Rattle.format.specs.Tables.{Nine, tableBytes, rowRoom, overwritten, Table, isStated, addUp, rowsOf, ClipTables, clipIn, atcCells, stcCells, programCells, streamCells, mapCells, extensionCells}
 use Rattle.format.specs.Rewriting.{runs, encode}
 
 -- ---- reading a file: 20, 1 (8 bytes), 2, 1 (40 bytes), 3 to 8

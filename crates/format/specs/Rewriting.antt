@@ -12,19 +12,27 @@ use Rattle.format.specs.EntryPoints.{coarseWidths, fineWidths, headerWid
 -- ---- runs: a run is document 01's word for a longest stretch of entries in one map with equal keys
 
 -- the two keys of a run: time div 524,288 and packet div 131,072
-abbrev pub timeKey : Row → ℕ
-timeKey e = time e / 524288
+abbrev pub timeKey : ℕ → ℕ
+timeKey t = t / 524288
 
-abbrev pub packetKey : Row → ℕ
-packetKey e = packet e / 131072
+abbrev pub packetKey : ℕ → ℕ
+packetKey p = p / 131072
+
+-- two entries with these times and packets have both keys equal
+abbrev pub sameKeys : (time packet time′ packet′ : ℕ) → Bool
+sameKeys t p t′ p′ = both (eqb (timeKey t) (timeKey t′)) (eqb (packetKey p) (packetKey p′))
 
 -- neighbours with both keys equal are in one run
 abbrev pub sameRun : Row → Row → Bool
-sameRun e x = both (eqb (timeKey e) (timeKey x)) (eqb (packetKey e) (packetKey x))
+sameRun e x = sameKeys (time e) (packet e) (time x) (packet x)
 
--- the coarse row of a run whose first entry is x, number k of its map: first fine row, time, x's full packet
+-- the coarse row of a run whose first entry, number k of its map, has this time and packet: first fine row, time, full packet
+abbrev pub coarseBy : (k time packet : ℕ) → Row
+coarseBy k t p = k ∷ timeKey t ∷ p ∷ []
+
+-- the same by that entry
 abbrev pub coarseRow : ℕ → Row → Row
-coarseRow k x = k ∷ timeKey x ∷ packet x ∷ []
+coarseRow k x = coarseBy k (time x) (packet x)
 
 -- a coarse row stands before the later ones unless its entry is in the run before
 abbrev pub unlessSame : Bool → Row → List Row → List Row
@@ -94,9 +102,13 @@ programsBytes c = sectionBytes (length (c .programs)) (groups programBytes strea
 abbrev pub coarseBytes : Row → List ℕ
 coarseBytes row = bytesOf 8 (packed coarseWidths row)
 
--- what the fine row of an entry holds: angle, I-end, and the low bits of its time and packet
+-- what the fine row of an entry of these numbers holds: angle, I-end, and the low bits of time and packet
+abbrev pub fineBy : (angle iEnd time packet : ℕ) → Row
+fineBy a i t p = a ∷ i ∷ t / 512 % 2048 ∷ p % 131072 ∷ []
+
+-- the same by the entry
 abbrev pub fineRow : Row → Row
-fineRow e = angle e ∷ iEnd e ∷ time e / 512 % 2048 ∷ packet e % 131072 ∷ []
+fineRow e = fineBy (angle e) (iEnd e) (time e) (packet e)
 
 -- an entry's fine row takes 4 bytes
 abbrev pub fineBytes : Row → List ℕ

@@ -6,7 +6,7 @@ use mathlib.Core.Bool.{Bool}
 use lib.ListN.{length, getD, drop}
 use lib.Dec.{leb, ltb, eqb}
 use Rattle.format.specs.Bytes.{rowsAt, flat, total}
-use Rattle.format.specs.ClipRecord.{Row, Scalars, Clip}
+use Rattle.format.specs.ClipRecord.{Row, Scalars, Clip, entryCells}
 
 -- ---- cells
 
@@ -54,7 +54,7 @@ overwritten new old = new ++ drop (length new) old
 
 -- ---- the cells of a row, by table
 
--- tables 1 to 7; tables 8 and 9 have the cells of 3 and 4
+-- tables 1 to 7; that of 6, the entries, stands beside its row; tables 8 and 9 have the cells of 3 and 4
 abbrev pub atcCells : ℕ
 atcCells = 3
 
@@ -69,13 +69,6 @@ streamCells = 5
 
 abbrev pub mapCells : ℕ
 mapCells = 3
-
-abbrev pub entryCells : ℕ
-entryCells = 6
-
--- the bytes of an entry's row
-abbrev pub entrySize : ℕ
-entrySize = 4 * entryCells
 
 abbrev pub extensionCells : ℕ
 extensionCells = 4

@@ -7,9 +7,9 @@ use native.Mathlib.Omega.{arith}
 use lib.ListN.{length}
 use borrow.Author.Tests.{le-leb, lt-leb, not-true, not-false}
 use Rattle.format.specs.Bytes.{both, every}
-use Rattle.format.specs.ClipRecord.{atcStcCount, streamCount, entryCount}
+use Rattle.format.specs.ClipRecord.{atcStcCount, streamCount, entryCount, entryCells}
 use Rattle.format.specs.Refusals.{scalarsFit, cellsFit, allStated, countsAdd}
-use Rattle.format.specs.Tables.{ClipTables, isStated, addUp, rowsOf, clipIn, tableRows, rowRoom, atcCells, stcCells, programCells, streamCells, mapCells, entryCells}
+use Rattle.format.specs.Tables.{ClipTables, isStated, addUp, rowsOf, clipIn, tableRows, rowRoom, atcCells, stcCells, programCells, streamCells, mapCells}
 use Rattle.table_rows.specs.OwnRows.{isCounted}
 use Rattle.row_limits.specs.Kinds.{cellsOf, fitsBy}
 use Rattle.row_limits.specs.declared.Kind.{Kind}

@@ -6,8 +6,8 @@ use native.Mathlib.Omega.{arith}
 use lib.ListN.{length, getD}
 use lib.Dec.{lit<}
 use Rattle.format.specs.Bytes.{flat, total}
-use Rattle.format.specs.ClipRecord.{Row, Record, entryCount, packet}
-use Rattle.format.specs.Tables.{cellsAt, mapCells, entryCells, entrySize}
+use Rattle.format.specs.ClipRecord.{Row, Record, entryCount, packet, entryCells, entrySize}
+use Rattle.format.specs.Tables.{cellsAt, mapCells}
 use Rattle.format.specs.Listing.{line, mapWord, epWord, epLine, mapLine, mapLines, recordLines}
 use Rattle.format.proofs.Loops.{one-left, none-left, total-turn, sets-front}
 use Rattle.format.proofs.Rows.{take-rows, drop-rows}

@@ -3,9 +3,9 @@ use Prim.Native.Nat.{ℕ, _+_, _*_, _^_, _≤_, _<_}
 use mathlib.Core.Path.{_≡_}
 use mathlib.Core.List.{List, [], _∷_, _++_}
 use lib.ListN.{length}
-use Rattle.format.specs.ClipRecord.{Row, Record, entryCount, time}
+use Rattle.format.specs.ClipRecord.{Row, Record, entryCount, time, entryCells, entrySize}
 use Rattle.format.specs.Bytes.{rowsAt, total}
-use Rattle.format.specs.Tables.{cellsAt, tableRows, rowRoom, overwritten, mapCells, entryCells, entrySize}
+use Rattle.format.specs.Tables.{cellsAt, tableRows, rowRoom, overwritten, mapCells}
 use Rattle.format.specs.Listing.{line, clipWord, seqWord, progWord, markWord, mapLines}
 
 -- the first r bytes of e are the text s, and what stands beyond them is what d had

@@ -7,12 +7,11 @@ use lib.ListN.{length, set}
 use lib.Seq.{sets, set-comm}
 use Rattle.format.specs.Bytes.{bytesOf, fieldBytes, packed}
 use Rattle.format.specs.EntryPoints.{headerWidths, coarseWidths, fineWidths}
-use Rattle.format.specs.Rewriting.{coarseBytes}
+use Rattle.format.specs.Rewriting.{coarseBytes, coarseBy, fineBy}
 use Rattle.format.proofs.Fields.{Fit, fit}
 use Rattle.format.proofs.Stores.{sets-append, field-then, field-last, bytes-parts, bytes-low}
 use Rattle.bits.specs.Words.{lowBits}
 use Rattle.bits.proofs.Laws.{low-same}
-use Rattle.runs.specs.Runs.{coarseBy, fineBy}
 
 -- ---- stores
 

@@ -1,14 +1,14 @@
 -- The loops that store the coarse rows and the fine rows of a map from the file.
 use Prim.Native.Nat.{ℕ, _+_, _*_, _^_, _<_, _≤_}
 use mathlib.Core.Path.{_≡_, refl, ap, _∙_}
-use mathlib.Core.List.{List, [], _∷_}
+use mathlib.Core.List.{List}
 use native.Mathlib.Omega.{arith}
 use lib.ListN.{length}
 use lib.Seq.{sets, length-sets}
 use Rattle.format.specs.Bytes.{bytesOf, packed, flat}
 use Rattle.format.specs.ClipRecord.{Row, angle, iEnd}
 use Rattle.format.specs.EntryPoints.{coarseWidths, fineWidths, fineAt, fineTime, coarseTime, coarseFor, joinTime}
-use Rattle.format.specs.Rewriting.{coarseRow, coarseRows, runs, coarseBytes, fineRow, fineBytes}
+use Rattle.format.specs.Rewriting.{coarseRow, coarseRows, runs, coarseBytes, fineRow, fineBytes, coarseBy, fineBy}
 use Rattle.format.proofs.Fields.{time-cells}
 use Rattle.format.proofs.Loops.{put-more}
 use Rattle.format.proofs.Numbers.{bytes-length}
@@ -19,7 +19,7 @@ use Rattle.ep_entries.specs.Walks.{IsWalk}
 use Rattle.ep_entries.specs.declared.body.MapBody.{MapBody}
 use Rattle.ep_entries.specs.declared.walk.Walk.{Walk}
 use Rattle.ep_entries.proofs.Joined.{left-all, left-turn, left-done}
-use Rattle.runs.specs.Runs.{coarseBy, fineBy, endFrom, coarseFrom}
+use Rattle.runs.specs.Runs.{endFrom, coarseFrom}
 use Rattle.runs.proofs.Runs.{coarse-all}
 use Rattle.encode_map.proofs.Bodies.{Narrow}
 use Rattle.map_runs.specs.Entries.{IsMet, IsEnd}

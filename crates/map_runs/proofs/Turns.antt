@@ -10,7 +10,7 @@ use lib.ListN.{length}
 use Rattle.format.specs.Bytes.{beAt, unpacked}
 use Rattle.format.specs.ClipRecord.{time, packet}
 use Rattle.format.specs.EntryPoints.{fineWidths}
-use Rattle.format.specs.Rewriting.{sameRun, runs}
+use Rattle.format.specs.Rewriting.{sameRun, runs, sameKeys}
 use Rattle.format.proofs.Fields.{time-cells}
 use Rattle.ep_entries.specs.Body.{coarseIn, entriesIn, entriesLeft, entryIn}
 use Rattle.ep_entries.specs.Entries.{joined}
@@ -20,7 +20,7 @@ use Rattle.ep_entries.specs.declared.entries.Entry.{Entry}
 use Rattle.ep_entries.specs.declared.walk.Walk.{Walk}
 use Rattle.ep_entries.proofs.Walks.{walk-stop, walk-later}
 use Rattle.ep_entries.proofs.Joined.{left-all, left-turn, left-done}
-use Rattle.runs.specs.Runs.{sameKeys, runEnd, endFrom, coarseFrom}
+use Rattle.runs.specs.Runs.{runEnd, endFrom, coarseFrom}
 use Rattle.runs.proofs.Runs.{coarse-all}
 use Rattle.map_runs.specs.Entries.{AtRow, IsMet, IsEnd}
 use Rattle.map_runs.specs.declared.walked.Met.{Met}

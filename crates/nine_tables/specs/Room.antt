@@ -2,7 +2,8 @@
 use Prim.Native.Nat.{ℕ, _*_, _/_}
 use lib.Dec.{leb}
 use Rattle.format.specs.Bytes.{pick}
-use Rattle.format.specs.Tables.{atcCells, stcCells, programCells, streamCells, mapCells, entryCells, extensionCells}
+use Rattle.format.specs.ClipRecord.{entryCells}
+use Rattle.format.specs.Tables.{atcCells, stcCells, programCells, streamCells, mapCells, extensionCells}
 use Rattle.nine_tables.specs.declared.Rows.{Rows}
 use Rattle.nine_tables.specs.declared.Room.{Room}
 

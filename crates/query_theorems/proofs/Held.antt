@@ -3,9 +3,9 @@ use Prim.Native.Nat.{ℕ, _<_}
 use mathlib.Core.Path.{_≡_, sym, ap}
 use mathlib.Core.List.{List, [], _∷_}
 use lib.Dec.{lit<}
-use Rattle.format.specs.ClipRecord.{Row, Clip, Record}
+use Rattle.format.specs.ClipRecord.{Row, Clip, Record, entryCells}
 use Rattle.format.specs.Reading.{recordOf}
-use Rattle.format.specs.Tables.{Table, HoldsRows, stcCells, streamCells, entryCells}
+use Rattle.format.specs.Tables.{Table, HoldsRows, stcCells, streamCells}
 use Rattle.format.specs.Questions.{Question, partsOf, ask}
 use Rattle.format.specs.Questions as of
 use Rattle.format.proofs.Lists.{All, none, more}

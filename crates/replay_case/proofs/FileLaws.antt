@@ -10,12 +10,12 @@ use lib.Seq.{take-at}
 use lib.Dec.{leb, eqb, lit<}
 use borrow.Author.Tests.{leb-true, le-leb, eqb-true, eqb-false, ne-eqb}
 use Rattle.format.specs.Bytes.{IsBytes, pick, beAt, gather, flat}
-use Rattle.format.specs.ClipRecord.{Row, extensionsStart}
+use Rattle.format.specs.ClipRecord.{Row, extensionsStart, entryCells}
 use Rattle.format.specs.Programs.{programAt, nextStream, streamAt, streamsOf, nextProgram, programsFrom, streamsFrom}
 use Rattle.format.specs.Extensions.{Found, nothing, found, blockEnd, addressAt, dataLengthAt, nextExtension, extensionAt, isKept, keptAt, hasExtensions, extensionCount, extensionRows, extensionsFrom, extensionOf, dataIn, listData, listIn, listProgramsOf, listStreamsOf}
 use Rattle.format.specs.Reading.{clipOf, recordOf}
 use Rattle.format.specs.Refusals.{ReadAnswer, refused, tooShort, accepted, Stated, refusalOf, tablesOf, statedOf, tablesAnswer, readAnswer, readNumbers, tableBy, tablesAfter}
-use Rattle.format.specs.Tables.{Nine, rowBytes, tableBytes, overwritten, rowRoom, rowsOf, atcCells, stcCells, programCells, streamCells, mapCells, entryCells, extensionCells}
+use Rattle.format.specs.Tables.{Nine, rowBytes, tableBytes, overwritten, rowRoom, rowsOf, atcCells, stcCells, programCells, streamCells, mapCells, extensionCells}
 use Rattle.format.proofs.Tests.{both-true, picked, passed}
 use Rattle.format.proofs.Lists.{All, none, more, all-map, all-at}
 use Rattle.format.proofs.Rows.{rows-all, gather-all}

@@ -3,9 +3,9 @@ use Prim.Native.Nat.{ℕ, _*_}
 use mathlib.Core.List.{List, [], _∷_, _++_}
 use lib.ListN.{length, replicate}
 use Rattle.format.specs.Bytes.{flat}
-use Rattle.format.specs.ClipRecord.{Extension, Record}
+use Rattle.format.specs.ClipRecord.{Extension, Record, entryCells}
 use Rattle.format.specs.Reading.{recordOf}
-use Rattle.format.specs.Tables.{Nine, rowBytes, tableBytes, atcCells, stcCells, programCells, streamCells, mapCells, entryCells, extensionCells}
+use Rattle.format.specs.Tables.{Nine, rowBytes, tableBytes, atcCells, stcCells, programCells, streamCells, mapCells, extensionCells}
 use Rattle.format.specs.Refusals.{ReadAnswer, refused, tooShort, accepted, readAnswer, readNumbers}
 
 -- ---- the tables that a sample's files are read into

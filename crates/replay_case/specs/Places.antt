@@ -4,9 +4,9 @@ use mathlib.Core.Path.{_≡_}
 use mathlib.Core.List.{List}
 use mathlib.Core.Bool.{true}
 use Rattle.format.specs.Bytes.{flat}
-use Rattle.format.specs.ClipRecord.{Row}
+use Rattle.format.specs.ClipRecord.{Row, entryCells}
 use Rattle.format.specs.Extensions.{extensionOf, dataIn}
-use Rattle.format.specs.Tables.{Table, rowBytes, rowRoom, atcCells, stcCells, programCells, streamCells, mapCells, entryCells, extensionCells}
+use Rattle.format.specs.Tables.{Table, rowBytes, rowRoom, atcCells, stcCells, programCells, streamCells, mapCells, extensionCells}
 use Rattle.format.specs.Refusals.{extensionRow}
 use Rattle.clpi_reading.specs.declared.ClpiReading.{ClpiReading}
 use Rattle.clpi_reading.specs.Numbers.{readingNumbers}

@@ -41,13 +41,14 @@ pub fn plan(file: &[u8]) -> Planned
             };
             let programs_at = 226 + 6 * atcs + 14 * stcs;
             let cpi_at = programs_at + programs_length(file, starts.programs);
+            let marks_at = cpi_at + len;
             Planned::Places {
                 atcs,
                 stcs,
                 maps,
                 programs: programs_at,
                 cpi: cpi_at,
-                marks: cpi_at + len,
+                marks: marks_at,
             }
         }
     }

@@ -37,7 +37,10 @@ pub fn rewritten_length(file: &[u8]) -> NewLength
             programs: _,
             cpi: _,
             marks,
-        } => NewLength::Bytes(marks + 6),
+        } => {
+            let bytes = marks + 6;
+            NewLength::Bytes(bytes)
+        }
     }
 }
 

@@ -1,9 +1,9 @@
 -- Which table a row is of: how many cells it has, and when they fit their fields.
 use Prim.Native.Nat.{ℕ}
 use mathlib.Core.Bool.{Bool}
-use Rattle.format.specs.ClipRecord.{Row}
+use Rattle.format.specs.ClipRecord.{Row, entryCells}
 use Rattle.format.specs.Refusals.{atcFits, stcFits, programFits, streamFits, mapFits, entryFits}
-use Rattle.format.specs.Tables.{atcCells, stcCells, programCells, streamCells, mapCells, entryCells}
+use Rattle.format.specs.Tables.{atcCells, stcCells, programCells, streamCells, mapCells}
 use Rattle.row_limits.specs.declared.Kind.{Kind}
 
 -- the cells of a row

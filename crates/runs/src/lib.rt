@@ -2,8 +2,9 @@
 ghost use mathlib.Core.Path.{_≡_};
 ghost use Prim.Native.Nat.{_+_, _≤_};
 ghost use lib.ListN.{length};
-ghost use Rattle.format.specs.Tables.{entrySize};
-ghost use Rattle.runs.specs.Runs.{sameKeys, PairIs};
+ghost use Rattle.format.specs.ClipRecord.{entrySize};
+ghost use Rattle.format.specs.Rewriting.{sameKeys};
+ghost use Rattle.runs.specs.Runs.{PairIs};
 use entry_rows::packet_at;
 use entry_rows::time_at;
 

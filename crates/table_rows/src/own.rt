@@ -2,6 +2,7 @@
 ghost use mathlib.Core.Path.{_≡_};
 ghost use Prim.Native.Nat.{_≤_, _<_};
 ghost use Rattle.format.specs.Bytes.{total};
+ghost use Rattle.format.specs.ClipRecord.{entryCells};
 ghost use Rattle.format.specs.Tables.{isStated, tableRows, rowRoom};
 ghost use Rattle.queries.specs.Asked.{stated};
 ghost use Rattle.table_rows.specs.OwnRows.{headCells, cellIn, isCounted, ownedOf, ownedRows};
@@ -18,7 +19,7 @@ pub enum Own {
 
 // Whether there is room for the rows that are stated, each of so many cells.
 pub fn is_stated(table: &[u8], rows: u32, cells: usize) -> bool
-    requires { ⌜ (0 < cells) × (cells ≤ 6) ⌝ }
+    requires { ⌜ (0 < cells) × (cells ≤ entryCells) ⌝ }
     ensures { λ r. ⌜ r ≡ isStated «cells» (stated (now (table .entry)) rows) ⌝ }
 {
     (rows as usize) <= table.len() / (4 * cells)
@@ -47,7 +48,7 @@ pub fn adds_up(
     cell: usize,
     cells: usize,
 ) -> bool
-    requires { ⌜ (cell < headCells) × (0 < cells) × (cells ≤ 6) ⌝ }
+    requires { ⌜ (cell < headCells) × (0 < cells) × (cells ≤ entryCells) ⌝ }
     ensures { λ r. ⌜ r ≡ isCounted «cell» «cells» (stated (now (heads .entry)) «head_rows») (stated (now (rows .entry)) «row_rows») ⌝ }
 {
     if !is_stated(heads, head_rows, 3) {
@@ -69,7 +70,7 @@ pub fn own_rows(
     cell: usize,
     cells: usize,
 ) -> Own
-    requires { ⌜ (cell < headCells) × (0 < cells) × (cells ≤ 6) ⌝ }
+    requires { ⌜ (cell < headCells) × (0 < cells) × (cells ≤ entryCells) ⌝ }
     ensures { λ r. ⌜ ownedOf r ≡ ownedRows «cell» «cells» (stated (now (heads .entry)) «head_rows») (stated (now (rows .entry)) «row_rows») head ⌝ }
 {
     if !adds_up(heads, head_rows, rows, row_rows, cell, cells) {

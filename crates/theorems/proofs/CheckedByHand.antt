@@ -1,7 +1,7 @@
 -- M1 to M11: by computation, M3 and M9 by the facts given, and M11 by a law for every number of runs.
 use Prim.Native.Nat.{ℕ, zero, suc, _+_, _*_, _/_, _%_, _^_, _<_}
 use mathlib.Core.Path.{_≡_, refl, ap}
-use mathlib.Core.List.{List, [], _∷_, map}
+use mathlib.Core.List.{List, map}
 use mathlib.Core.Bool.{Bool, true, false}
 use native.Mathlib.Nat.{add-zero}
 use native.Mathlib.Omega.{arith}
@@ -94,7 +94,7 @@ fit (suc n) =
     rw (two .0, two .1, lt-ltb (n % 2 * 524288) 4294967296 small, eq-eqb ((n % 2 * 524288 + 0) % 512) 0 even) (fit n)
 
 -- behind an entry whose coarse time is the other one
-behind : (n k : ℕ) (e : Row) → timeKey e ≡ n % 2 → length (coarseAfter e k (alternating n)) ≡ n
+behind : (n k : ℕ) (e : Row) → timeKey (time e) ≡ n % 2 → length (coarseAfter e k (alternating n)) ≡ n
 unfolding alternating coarseAfter
 behind zero k e h = refl
 behind (suc n) k e h =

@@ -9,7 +9,7 @@ pub struct Ticks45(pub u32);
 // A time in 90 kHz ticks.
 pub struct Ticks90(pub u64);
 
-// A time in 90 kHz ticks of 32 bits, which entries have and entry lookups are given.
+// A time in 90 kHz ticks of 32 bits, which entry lookups are given.
 pub struct Pts90(pub u32);
 
 impl Ticks45 {

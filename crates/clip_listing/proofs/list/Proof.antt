@@ -4,7 +4,8 @@ use mathlib.Core.Path.{_≡_, sym, _∙_}
 use mathlib.Core.List.{List}
 use denote.Ref.{now}
 use Rattle.format.specs.Bytes.{IsBytes}
-use Rattle.format.specs.Tables.{mapCells, entryCells}
+use Rattle.format.specs.ClipRecord.{entryCells}
+use Rattle.format.specs.Tables.{mapCells}
 use Rattle.format.specs.Refusals.{readAnswer}
 use Rattle.format.specs.Listing.{rows4096, listingTables}
 use Rattle.clip_information.specs.Read.{answerOf}

@@ -3,7 +3,7 @@ use Prim.Native.Nat.{_+_, _*_, _-_, _≤_}
 use native.Mathlib.Omega.{arith}
 use denote.Ref.{now}
 use lib.ListN.{length}
-use Rattle.format.specs.Tables.{entrySize}
+use Rattle.format.specs.ClipRecord.{entrySize}
 use Rattle.encode_cpi.proofs.Maps.{maps-few, map-room, entries-room, count-few, own-within}
 use Rattle.encode_cpi.proofs.Lengths.{Measured, measured-first, measured-unfit, runs-within-count, measured-turn, measured-many, measured-done, measured-none}
 use borrow.Author.Needs.{needs}

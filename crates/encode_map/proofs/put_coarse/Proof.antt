@@ -1,10 +1,10 @@
 -- In the run of the entry before it an entry has no coarse row, else one.
+use Rattle.format.specs.Rewriting.{coarseBy}
 use Prim.Native.Nat.{_-_, _≤_}
 use mathlib.Core.Path.{_≡_}
 use mathlib.Core.List.{[], _∷_}
 use native.Mathlib.Omega.{arith}
 use denote.Ref.{now}
-use Rattle.runs.specs.Runs.{coarseBy}
 use Rattle.encode_map.specs.Bodies.{ownBy}
 use Rattle.encode_map.proofs.Bodies.{own-none, own-one, own-kept, own-stored}
 use borrow.Author.Needs.{needs}

@@ -4,7 +4,7 @@ use mathlib.Core.Path.{_≡_, refl}
 use native.Mathlib.Omega.{arith}
 use denote.Ref.{now}
 use lib.ListN.{length}
-use Rattle.format.specs.Tables.{entrySize}
+use Rattle.format.specs.ClipRecord.{entrySize}
 use borrow.Author.Needs.{needs}
 use Rattle.encode_map.proofs.Bodies.{stored-empty, Turning, turning-first, turning-room, turning-next, first-pair, first-room, first-stored, pair-narrow, row-fits}
 use Rattle.encode_map.proofs.put_rows.Statement.{statement}

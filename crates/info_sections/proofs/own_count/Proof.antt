@@ -4,9 +4,6 @@ use borrow.Author.Needs.{needs}
 use Rattle.info_sections.proofs.own_count.Statement.{statement}
 use Rattle.info_sections.proofs.own_count.Tie as tie
 
-enum-told : tie.Need-enum-told
-enum-told c = search needs
-
 add-u8-at : tie.Need-add-u8-at
 add-u8-at c = let s : tie.Start = search in omega (arith, rw (c .enum-told .given .1) at (s .pre))
 
@@ -29,7 +26,7 @@ pub own-count-spec : {M : Type 1} → statement M
 own-count-spec =
     tie.close
     (tie.spec
-    enum-told
+    (λ c. search needs)
     add-u8-at
     u8-at-requires
     (λ c. search needs)

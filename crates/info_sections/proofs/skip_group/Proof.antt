@@ -3,9 +3,6 @@ use borrow.Author.Needs.{needs}
 use Rattle.info_sections.proofs.skip_group.Statement.{statement}
 use Rattle.info_sections.proofs.skip_group.Tie as tie
 
-enum-told : tie.Need-enum-told
-enum-told c = search needs
-
 returns : tie.Need-returns
 returns c = let enum-told : tie.After-enum-told = search in rw (enum-told .enum-told .given .1) (c .skip-atc .ensures)
 
@@ -16,7 +13,7 @@ pub skip-group-spec : {M : Type 1} → statement M
 skip-group-spec =
     tie.close
     (tie.spec
-    enum-told
+    (λ c. search needs)
     (λ c κs. search needs)
     (λ c. search needs)
     (λ c κs. search needs)

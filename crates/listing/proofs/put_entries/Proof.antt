@@ -6,7 +6,8 @@ use denote.Ref.{now}
 use borrow.Author.Needs.{needs}
 use Rattle.format.specs.Bytes.{flat}
 use Rattle.format.specs.Listing.{epLine}
-use Rattle.format.specs.Tables.{cellsAt, entryCells, entrySize}
+use Rattle.format.specs.ClipRecord.{entryCells, entrySize}
+use Rattle.format.specs.Tables.{cellsAt}
 use Rattle.format.proofs.Rows.{rest-all, rest-turn, rest-done}
 use Rattle.text_lines.specs.Stored.{Still}
 use Rattle.listing.specs.Text.{entriesFrom}

@@ -6,8 +6,8 @@ use lib.Dec.{lit<}
 use denote.Ref.{now}
 use borrow.Author.Needs.{needs}
 use Rattle.format.specs.Bytes.{total}
-use Rattle.format.specs.ClipRecord.{entryCount}
-use Rattle.format.specs.Tables.{mapCells, entrySize}
+use Rattle.format.specs.ClipRecord.{entryCount, entrySize}
+use Rattle.format.specs.Tables.{mapCells}
 use Rattle.format.specs.Listing.{mapLines}
 use Rattle.text_lines.specs.Stored.{Still}
 use Rattle.listing.specs.Text.{mapsFrom, entriesFrom}
@@ -27,13 +27,14 @@ abbrev μ-loop : tie.MeasureT-loop
 
 loop-holds : tie.Need-loop-holds Inv-loop μ-loop
 loop-holds c =
-    let a = c .before .before .before .args in
+    let s : tie.Start Inv-loop μ-loop = search in
+    let a = s .args in
     let ms = now (a .maps) in
     let es = now (a .entries) in
     let whole = mapLines (mapsFrom ms 0 (a .n)) (entriesFrom es 0 (a .m)) in (
       search needs,
       search needs,
-      counts-all ms (a .n) (a .m) (c .before .before .before .pre .2),
+      counts-all ms (a .n) (a .m) (s .pre .2),
       search needs,
       still-as (maps-all ms es (a .n) (a .m)) (still-all (now (a .out)) (a .at) whole),
     )
@@ -52,13 +53,16 @@ mul-put-entries c = search needs
 
 put-entries-requires : tie.Need-put-entries-requires Inv-loop μ-loop
 put-entries-requires c κs =
-    let a = c .before .before .before .before .before .before .before .before .before .before .before .args in
+    let s : tie.Start Inv-loop μ-loop = search in
+    let turn : tie.At-loop Inv-loop μ-loop = search in
+    let read : tie.After-cell-at Inv-loop μ-loop = search in
+    let a = s .args in
     let ms = now (a .maps) in
-    let l = c .before .before .before .before .before .before .before .loop in
-    let x = c .before .before .before .before .before .cell-at .result in
-    let count = row-cell ms mapCells (l .q) 2 (lit< tt) refl (c .before .before .before .before .before .cell-at .ensures .same) in
+    let l = turn .loop in
+    let x = read .cell-at .result in
+    let count = row-cell ms mapCells (l .q) 2 (lit< tt) refl (read .cell-at .ensures .same) in
     let enough = counts-turn ms (l .q) (a .n) (l .i) (l .k) (a .m) x (omega arith) count (l .inv .2) in
-    (omega arith, omega arith, times-turn (now (a .entries)) (a .m) (l .k) x (omega arith) (c .before .before .before .before .before .before .before .before .before .before .before .pre .4))
+    (omega arith, omega arith, times-turn (now (a .entries)) (a .m) (l .k) x (omega arith) (s .pre .4))
 
 cast-k : tie.Need-cast-k Inv-loop μ-loop
 cast-k c = search needs
@@ -77,16 +81,21 @@ loop-less c = search needs
 
 loop-again : tie.Need-loop-again Inv-loop μ-loop
 loop-again c =
-    let a = c .before .before .before .before .before .before .before .before .before .before .before .before .before .before .args in
+    let s : tie.Start Inv-loop μ-loop = search in
+    let turn : tie.At-loop Inv-loop μ-loop = search in
+    let read : tie.After-cell-at Inv-loop μ-loop = search in
+    let head : tie.After-put-map Inv-loop μ-loop = search in
+    let own : tie.After-put-entries Inv-loop μ-loop = search in
+    let a = s .args in
     let ms = now (a .maps) in
-    let l = c .before .before .before .before .before .before .before .before .before .before .loop in
-    let x = c .before .before .before .before .before .before .before .before .cell-at .result in
-    let count = row-cell ms mapCells (l .q) 2 (lit< tt) refl (c .before .before .before .before .before .before .before .before .cell-at .ensures .same) in
+    let l = turn .loop in
+    let x = read .cell-at .result in
+    let count = row-cell ms mapCells (l .q) 2 (lit< tt) refl (read .cell-at .ensures .same) in
     let enough = counts-turn ms (l .q) (a .n) (l .i) (l .k) (a .m) x (omega arith) count (l .inv .2) in
     let es = now (a .entries) in
     let left = still-as (maps-turn ms (l .q) (a .n) (l .i) (l .k) (a .m) x (omega arith) count (l .inv .2) es) (l .inv .4) in
     let later = mapLines (mapsFrom ms (l .q + 12) (a .n - (l .i + 1))) (entriesFrom es (entrySize * (l .k + x)) (a .m - (l .k + x))) in
-    let lines = in-then (c .before .before .before .before .before .before .put-map .ensures) (c .before .before .put-entries .ensures) in
+    let lines = in-then (head .put-map .ensures) (own .put-entries .ensures) in
     (search needs, search needs, enough, omega (arith, lines .short), still-turn later (lines .text) left)
 
 same-length : tie.Need-same-length Inv-loop μ-loop
@@ -94,8 +103,10 @@ same-length c = search needs
 
 returns : tie.Need-returns Inv-loop μ-loop
 returns c =
-    let a = c .before .before .before .before .before .args in
-    let l = c .before .loop in
+    let s : tie.Start Inv-loop μ-loop = search in
+    let turn : tie.At-loop Inv-loop μ-loop = search in
+    let a = s .args in
+    let l = turn .loop in
     let none = maps-done (now (a .maps)) (now (a .entries)) (l .q) (a .n) (l .i) (l .k) (a .m) (omega arith) in
     record { text = still-none (still-as none (l .inv .4)); short = omega arith }
 

@@ -38,7 +38,7 @@ put-line-requires-3 c κs = search needs
 put-maps-requires : tie.Need-put-maps-requires
 unfolding tableRows
 put-maps-requires c κs =
-    let s = c .before .before .before .before .before .before .before .before .before .before .before .before .before .before .before .before .before .before .before .before .before .before in
+    let s : tie.Start = search in
     (s .pre .mapRows, s .pre .entryRows, s .pre .counts, search needs, s .pre .timesFit)
 
 slice-aggregate-put-line-7 : tie.Need-slice-aggregate-put-line-7

@@ -1,5 +1,5 @@
 -- Each test that fails is one of the definition's, and so is the last; the packet has 32 bits.
-use Prim.Native.Nat.{_+_, _*_, _/_, _%_, _^_}
+use Prim.Native.Nat.{_/_, _%_, _^_}
 use mathlib.Core.Path.{_≡_, sym, _∙_}
 use mathlib.Core.Bool.{true}
 use native.Mathlib.Omega.{arith}

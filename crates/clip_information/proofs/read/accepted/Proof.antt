@@ -3,7 +3,6 @@ use native.Mathlib.Omega.{arith}
 use denote.Ref.{now}
 use Rattle.clip_sections.proofs.Laws.{accepted-bounds}
 use Rattle.clip_information.proofs.ReadLaws.{marks-there, accepted-as}
-use borrow.Author.Needs.{needs}
 use Rattle.clip_information.proofs.read.accepted.Statement.{statement}
 use Rattle.clip_information.proofs.read.accepted.Tie as tie
 

@@ -12,12 +12,12 @@ use borrow.Author.Needs.{needs}
 use Rattle.clpi.proofs.read.clpi_read.Statement.{statement}
 use Rattle.clpi.proofs.read.clpi_read.Tie as tie
 
--- the call's start, and the file as it is lent
+-- the call's start, and that the file's elements are bytes
 abbrev start-of : tie.After-read → tie.Start
 start-of r = search
 
-abbrev lent-of : tie.After-read → tie.After-shared-slice-known
-lent-of r = search
+abbrev bytes-of : tie.After-read → tie.After-shared-slice-known
+bytes-of r = search
 
 -- the tables before and after
 module _ (r : tie.After-read) where
@@ -30,7 +30,7 @@ module _ (r : tie.After-read) where
       nineTables (now (a .atcs)) (now (a .stcs)) (now (a .programs)) (now (a .streams)) (now (a .maps)) (now (a .entries)) (now (a .extensions)) (now (a .programs2)) (now (a .streams2))
 
   bytes : IsBytes F
-  bytes i = lent-of r .shared-slice-known .given i .fits
+  bytes i = bytes-of r .shared-slice-known .given i .fits
 
 reading-of-requires : tie.Need-reading-of-requires
 reading-of-requires c κs =

@@ -12,9 +12,9 @@ use Rattle.clpi.proofs.writing.clpi_rewrite.Tie as tie
 writing-of-requires : tie.Need-writing-of-requires
 writing-of-requires c κs =
     let s : tie.Start = search in
-    let lent : tie.After-shared-slice-known = search in
+    let n : tie.After-shared-slice-known = search in
     let w : tie.After-rewrite = search in
-    answer-narrow (now (s .args .file)) (λ i. lent .shared-slice-known .given i .fits) (now (s .args .output)) (w .rewrite .ensures .0)
+    answer-narrow (now (s .args .file)) (λ i. n .shared-slice-known .given i .fits) (now (s .args .output)) (w .rewrite .ensures .0)
 
 returns : tie.Need-returns
 returns c =

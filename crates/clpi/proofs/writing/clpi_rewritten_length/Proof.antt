@@ -10,8 +10,8 @@ use Rattle.clpi.proofs.writing.clpi_rewritten_length.Tie as tie
 length-of-requires : tie.Need-length-of-requires
 length-of-requires c κs =
     let s : tie.Start = search in
-    let lent : tie.After-shared-slice-known = search in
-    length-narrow (now (s .args .file)) (λ i. lent .shared-slice-known .given i .fits) (c .rewritten-length .ensures)
+    let n : tie.After-shared-slice-known = search in
+    length-narrow (now (s .args .file)) (λ i. n .shared-slice-known .given i .fits) (c .rewritten-length .ensures)
 
 returns : tie.Need-returns
 returns c =

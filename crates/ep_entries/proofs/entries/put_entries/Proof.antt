@@ -6,7 +6,8 @@ use native.Mathlib.Omega.{arith}
 use denote.Ref.{now}
 use lib.ListN.{length}
 use lib.Seq.{sets}
-use Rattle.format.specs.Tables.{tableBytes, entrySize}
+use Rattle.format.specs.ClipRecord.{entrySize}
+use Rattle.format.specs.Tables.{tableBytes}
 use Rattle.ep_entries.specs.Body.{coarseIn, entriesIn, entriesLeft}
 use Rattle.ep_entries.specs.Walks.{IsWalk}
 use Rattle.ep_entries.proofs.Walks.{walk-later}

@@ -9,9 +9,9 @@ use lib.ListN.{length}
 use Rattle.format.specs.Bytes.{IsBytes}
 use Rattle.format.specs.ClipRecord.{Clip}
 use Rattle.format.specs.Reading.{clipOf}
-use Rattle.format.specs.Rewriting.{sequencesBytes, programsBytes, cpiBytes}
+use Rattle.format.specs.Rewriting.{programsBytes, cpiBytes}
 use Rattle.format.specs.Refusals.{runsFit}
-use Rattle.encode_measure.specs.Places.{programsPlace, cpiPlace, marksPlace}
+use Rattle.encode_measure.specs.Places.{programsPlace}
 use Rattle.rewrite.specs.Rewrite.{rewriteRefusal}
 use Rattle.clip_sections.proofs.Laws.{SectionsAre, sections-are, accepted-bounds}
 use Rattle.clip_information.proofs.FillLaws.{sound, cpi-section}
@@ -110,8 +110,8 @@ module _ (p : tie.After-programs-length) where
 add-cpi-at : tie.Need-add-cpi-at
 add-cpi-at c = let p : tie.After-programs-length = search in record { fits = omega (arith, short (M p), programs-at (K (M p)), own p) }
 
-add-t15 : tie.Need-add-t15
-add-t15 c = let p : tie.After-programs-length = search in record { fits = omega (arith, short (M p), programs-at (K (M p)), own p) }
+add-marks-at : tie.Need-add-marks-at
+add-marks-at c = let p : tie.After-programs-length = search in record { fits = omega (arith, short (M p), programs-at (K (M p)), own p) }
 
 returns-2 : tie.Need-returns-2
 returns-2 c =
@@ -146,6 +146,6 @@ plan-spec =
     add-programs-at-2
     programs-length-requires
     add-cpi-at
-    add-t15
+    add-marks-at
     returns-2
     returns-3)

@@ -20,8 +20,8 @@ module _ (k : tie.After-marks) where
   ready : Ready F (k .marks .given .0 .0) (k .marks .given .0 .1 .0) (k .marks .given .0 .1 .1 .0) (k .marks .given .0 .1 .1 .1 .0) (k .marks .given .0 .1 .1 .1 .1 .0) (k .marks .given .0 .1 .1 .1 .1 .1 .0) (k .marks .given .0 .1 .1 .1 .1 .1 .0 + 6)
   ready = let p : tie.After-plan = search in ready-told F (p .plan .ensures) _ (k .marks .given .1) (omega arith)
 
-add-t6 : tie.Need-add-t6
-add-t6 c =
+add-bytes : tie.Need-add-bytes
+add-bytes c =
     let k : tie.After-marks = search in
     let n : tie.After-shared-slice-known = search in
     record { fits = omega (arith, ready k .placed .marks-at, marks-short (F k) (λ i. n .shared-slice-known .given i .fits) (ready k .rewritable)) }
@@ -37,4 +37,4 @@ returns-2 : tie.Need-returns-2
 returns-2 c = let k : tie.After-marks = search in length-tells (F k) (ready k .rewritable) (ready k .placed .marks-at)
 
 pub rewritten-length-spec : {M : Type 1} → statement M
-rewritten-length-spec = tie.close (tie.spec (λ c κs. search needs) (λ c. search needs) (λ c. search needs) add-t6 returns returns-2)
+rewritten-length-spec = tie.close (tie.spec (λ c κs. search needs) (λ c. search needs) (λ c. search needs) add-bytes returns returns-2)
