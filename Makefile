@@ -3,7 +3,7 @@
 # libdir and so on; they may have spaces, but no quotes, and none of \ & | $.
 
 # The header has the version: its major, minor and patch number, joined by dots.
-VERSION := $(shell sed -n 's/^.define CLPI_VERSION_[MP][A-Z]* \([0-9]*\)$$/\1/p' include/clpi.h | paste -s -d . -)
+VERSION = $(shell sed -n 's/^.define CLPI_VERSION_[MP][A-Z]* \([0-9]*\)$$/\1/p' include/clpi.h | paste -s -d . -)
 
 PREFIX = /usr/local
 prefix = $(PREFIX)
