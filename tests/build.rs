@@ -11,7 +11,7 @@ fn main() {
     for name in ["clpi", "ep_entry_queries"] {
         let library = folder.join(format!("lib{name}.a"));
         if !library.is_file() {
-            panic!("{} isn't there: run `rt staticlib {name}` in the repository first", library.display());
+            panic!("{} isn't there: run `tools/build staticlib {name}` in the repository first", library.display());
         }
         println!("cargo:rustc-link-lib=static={name}");
         println!("cargo:rerun-if-changed={}", library.display());
