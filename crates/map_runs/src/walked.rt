@@ -11,7 +11,7 @@ use ep_entries::walk::Walk;
 use ep_entries::walk::reach;
 use ep_entries::walk::start;
 use numbers::u32_at;
-use runs::same_run;
+use runs::same_key;
 
 // A fine row's entry, and the walk that reached its coarse row.
 pub struct Met {
@@ -47,7 +47,7 @@ pub fn run_end(file: &[u8], m: MapBody, from: usize, first: Met) -> RunEnd
         let met = meet(file, m, k, walk);
         let e = met.entry;
         walk = met.walk;
-        if !same_run(one.time, one.packet, e.time, e.packet) {
+        if !same_key(one.time, one.packet, e.time, e.packet) {
             return RunEnd { row: k, walk };
         }
         k += 1;

@@ -1,5 +1,5 @@
 -- The nearest of some times by distances is the best of them by the definitions.
-use Prim.Native.Nat.{ℕ, suc, _-_, _<_, _≤_}
+use Prim.Native.Nat.{ℕ, suc, _+_, _-_, _<_, _≤_}
 use mathlib.Core.Path.{_≡_, refl, sym, _∙_}
 use mathlib.Core.List.{List, [], _∷_}
 use mathlib.Core.Bool.{Bool, true, false}
@@ -25,7 +25,7 @@ ltb-same a b c d f g = go (ltb a b) refl
 -- how far a time is, by its tests
 module _ {side : Bool} (t x : ℕ) where
   -- where one after t is asked for, a later time is as far as it is later, less one
-  pub after-it : side ≡ true → t < x → x - t - 1 ≡ distanceTo side t x
+  pub after-it : side ≡ true → t < x → x - (t + 1) ≡ distanceTo side t x
   after-it e h = rw (e, lt-ltb t x h)
 
   -- and any other is far
@@ -45,8 +45,8 @@ module _ (t : ℕ) (small : t < far) where
   test-is : (side : Bool) (x : ℕ) → x ≤ far → onSide side t x ≡ ltb (distanceTo side t x) far
   test-is true x h = go (ltb t x) refl
     where
-      go : (b : Bool) → ltb t x ≡ b → b ≡ ltb (pick b (x - t - 1) far) far
-      go true e = let later = ltb-true t x e in sym (lt-ltb (x - t - 1) far (omega arith))
+      go : (b : Bool) → ltb t x ≡ b → b ≡ ltb (pick b (x - (t + 1)) far) far
+      go true e = let later = ltb-true t x e in sym (lt-ltb (x - (t + 1)) far (omega arith))
       go false e = refl
   test-is false x h = go (leb x t) refl
     where
@@ -59,7 +59,7 @@ module _ (t : ℕ) (small : t < far) where
   nearer-is true x y h g =
       let a = ltb-true t x h in
       let b = ltb-true t y g in
-      rw (h, g) (ltb-same x y (x - t - 1) (y - t - 1) (λ l. omega arith) (λ l. omega arith))
+      rw (h, g) (ltb-same x y (x - (t + 1)) (y - (t + 1)) (λ l. omega arith) (λ l. omega arith))
   nearer-is false x y h g =
       let a = leb-true x t h in
       let b = leb-true y t g in

@@ -1,5 +1,5 @@
 -- The nearest of some times, before a time or after it.
-use Prim.Native.Nat.{ℕ, _-_, _<_, _≤_}
+use Prim.Native.Nat.{ℕ, _+_, _-_, _<_, _≤_}
 use mathlib.Core.Path.{_≡_}
 use mathlib.Core.List.{List}
 use mathlib.Core.Bool.{Bool, true, false}
@@ -38,7 +38,7 @@ far = 18446744073709551615
 
 -- how far a time x is from t, on the side that is asked for; the one right after t is at 0, so that none is far
 abbrev pub distanceTo : Bool → ℕ → ℕ → ℕ
-distanceTo true t x = pick (ltb t x) (x - t - 1) far
+distanceTo true t x = pick (ltb t x) (x - (t + 1)) far
 distanceTo false t x = pick (leb x t) (t - x) far
 
 -- before any row

@@ -13,7 +13,7 @@ fn distance(is_after: bool, at: u64, time: u64) -> u64
 {
     if is_after {
         if at < time {
-            return time - at - 1;
+            return time - (at + 1);
         }
         return FAR;
     }

@@ -31,10 +31,10 @@ returns c =
     let turn : tie.At-loop Inv-loop μ-loop = search in
     let t : tie.Then1 Inv-loop μ-loop = search in
     let m : tie.After-meet Inv-loop μ-loop = search in
-    let same : tie.After-same-run Inv-loop μ-loop = search in
+    let same : tie.After-same-key Inv-loop μ-loop = search in
     let a = s .args in
     let l = turn .loop in
-    along-stop (now (a .file)) (a .m) (a .from) (a .first) (s .pre .2) (l .walk) (l .k) (l .inv) (t .if1 .taken) (m .meet .result) (m .meet .ensures) (same .same-run .ensures) (c .if2 .taken)
+    along-stop (now (a .file)) (a .m) (a .from) (a .first) (s .pre .2) (l .walk) (l .k) (l .inv) (t .if1 .taken) (m .meet .result) (m .meet .ensures) (same .same-key .ensures) (c .if2 .taken)
 
 loop-less : tie.Need-loop-less Inv-loop μ-loop
 loop-less c = let t : tie.Then1 Inv-loop μ-loop = search in omega (arith, t .if1 .taken)
@@ -45,10 +45,10 @@ loop-again c =
     let turn : tie.At-loop Inv-loop μ-loop = search in
     let t : tie.Then1 Inv-loop μ-loop = search in
     let m : tie.After-meet Inv-loop μ-loop = search in
-    let same : tie.After-same-run Inv-loop μ-loop = search in
+    let same : tie.After-same-key Inv-loop μ-loop = search in
     let a = s .args in
     let l = turn .loop in
-    along-turn (now (a .file)) (a .m) (a .from) (a .first) (s .pre .2) (l .walk) (l .k) (l .inv) (t .if1 .taken) (m .meet .result) (m .meet .ensures) (same .same-run .ensures) (c .if2 .left)
+    along-turn (now (a .file)) (a .m) (a .from) (a .first) (s .pre .2) (l .walk) (l .k) (l .inv) (t .if1 .taken) (m .meet .result) (m .meet .ensures) (same .same-key .ensures) (c .if2 .left)
 
 returns-2 : tie.Need-returns-2 Inv-loop μ-loop
 returns-2 c =
