@@ -1,9 +1,10 @@
 -- The entries of a map, met one by one: a turn, and the end of the loop that joins coarse and fine rows.
-use Prim.Native.Nat.{ℕ, zero, suc, _+_, _*_, _-_, _^_, _<_, _≤_, min}
+use Prim.Native.Nat.{ℕ, zero, suc, _+_, _*_, _-_, _^_, _<_, _≤_}
 use mathlib.Core.Path.{_≡_, refl, sym, ap, ap₂, _∙_}
 use mathlib.Core.List.{List, [], _∷_, _++_, append-assoc}
 use native.Mathlib.Numerals.{add-one}
 use native.Mathlib.Omega.{arith}
+use lib.ListN.{length}
 use lib.Seq.{sets}
 use Rattle.format.specs.Bytes.{beAt, unpacked, rowsAt}
 use Rattle.format.specs.ClipRecord.{Row, entryCells, entrySize}
@@ -16,8 +17,8 @@ use Rattle.ep_rows.specs.Rows.{fineOf}
 use Rattle.ep_rows.specs.declared.FineRow.{FineRow}
 use Rattle.ep_entries.specs.Body.{coarseIn, entriesIn, entriesLeft, entryIn}
 use Rattle.ep_entries.specs.Entries.{joined, rowOf, entryBy, runBytes}
-use Rattle.ep_entries.specs.Walks.{IsWalk}
-use Rattle.ep_entries.proofs.Walks.{walk-stop, walk-later}
+use Rattle.ep_entries.specs.Walks.{walkAt, IsWalk}
+use Rattle.ep_entries.proofs.Walks.{walk-step, walk-stop, walk-later}
 use Rattle.ep_entries.specs.declared.body.MapBody.{MapBody}
 use Rattle.ep_entries.specs.declared.entries.Entry.{Entry}
 use Rattle.ep_entries.specs.declared.walk.Walk.{Walk}
@@ -56,20 +57,56 @@ module _ (f : List ℕ) (m : MapBody) where
         rw b at (ap tableBytes (left-turn k (omega arith))) ∙ ap₂ (λ (x y : List ℕ). x ++ y) (ap (λ (r : Row). rowBytes r) here) later
         ∙ sym (append-assoc (rowBytes (row q)) (tableBytes (rowsAt row nextFine (q + 4) d)) (tableBytes (entriesLeft f m (k + suc d))))
 
-    -- a turn stores a run; what is left goes behind it
-    pub run-put : (k end : ℕ) (t : List ℕ) (at : ℕ) {t′ whole : List ℕ} → k ≤ end → end ≡ min (w .next) (m .«num_fine») → IsWalk f (coarseIn f m) k w
+    -- a run is stored; what is left goes behind it
+    run-put : (k end : ℕ) (t : List ℕ) (at : ℕ) {t′ whole : List ℕ} → k ≤ end → end ≤ w .next → end ≤ m .«num_fine» → IsWalk f (coarseIn f m) k w
         → t′ ≡ sets t (at + entrySize * k) (runBytes f (m .kind) (w .time) (w .packet) (m .fine) k end)
         → sets t (at + entrySize * k) (tableBytes (entriesLeft f m k)) ≡ whole → sets t′ (at + entrySize * end) (tableBytes (entriesLeft f m end)) ≡ whole
-    run-put k end t at h e i p whole =
+    run-put k end t at h b n i p whole =
         let back : k + (end - k) ≡ end = omega arith in
         let split = rw back at (run-left (end - k) k (omega arith) (omega arith) i) in
         let place : at + entrySize * k + entrySize * (end - k) ≡ at + entrySize * end = omega arith in
         let size = rows-bytes entryCells row nextFine (λ q. refl) (m .fine + 4 * k) (end - k) in
         rw place at (put-more t (at + entrySize * k) (entrySize * (end - k)) (runBytes f (m .kind) (w .time) (w .packet) (m .fine) k end) (tableBytes (entriesLeft f m end)) size p (rw split at whole))
 
-  -- with no row left all is stored
-  pub entries-done : (k : ℕ) (t : List ℕ) (at : ℕ) {whole : List ℕ} → m .«num_fine» ≤ k → sets t at (tableBytes (entriesLeft f m k)) ≡ whole → t ≡ whole
-  entries-done k t at h i = rw (left-done k h) at i
+-- ---- the loop over coarse rows
+
+module _ (f : List ℕ) (m : MapBody) (t₀ : List ℕ) (at : ℕ) where
+  -- what holds before each turn: the entries before fine row k are stored, and the walk is right for it
+  pub record Filled (t : List ℕ) (w : Walk) (k : ℕ) : Type 0 where
+    pub within : k ≤ m .«num_fine»
+    pub walk : IsWalk f (coarseIn f m) k w
+    pub same : length t ≡ length t₀
+    pub rest : sets t (at + entrySize * k) (tableBytes (entriesLeft f m k)) ≡ sets t₀ at (tableBytes (entriesIn f m))
+
+  -- before the first turn none is stored
+  pub filled-first : (w : Walk) → IsWalk f (coarseIn f m) 0 w → Filled t₀ w 0
+  filled-first w i =
+      let z : at + entrySize * 0 ≡ at = omega arith in
+      record { within = omega arith; walk = i; same = refl; rest = rw (z, left-all f m) }
+
+  module _ (t : List ℕ) (w : Walk) (k : ℕ) (g : Filled t w k) where
+    -- a run up to fine row `end`, before which the next coarse row is not reached, is stored
+    pub filled-run : (end : ℕ) {t′ : List ℕ} → k ≤ end → end ≤ w .next → end ≤ m .«num_fine» → length t′ ≡ length t
+        → t′ ≡ sets t (at + entrySize * k) (runBytes f (m .kind) (w .time) (w .packet) (m .fine) k end) → Filled t′ w end
+    filled-run end h b n same p = record {
+      within = n;
+      walk = walk-later f (coarseIn f m) k end w h (g .walk);
+      same = same ∙ g .same;
+      rest = run-put f m w k end t at h b n (g .walk) p (g .rest);
+    }
+
+    -- a step to a coarse row that is reached
+    pub filled-step : {w′ : Walk} → m .«num_fine» ≤ 262143 → w .next ≤ k → w′ ≡ walkAt f (w .behind) (w .left) → Filled t w′ k
+    filled-step few h e = record {
+      within = g .within;
+      walk = rw e (walk-step f (coarseIn f m) k w (g .walk) h (omega (arith, g .within)));
+      same = g .same;
+      rest = g .rest;
+    }
+
+  -- with no fine row left all is stored
+  pub filled-done : (t : List ℕ) (w : Walk) → Filled t w (m .«num_fine») → t ≡ sets t₀ at (tableBytes (entriesIn f m))
+  filled-done t w g = rw (left-done f m (m .«num_fine») (omega arith)) at (g .rest)
 
 -- ---- one run
 

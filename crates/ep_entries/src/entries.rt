@@ -1,6 +1,6 @@
 // The entries of one map: each fine row joined with the coarse row that it uses, put into a table.
 ghost use mathlib.Core.Path.{_≡_};
-ghost use Prim.Native.Nat.{_+_, _*_, _≤_, min};
+ghost use Prim.Native.Nat.{_+_, _*_, _≤_};
 ghost use lib.ListN.{length};
 ghost use lib.Seq.{sets};
 ghost use Rattle.format.specs.Bytes.{unpacked};
@@ -11,7 +11,7 @@ ghost use Rattle.ep_entries.specs.Body.{entriesIn};
 ghost use Rattle.ep_entries.specs.Entries.{joined, entryBy, runBytes, Run, Fill};
 use crate::body::MapBody;
 use crate::walk::Walk;
-use crate::walk::reach;
+use crate::walk::at_row;
 use crate::walk::start;
 use entry_rows::SIZE;
 use entry_rows::put_row;
@@ -70,28 +70,20 @@ fn put_run(file: &[u8], m: MapBody, from: usize, end: usize, w: Walk, table: &mu
     }
 }
 
-// Where the rows under a coarse row end: at the next one's first fine row, or with the rows.
-fn run_end(next: u32, num_fine: usize) -> usize
-    ensures { λ r. ⌜ r ≡ min next «num_fine» ⌝ }
-{
-    if (next as usize) < num_fine {
-        next as usize
-    } else {
-        num_fine
-    }
-}
-
-// The entries of a map's fine rows, under its coarse rows, into the table from `at`.
+// The entries of a map's fine rows, under its coarse rows, into the table from `at`: the rows before the next coarse row's first, and at the end those that are left.
 pub fn put_entries(file: &[u8], m: MapBody, table: &mut [u8], at: usize)
     requires { ⌜ Fill (now file) m (length (now table)) at ⌝ }
     ensures { λ _. ⌜ now (table .exit) ≡ sets (now (table .entry)) at (tableBytes (entriesIn (now (file .entry)) m)) ⌝ }
 {
     let mut w = start(file, m.coarse, m.num_coarse);
     let mut k: usize = 0;
-    while k < m.num_fine {
-        w = reach(file, k as u32, w);
-        let end = run_end(w.next, m.num_fine);
-        put_run(file, m, k, end, w, table, at);
-        k = end;
+    while (w.next as usize) < m.num_fine {
+        let end = w.next as usize;
+        if k < end {
+            put_run(file, m, k, end, w, table, at);
+            k = end;
+        }
+        w = at_row(file, w.behind, w.left);
     }
+    put_run(file, m, k, m.num_fine, w, table, at);
 }

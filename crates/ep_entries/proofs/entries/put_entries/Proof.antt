@@ -1,83 +1,96 @@
--- Each turn reaches the coarse row of fine row k and stores the entries that use it; what is left goes behind them.
+-- Each turn stores the entries before the next coarse row's first fine row and steps to that row; those that are left are stored behind the loop.
 use borrow.Author.Needs.{needs}
-use Prim.Native.Nat.{_+_, _*_, _-_, _≤_}
-use mathlib.Core.Path.{_≡_, refl, _∙_}
+use Prim.Native.Nat.{_≤_}
+use mathlib.Core.Logic.{⊎-elim}
 use native.Mathlib.Omega.{arith}
 use denote.Ref.{now}
-use lib.ListN.{length}
-use lib.Seq.{sets}
-use Rattle.format.specs.ClipRecord.{entrySize}
-use Rattle.format.specs.Tables.{tableBytes}
-use Rattle.ep_entries.specs.Body.{coarseIn, entriesIn, entriesLeft}
-use Rattle.ep_entries.specs.Walks.{IsWalk}
-use Rattle.ep_entries.proofs.Walks.{walk-later}
-use Rattle.ep_entries.proofs.Joined.{left-all, run-put, entries-done}
+use Rattle.ep_entries.proofs.Walks.{steps-on, walking-less}
+use Rattle.ep_entries.proofs.Joined.{Filled, filled-first, filled-run, filled-step, filled-done}
 use Rattle.ep_entries.proofs.entries.put_entries.Statement.{statement}
 use Rattle.ep_entries.proofs.entries.put_entries.Tie as tie
 
 abbrev Inv-loop : tie.InvT-loop
-Inv-loop file m table₀ at w₀ k₀ table w k =
-    (k ≤ m .«num_fine»)
-    × IsWalk file (coarseIn file m) k w
-    × (length table ≡ length table₀)
-    × (sets table (at + entrySize * k) (tableBytes (entriesLeft file m k)) ≡ sets table₀ at (tableBytes (entriesIn file m)))
+Inv-loop file m table₀ at w₀ k₀ table w k = Filled file m table₀ at table w k
 
 abbrev μ-loop : tie.MeasureT-loop
-μ-loop file m table₀ at w₀ k₀ table w k = m .«num_fine» - k
+μ-loop file m table₀ at w₀ k₀ table w k = w .left
 
 loop-holds : tie.Need-loop-holds Inv-loop μ-loop
 loop-holds c =
     let s : tie.Start Inv-loop μ-loop = search in
-    let z : s .args .at + entrySize * 0 ≡ s .args .at = omega arith in
-    (omega arith, c .start .ensures, refl, rw (z, left-all (now (s .args .file)) (s .args .m)))
+    filled-first (now (s .args .file)) (s .args .m) (now (s .args .table)) (s .args .at) (c .start .result) (c .start .ensures)
 
 put-run-requires : tie.Need-put-run-requires Inv-loop μ-loop
 put-run-requires c κs =
     let s : tie.Start Inv-loop μ-loop = search in
     let l : tie.At-loop Inv-loop μ-loop = search in
-    let w : tie.After-reach Inv-loop μ-loop = search in
-    let e : tie.After-run-end Inv-loop μ-loop = search in
-    let end = e .run-end .ensures in
+    let t : tie.Then1 Inv-loop μ-loop = search in
     record {
-      turns = omega (arith, end, w .reach .ensures .beyond);
-      fine-in = omega (arith, end, s .pre .rows .fine-in);
-      fits = omega (arith, end, s .pre .fits, l .loop .inv .2);
+      turns = omega arith;
+      fine-in = omega (arith, t .if1 .taken, s .pre .rows .fine-in);
+      fits = omega (arith, t .if1 .taken, s .pre .fits, l .loop .inv .same);
     }
+
+at-row-requires : tie.Need-at-row-requires Inv-loop μ-loop
+at-row-requires c κs =
+    let s : tie.Start Inv-loop μ-loop = search in
+    let l : tie.At-loop Inv-loop μ-loop = search in
+    let t : tie.Then1 Inv-loop μ-loop = search in
+    let w = l .loop .w in
+    let steps = l .loop .inv .walk .steps in
+    (steps .room, steps-on (now (s .args .file)) (w .next) w steps (omega arith) (omega (arith, t .if1 .taken, s .pre .rows .few)) .0)
 
 loop-less : tie.Need-loop-less Inv-loop μ-loop
 loop-less c =
-    let w : tie.After-reach Inv-loop μ-loop = search in
-    let e : tie.After-run-end Inv-loop μ-loop = search in
-    omega (arith, e .run-end .ensures, w .reach .ensures .beyond)
+    let s : tie.Start Inv-loop μ-loop = search in
+    let l : tie.At-loop Inv-loop μ-loop = search in
+    let t : tie.Then1 Inv-loop μ-loop = search in
+    let w = l .loop .w in
+    walking-less (now (s .args .file)) (w .next) w (l .loop .inv .walk .steps) (omega arith) (omega (arith, t .if1 .taken, s .pre .rows .few)) (c .at-row .ensures)
 
 loop-again : tie.Need-loop-again Inv-loop μ-loop
 loop-again c =
     let s : tie.Start Inv-loop μ-loop = search in
     let turn : tie.At-loop Inv-loop μ-loop = search in
-    let reached : tie.After-reach Inv-loop μ-loop = search in
-    let ended : tie.After-run-end Inv-loop μ-loop = search in
-    let stored : tie.After-put-run Inv-loop μ-loop = search in
+    let t : tie.Then1 Inv-loop μ-loop = search in
+    let j : tie.Joined2 Inv-loop μ-loop = search in
     let a = s .args in
     let f = now (a .file) in
-    let cs = coarseIn f (a .m) in
+    let t₀ = now (a .table) in
     let l = turn .loop in
-    let w = reached .reach in
-    let end = ended .run-end in
-    let put = stored .put-run in
-    let walk = w .ensures .reached cs (l .inv .1) in
-    let on : l .k ≤ end .result = omega (arith, end .ensures, w .ensures .beyond) in (
-      omega (arith, end .ensures),
-      walk-later f cs (l .k) (end .result) (w .result) on walk,
-      put .kept .1 .1 .1 .1 .1 .0 ∙ l .inv .2,
-      run-put f (a .m) (w .result) (l .k) (end .result) (l .table) (a .at) on (end .ensures) walk (put .ensures) (l .inv .3),
-    )
+    let e = l .w .next in
+    let met : Filled f (a .m) t₀ (a .at) (j .if2 .table) (l .w) (j .if2 .k) × (e ≤ j .if2 .k) =
+        ⊎-elim
+        (λ x. (rw (x .5, x .6) (filled-run f (a .m) t₀ (a .at) (l .table) (l .w) (l .k) (l .inv) e (omega arith) (omega arith) (omega arith) (x .2 .kept .1 .1 .1 .1 .1 .0) (x .2 .ensures)), omega arith))
+        (λ x. (rw (x .1, x .2) (l .inv), omega arith))
+        (j .if2 .came)
+    in
+    filled-step f (a .m) t₀ (a .at) (j .if2 .table) (l .w) (j .if2 .k) (met .0) (s .pre .rows .few) (met .1) (c .at-row .ensures)
+
+put-run-requires-2 : tie.Need-put-run-requires-2 Inv-loop μ-loop
+put-run-requires-2 c κs =
+    let s : tie.Start Inv-loop μ-loop = search in
+    let l : tie.At-loop Inv-loop μ-loop = search in
+    record {
+      turns = l .loop .inv .within;
+      fine-in = s .pre .rows .fine-in;
+      fits = omega (arith, s .pre .fits, l .loop .inv .same);
+    }
 
 returns : tie.Need-returns Inv-loop μ-loop
 returns c =
     let s : tie.Start Inv-loop μ-loop = search in
     let turn : tie.At-loop Inv-loop μ-loop = search in
+    let left : tie.Else1 Inv-loop μ-loop = search in
+    let put : tie.After-put-run2 Inv-loop μ-loop = search in
+    let a = s .args in
+    let f = now (a .file) in
+    let t₀ = now (a .table) in
     let l = turn .loop in
-    entries-done (now (s .args .file)) (s .args .m) (l .k) (l .table) (s .args .at + entrySize * l .k) (c .if1 .left) (l .inv .3)
+    let n = a .m .«num_fine» in
+    let p = put .put-run2 in
+    filled-done f (a .m) t₀ (a .at) (p .last .1 .1 .1 .1 .1 .0) (l .w)
+    (filled-run f (a .m) t₀ (a .at) (l .table) (l .w) (l .k) (l .inv) n (l .inv .within) (left .if1 .left) (omega arith) (p .kept .1 .1 .1 .1 .1 .0) (p .ensures))
 
 pub put-entries-spec : {M : Type 1} → statement M
 put-entries-spec =
@@ -88,10 +101,11 @@ put-entries-spec =
     (λ c κs. search needs)
     loop-holds
     (λ c. search needs)
-    (λ c κs. search needs)
-    (λ c κs. search needs)
+    (λ c. search needs)
     put-run-requires
+    at-row-requires
     loop-less
     loop-again
+    put-run-requires-2
     (λ c. search needs)
     returns)
