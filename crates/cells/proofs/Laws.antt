@@ -39,5 +39,5 @@ pub cell-then : (l : List ℕ) (at v : ℕ) (rest : List ℕ) {l′ l″ : List 
 cell-then l at v rest e f = f ∙ rw (e, sets-append l at (cellBytes v) rest, low-length 4 v)
 
 -- the last cell of a row
-pub cell-last : (l : List ℕ) (at at′ v : ℕ) {l′ : List ℕ} → at + 4 ≡ at′ → l′ ≡ sets l at′ (cellBytes v) → l′ ≡ sets l (at + 4) (rowBytes (v ∷ []))
-cell-last l at at′ v p e = e ∙ rw (p, append-nil (cellBytes v))
+pub cell-last : (l : List ℕ) (at v : ℕ) {l′ : List ℕ} → l′ ≡ sets l (at + 4) (cellBytes v) → l′ ≡ sets l (at + 4) (rowBytes (v ∷ []))
+cell-last l at v e = e ∙ rw (append-nil (cellBytes v))

@@ -33,14 +33,22 @@ pub fn put_cell(t: &mut [u8], at: usize, v: u32)
     t[at + 3] = (v / 16777216 % 256) as u8;
 }
 
+// Stores a row of two cells from `at`.
+pub fn put_row2(t: &mut [u8], at: usize, a: u32, b: u32)
+    requires { ⌜ at + 8 ≤ length (now t) ⌝ }
+    ensures { λ _. ⌜ now (t .exit) ≡ sets (now (t .entry)) at (rowBytes (a ∷ b ∷ [])) ⌝ }
+{
+    put_cell(t, at, a);
+    put_cell(t, at + 4, b);
+}
+
 // Stores a row of three cells from `at`.
 pub fn put_row3(t: &mut [u8], at: usize, a: u32, b: u32, c: u32)
     requires { ⌜ at + 12 ≤ length (now t) ⌝ }
     ensures { λ _. ⌜ now (t .exit) ≡ sets (now (t .entry)) at (rowBytes (a ∷ b ∷ c ∷ [])) ⌝ }
 {
     put_cell(t, at, a);
-    put_cell(t, at + 4, b);
-    put_cell(t, at + 8, c);
+    put_row2(t, at + 4, b, c);
 }
 
 // Stores a row of four cells from `at`.

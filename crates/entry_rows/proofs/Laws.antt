@@ -1,7 +1,7 @@
 -- An entry's numbers by its cells, and its row by its numbers.
 use Prim.Native.Nat.{ℕ, _+_, _*_, _/_, _%_, _<_, _^_}
 use mathlib.Core.Path.{_≡_, refl, sym, ap, _∙_}
-use mathlib.Core.List.{List, [], _∷_}
+use mathlib.Core.List.{List, [], _∷_, _++_}
 use native.Mathlib.Omega.{arith}
 use lib.Dec.{lit<}
 use lib.ListN.{length, getD}
@@ -38,10 +38,14 @@ module _ (t : List ℕ) (q : ℕ) where
       → entryRow a i c p y ≡ cellsAt t entryCells q
   entry-whole a i c p y = rw (a .same, i .same, c .lower, c .upper, p .same, y .same)
 
--- three cells stored, and three behind them
-pub six-cells : (o : List ℕ) (at a b c d e f : ℕ) {o′ o″ : List ℕ} → o′ ≡ sets o at (rowBytes (a ∷ b ∷ c ∷ [])) → o″ ≡ sets o′ (at + 12) (rowBytes (d ∷ e ∷ f ∷ []))
-    → o″ ≡ sets o at (rowBytes (a ∷ b ∷ c ∷ d ∷ e ∷ f ∷ []))
-six-cells o at a b c d e f p q =
-    let first = rowBytes (a ∷ b ∷ c ∷ []) in
-    let size : length first ≡ 12 = row-bytes (a ∷ b ∷ c ∷ []) in
-    part-then o at 12 first (rowBytes (d ∷ e ∷ f ∷ [])) size refl p q ∙ ap (sets o at) (sym (flat-append cellBytes (a ∷ b ∷ c ∷ []) (d ∷ e ∷ f ∷ [])))
+-- cells stored, and more behind them
+cells-then : (o : List ℕ) (at : ℕ) (xs ys : Row) {o′ o″ : List ℕ} → o′ ≡ sets o at (rowBytes xs) → o″ ≡ sets o′ (at + 4 * length xs) (rowBytes ys)
+    → o″ ≡ sets o at (rowBytes (xs ++ ys))
+cells-then o at xs ys p q =
+    part-then o at (4 * length xs) (rowBytes xs) (rowBytes ys) (row-bytes xs) refl p q ∙ ap (sets o at) (sym (flat-append cellBytes xs ys))
+
+-- three pairs of cells stored one behind the other are a row
+pub three-pairs : (o : List ℕ) (at a b c d e f : ℕ) {o′ o″ o‴ : List ℕ} → o′ ≡ sets o at (rowBytes (a ∷ b ∷ [])) → o″ ≡ sets o′ (at + 8) (rowBytes (c ∷ d ∷ []))
+    → o‴ ≡ sets o″ (at + 16) (rowBytes (e ∷ f ∷ [])) → o‴ ≡ sets o at (rowBytes (a ∷ b ∷ c ∷ d ∷ e ∷ f ∷ []))
+three-pairs o at a b c d e f p q r =
+    cells-then o at (a ∷ b ∷ c ∷ d ∷ []) (e ∷ f ∷ []) (cells-then o at (a ∷ b ∷ []) (c ∷ d ∷ []) p q) r

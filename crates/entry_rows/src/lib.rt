@@ -1,13 +1,14 @@
 // The row of an entry in its table: its size, where each of its numbers stands, and a row stored. Nothing else knows these places.
 ghost use mathlib.Core.Path.{_≡_};
-ghost use Prim.Native.Nat.{_+_, _*_, _%_, _≤_};
+ghost use Prim.Native.Nat.{_+_, _*_, _/_, _%_, _^_, _≤_};
+ghost use mathlib.Core.List.{[], _∷_};
 ghost use lib.ListN.{length};
 ghost use lib.Seq.{sets};
 ghost use Rattle.format.specs.ClipRecord.{entryRow, angle, iEnd, packet, entryType, entrySize};
 ghost use Rattle.format.specs.Tables.{rowBytes};
 ghost use Rattle.entry_rows.specs.Reads.{EntryHas, TimeIs, WordsAre};
 use cells::cell_at;
-use cells::put_row3;
+use cells::put_row2;
 
 // The cells of a row; a time has two.
 pub const CELLS: usize = 6;
@@ -87,6 +88,19 @@ pub fn packet_of(words: Words) -> u32
     (words.back % 4294967296) as u32
 }
 
+// Stores a time from `at`: one store of eight bytes.
+fn put_time(t: &mut [u8], at: usize, time: u64)
+    requires { ⌜ at + 8 ≤ length (now t) ⌝ }
+    ensures { λ _. ⌜ now (t .exit) ≡ sets (now (t .entry)) at (rowBytes (time % 2 ^ 32 ∷ time / 2 ^ 32 ∷ [])) ⌝ }
+{
+    put_row2(
+        t,
+        at,
+        (time % 4294967296) as u32,
+        (time / 4294967296) as u32,
+    );
+}
+
 // Stores the row of an entry from `at`.
 pub fn put_row(
     t: &mut [u8],
@@ -100,6 +114,7 @@ pub fn put_row(
     requires { ⌜ at + entrySize ≤ length (now t) ⌝ }
     ensures { λ _. ⌜ now (t .exit) ≡ sets (now (t .entry)) at (rowBytes (entryRow angle «i_end» time packet «entry_type»)) ⌝ }
 {
-    put_row3(t, at, angle, i_end, (time % 4294967296) as u32);
-    put_row3(t, at + 12, (time / 4294967296) as u32, packet, entry_type);
+    put_row2(t, at, angle, i_end);
+    put_time(t, at + 8, time);
+    put_row2(t, at + 16, packet, entry_type);
 }

@@ -60,10 +60,10 @@ loop-again c =
     let l = turn .loop in
     let e = l .w .next in
     let met : Filled f (a .m) t₀ (a .at) (j .if2 .table) (l .w) (j .if2 .k) × (e ≤ j .if2 .k) =
-        ⊎-elim
-        (λ x. (rw (x .5, x .6) (filled-run f (a .m) t₀ (a .at) (l .table) (l .w) (l .k) (l .inv) e (omega arith) (omega arith) (omega arith) (x .2 .kept .1 .1 .1 .1 .1 .0) (x .2 .ensures)), omega arith))
-        (λ x. (rw (x .1, x .2) (l .inv), omega arith))
-        (j .if2 .came)
+    ⊎-elim
+    (λ x. (rw (x .5, x .6) (filled-run f (a .m) t₀ (a .at) (l .table) (l .w) (l .k) (l .inv) e (omega arith) (omega arith) (omega arith) (x .2 .kept .1 .1 .1 .1 .1 .0) (x .2 .ensures)), omega arith))
+    (λ x. (rw (x .1, x .2) (l .inv), omega arith))
+    (j .if2 .came)
     in
     filled-step f (a .m) t₀ (a .at) (j .if2 .table) (l .w) (j .if2 .k) (met .0) (s .pre .rows .few) (met .1) (c .at-row .ensures)
 
