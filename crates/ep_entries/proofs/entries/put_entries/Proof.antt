@@ -72,7 +72,7 @@ put-run-requires-2 c κs =
     let s : tie.Start Inv-loop μ-loop = search in
     let l : tie.At-loop Inv-loop μ-loop = search in
     record {
-      turns = l .loop .inv .within;
+      turns = omega (arith, l .loop .inv .within);
       fine-in = s .pre .rows .fine-in;
       fits = omega (arith, s .pre .fits, l .loop .inv .same);
     }
