@@ -10,42 +10,42 @@
 #define NAME(name) JOIN(SIDE, name)
 
 /* The tables of one library, and its last reading. */
-struct lent {
+struct state {
     struct clpi_tables tables;
     struct clpi_reading reading;
 };
 
 /* Tables with room for so many maps and entries; every page is touched. */
-void *NAME(lend)(size_t maps, size_t entries)
+void *NAME(make)(size_t maps, size_t entries)
 {
-    struct lent *l = calloc(1, sizeof *l);
-    l->tables.maps = calloc(maps, sizeof *l->tables.maps);
-    l->tables.maps_room = maps;
-    l->tables.entries = malloc(entries * sizeof *l->tables.entries);
-    l->tables.entries_room = entries;
-    memset(l->tables.entries, 1, entries * sizeof *l->tables.entries);
-    return l;
+    struct state *s = calloc(1, sizeof *s);
+    s->tables.maps = calloc(maps, sizeof *s->tables.maps);
+    s->tables.maps_room = maps;
+    s->tables.entries = malloc(entries * sizeof *s->tables.entries);
+    s->tables.entries_room = entries;
+    memset(s->tables.entries, 1, entries * sizeof *s->tables.entries);
+    return s;
 }
 
-void NAME(take_back)(void *lent)
+void NAME(unmake)(void *state)
 {
-    struct lent *l = lent;
-    free(l->tables.maps);
-    free(l->tables.entries);
-    free(l);
+    struct state *s = state;
+    free(s->tables.maps);
+    free(s->tables.entries);
+    free(s);
 }
 
-uint32_t NAME(read)(void *lent, const uint8_t *file, size_t bytes)
+uint32_t NAME(read)(void *state, const uint8_t *file, size_t bytes)
 {
-    struct lent *l = lent;
-    l->reading = clpi_read_tables(file, bytes, &l->tables);
-    return l->reading.refusal;
+    struct state *s = state;
+    s->reading = clpi_read_tables(file, bytes, &s->tables);
+    return s->reading.refusal;
 }
 
-uint32_t NAME(write)(void *lent, uint8_t *output, size_t room)
+uint32_t NAME(write)(void *state, uint8_t *output, size_t room)
 {
-    struct lent *l = lent;
-    return clpi_write_tables(&l->reading, &l->tables, output, room).refusal;
+    struct state *s = state;
+    return clpi_write_tables(&s->reading, &s->tables, output, room).refusal;
 }
 
 uint32_t NAME(rewrite)(const uint8_t *file, size_t bytes, uint8_t *output, size_t room)
@@ -53,19 +53,19 @@ uint32_t NAME(rewrite)(const uint8_t *file, size_t bytes, uint8_t *output, size_
     return clpi_rewrite(file, bytes, output, room).refusal;
 }
 
-#define LOOKUP(call, l, time) \
-    call((const uint8_t *)(l)->tables.maps, (l)->tables.maps_room * sizeof *(l)->tables.maps, (l)->reading.maps, \
-         (const uint8_t *)(l)->tables.entries, (l)->tables.entries_room * sizeof *(l)->tables.entries, (l)->reading.entries, \
+#define LOOKUP(call, s, time) \
+    call((const uint8_t *)(s)->tables.maps, (s)->tables.maps_room * sizeof *(s)->tables.maps, (s)->reading.maps, \
+         (const uint8_t *)(s)->tables.entries, (s)->tables.entries_room * sizeof *(s)->tables.entries, (s)->reading.entries, \
          0, time)
 
-uint32_t NAME(at_or_before)(void *lent, uint32_t time)
+uint32_t NAME(at_or_before)(void *state, uint32_t time)
 {
-    struct lent *l = lent;
-    return LOOKUP(clpi_entry_point_at_or_before, l, time).refusal;
+    struct state *s = state;
+    return LOOKUP(clpi_entry_point_at_or_before, s, time).refusal;
 }
 
-uint32_t NAME(after)(void *lent, uint32_t time)
+uint32_t NAME(after)(void *state, uint32_t time)
 {
-    struct lent *l = lent;
-    return LOOKUP(clpi_entry_point_after, l, time).refusal;
+    struct state *s = state;
+    return LOOKUP(clpi_entry_point_after, s, time).refusal;
 }

@@ -12,8 +12,8 @@
     returned after_##name(__VA_ARGS__); \
     static returned (*const name[2])(__VA_ARGS__) = {before_##name, after_##name}
 
-SIDES(void *, lend, size_t, size_t);
-SIDES(void, take_back, void *);
+SIDES(void *, make, size_t, size_t);
+SIDES(void, unmake, void *);
 SIDES(uint32_t, read, void *, const uint8_t *, size_t);
 SIDES(uint32_t, write, void *, uint8_t *, size_t);
 SIDES(uint32_t, rewrite, const uint8_t *, size_t, uint8_t *, size_t);
@@ -26,7 +26,7 @@ static double times[CALLS][2][MOST_ROUNDS];
 
 static uint8_t *file, *output;
 static size_t bytes, room;
-static void *lent[2];
+static void *state[2];
 
 /* Ends with a message where the word is 0. */
 static void need(int met, const char *what)
@@ -54,11 +54,11 @@ static void load(const char *path)
 static uint32_t call(int which, int side, uint32_t time)
 {
     switch (which) {
-    case READ: return read[side](lent[side], file, bytes);
-    case WRITE: return write[side](lent[side], output, room);
+    case READ: return read[side](state[side], file, bytes);
+    case WRITE: return write[side](state[side], output, room);
     case REWRITE: return rewrite[side](file, bytes, output, room);
-    case AT_OR_BEFORE: return at_or_before[side](lent[side], time);
-    default: return after[side](lent[side], time);
+    case AT_OR_BEFORE: return at_or_before[side](state[side], time);
+    default: return after[side](state[side], time);
     }
 }
 
@@ -96,7 +96,7 @@ int main(int count, char **words)
     lookups = (uint32_t)atol(words[6]);
     need(maps && entries && rounds > 0 && rounds <= MOST_ROUNDS && repeats && lookups, "a word is no number that will do");
     for (side = 0; side < 2; side++) {
-        lent[side] = lend[side](maps, entries);
+        state[side] = make[side](maps, entries);
     }
     for (round = 0; round < rounds; round++) {
         for (which = 0; which < CALLS; which++) {
@@ -114,7 +114,7 @@ int main(int count, char **words)
         printf("%s: %.4f %.4f\n", names[which], times[which][0][rounds / 2], times[which][1][rounds / 2]);
     }
     for (side = 0; side < 2; side++) {
-        take_back[side](lent[side]);
+        unmake[side](state[side]);
     }
     free(file);
     free(output);

@@ -73,8 +73,8 @@ put-run-requires-2 c κs =
     let l : tie.At-loop Inv-loop μ-loop = search in
     record {
       turns = omega (arith, l .loop .inv .within);
-      fine-in = s .pre .rows .fine-in;
-      fits = omega (arith, s .pre .fits, l .loop .inv .same);
+      fine-in = omega (arith, l .loop .inv .within, s .pre .rows .fine-in);
+      fits = omega (arith, l .loop .inv .within, s .pre .fits, l .loop .inv .same);
     }
 
 returns : tie.Need-returns Inv-loop μ-loop
