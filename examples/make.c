@@ -23,7 +23,7 @@ static struct clpi_ep_entry entries[] = {
 };
 
 #define ROWS(table) (sizeof(table) / sizeof *(table))
-#define LEND(table) t.table = table, t.table##_room = r.table = ROWS(table)
+#define SET_TABLE(table) t.table = table, t.table##_room = r.table = ROWS(table)
 
 int main(void)
 {
@@ -43,12 +43,12 @@ int main(void)
     r.ts_recording_rate = 6000000;
     r.number_of_source_packets = 16384;
     r.format_id = 0x48444D56; /* HDMV */
-    LEND(atcs);
-    LEND(stcs);
-    LEND(programs);
-    LEND(streams);
-    LEND(maps);
-    LEND(entries);
+    SET_TABLE(atcs);
+    SET_TABLE(stcs);
+    SET_TABLE(programs);
+    SET_TABLE(streams);
+    SET_TABLE(maps);
+    SET_TABLE(entries);
     w = clpi_write_tables(&r, &t, output, sizeof output);
     if (w.refusal) {
         fprintf(stderr, "refused %" PRIu32 ": %s\n", w.refusal, clpi_refusal_words(w.refusal));
