@@ -22,7 +22,7 @@ LAYERS = [
         ("a stored sample of the Rust's answers", "replay replay_cases replay_case replay_bytes"),
     ]),
     ("theorems on the calls", [
-        ("demand 3, from the calls' own promises", "rewriting_theorems query_theorems"),
+        ("demand 3, from the calls' own promises", "rewriting_theorems query_theorems exported_theorems"),
         ("both forms of an entry lookup", "entry_theorems"),
     ]),
     ("for C", [

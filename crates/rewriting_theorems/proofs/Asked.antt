@@ -14,12 +14,12 @@ held {rows = rows} e h = subst (λ (u : Table). HoldsRows u rows) (sym e) h
 
 module _ {L Others R : Type 0} {E : L → Type 0} where
   -- one table
-  on-table : {Post : (κs : L) → WithTable Others → R → E κs → Type 0} {old new : List Row} {s t : Table}
+  pub on-table : {Post : (κs : L) → WithTable Others → R → E κs → Type 0} {old new : List Row} {s t : Table}
       → FromTable Post old new → HoldsRows s old → HoldsRows t new → OnTable Post s t
   on-table alike hs ht x y is-s is-t others = alike x y (held is-s hs) (held is-t ht) others
 
   -- two tables
-  on-tables : {Post : (κs : L) → WithTable (WithTable Others) → R → E κs → Type 0} {old₁ new₁ old₂ new₂ : List Row} {s₁ t₁ s₂ t₂ : Table}
+  pub on-tables : {Post : (κs : L) → WithTable (WithTable Others) → R → E κs → Type 0} {old₁ new₁ old₂ new₂ : List Row} {s₁ t₁ s₂ t₂ : Table}
       → FromTables Post old₁ new₁ old₂ new₂ → HoldsRows s₁ old₁ → HoldsRows t₁ new₁ → HoldsRows s₂ old₂ → HoldsRows t₂ new₂ → OnTables Post s₁ t₁ s₂ t₂
   on-tables alike hs₁ ht₁ hs₂ ht₂ x y is-s₁ is-t₁ is-s₂ is-t₂ others =
       alike x y (held is-s₁ hs₁) (held is-t₁ ht₁) (held is-s₂ hs₂) (held is-t₂ ht₂) others

@@ -128,14 +128,17 @@ absent-list f h = (rw h, rw h)
 
 -- the statements together; the lists of six and of five zero bytes compute
 pub extensions : (f : List ℕ) → Extensions f
-unfolding listIn programsFrom streamsFrom programsEnd beAt
+unfolding listIn programsFrom streamsFrom programsEnd beAt extensionRows
 extensions f = record {
   rows = rows-all f;
   all = all-rows f;
+  as-record = λ start p. refl;
   no-block = no-rows f;
   first = λ before x behind h k. first-list x behind h k;
   without = no-list;
   absent = absent-list f;
   empty = (refl, refl, refl);
   none = refl;
+  ends-with-block = refl;
+  past-block = refl;
 }

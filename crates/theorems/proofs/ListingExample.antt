@@ -6,10 +6,11 @@ use Rattle.format.specs.Programs.{programsFrom, streamsFrom, programsEnd}
 use Rattle.format.specs.EntryPoints.{joinTime, joinPacket, hasMaps, mapCount, mapsFrom, entriesFrom, cpiIn, mapsIn}
 use Rattle.format.specs.Reading.{clipOf, recordOf}
 use Rattle.format.specs.Rewriting.{coarseAfter, runs, sequencesBytes, programsBytes, bodyBytes, cpiBytes, headBytes, encode}
+use Rattle.format.specs.Listing.{digits, line, mapLines, recordLines}
 use Rattle.format.specs.Refusals.{refusalOf, countsAdd, cellsFit, runsFit, writeRefusal}
-use Rattle.theorems.specs.ListingExample.{listedClip, listedFile, Listed}
+use Rattle.theorems.specs.ListingExample.{listedClip, listedFile, listedText, Listed}
 
 -- record and file have no unknowns, so both sides of each equation compute to the same
 pub listed : Listed
-unfolding listedClip listedFile beAt bytesOf lettersRight scalarsOf clipInfoIn atcsFrom stcsFrom sequencesEnd marksFrom marksIn programsFrom streamsFrom programsEnd joinTime joinPacket hasMaps mapCount mapsFrom entriesFrom cpiIn mapsIn clipOf recordOf coarseAfter runs sequencesBytes programsBytes bodyBytes cpiBytes headBytes encode refusalOf countsAdd cellsFit runsFit writeRefusal
-listed = record { bytes = refl; not-refused = refl; written = refl; accepted = refl; reads = refl; marks = refl }
+unfolding listedClip listedFile listedText digits line mapLines recordLines beAt bytesOf lettersRight scalarsOf clipInfoIn atcsFrom stcsFrom sequencesEnd marksFrom marksIn programsFrom streamsFrom programsEnd joinTime joinPacket hasMaps mapCount mapsFrom entriesFrom cpiIn mapsIn clipOf recordOf coarseAfter runs sequencesBytes programsBytes bodyBytes cpiBytes headBytes encode refusalOf countsAdd cellsFit runsFit writeRefusal
+listed = record { bytes = refl; not-refused = refl; written = refl; accepted = refl; reads = refl; marks = refl; text = refl }

@@ -1,9 +1,19 @@
 -- What is proved of the definitions, each statement short enough to be read beside the sentence that asks for it.
 pub mod CheckedByHand
 pub mod ListingExample
+pub mod WritingExample
 pub mod BitFields
 pub mod ReadByRead
 pub mod Rewriting
 pub mod Extensions
 pub mod Lookups
 pub mod Choices
+pub mod Figure
+pub mod TypeLists
+pub mod Boundaries
+pub mod Unchanged
+pub mod Owners
+pub mod RowsStated
+pub mod TooShort
+pub mod ListingText
+pub mod AnswerNumbers

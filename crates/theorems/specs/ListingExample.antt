@@ -6,6 +6,7 @@ use lib.ListN.{length, replicate}
 use Rattle.format.specs.ClipRecord.{Clip, entryRow}
 use Rattle.format.specs.Reading.{recordOf}
 use Rattle.format.specs.Rewriting.{encode}
+use Rattle.format.specs.Listing.{recordLines}
 use Rattle.format.specs.Refusals.{refusalOf, writeRefusal}
 
 -- the record: PID 4113, type 1, one entry with time 524,288 and packet 131,079
@@ -35,6 +36,16 @@ listedFile =
     ++ (0 ∷ 0 ∷ 0 ∷ 12 ∷ 0x00 ∷ 0x00 ∷ 0x00 ∷ 0x01 ∷ 0x00 ∷ 0x02 ∷ 0x00 ∷ 0x07 ∷ 0x08 ∷ 0x00 ∷ 0x00 ∷ 0x07 ∷ [])
     ++ (0 ∷ 0 ∷ 0 ∷ 2 ∷ 0 ∷ 0 ∷ [])
 
+-- the six lines that document 01 shows for it, each with its newline
+unfoldable pub listedText : List ℕ
+listedText =
+    (99 ∷ 108 ∷ 105 ∷ 112 ∷ 32 ∷ 49 ∷ 32 ∷ 49 ∷ 32 ∷ 54 ∷ 48 ∷ 48 ∷ 48 ∷ 48 ∷ 48 ∷ 48 ∷ 32 ∷ 49 ∷ 48 ∷ 48 ∷ 48 ∷ 10 ∷ [])
+    ++ (115 ∷ 101 ∷ 113 ∷ 32 ∷ 48 ∷ 32 ∷ 48 ∷ 10 ∷ [])
+    ++ (112 ∷ 114 ∷ 111 ∷ 103 ∷ 32 ∷ 48 ∷ 32 ∷ 48 ∷ 10 ∷ [])
+    ++ (109 ∷ 97 ∷ 112 ∷ 32 ∷ 52 ∷ 49 ∷ 49 ∷ 51 ∷ 32 ∷ 49 ∷ 32 ∷ 49 ∷ 10 ∷ [])
+    ++ (101 ∷ 112 ∷ 32 ∷ 53 ∷ 50 ∷ 52 ∷ 50 ∷ 56 ∷ 56 ∷ 32 ∷ 49 ∷ 51 ∷ 49 ∷ 48 ∷ 55 ∷ 57 ∷ 10 ∷ [])
+    ++ (109 ∷ 97 ∷ 114 ∷ 107 ∷ 32 ∷ 48 ∷ 10 ∷ [])
+
 -- it has 274 bytes, is what the record is written to, is accepted, and reads to the record, with no marks
 pub record Listed : Type 0 where
   pub bytes : length listedFile ≡ 274
@@ -43,3 +54,5 @@ pub record Listed : Type 0 where
   pub accepted : refusalOf listedFile ≡ 0
   pub reads : recordOf listedFile .clip ≡ listedClip
   pub marks : recordOf listedFile .marks ≡ 0
+  -- its listing is the six lines
+  pub text : recordLines (recordOf listedFile) ≡ listedText

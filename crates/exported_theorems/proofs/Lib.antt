@@ -1,0 +1,3 @@
+-- The proofs of the statements.
+pub mod Asked
+pub mod Exported

@@ -1,0 +1,176 @@
+-- Durations, spans and the figure: by the laws of differences, and over the STCs one after the other.
+use Prim.Native.Nat.{ℕ, _+_, _*_, _-_, _/_, _≤_, _<_, max, min}
+use mathlib.Core.Path.{_≡_, refl, ap, _∙_}
+use mathlib.Core.List.{List, [], _∷_, _++_, map, List·Memᴰ·head, List·Memᴰ·tail}
+use mathlib.Core.Bool.{Bool, true, false}
+use native.Mathlib.Omega.{arith}
+use lib.ListN.{length, getD, length-map}
+use lib.Dec.{leb}
+use borrow.Author.Tests.{leb-true, leb-false, lt-ltb, le-ltb}
+use Rattle.format.specs.Ticks.{Ticks90}
+use Rattle.format.specs.ClipRecord.{Row, stcStart}
+use Rattle.format.specs.Questions.{refused, number, ticks45, ticks90, minutesRemaining, presentationSpan90k, duration45k, duration90k, latestEnd, leastStart, presentationSpan, minutesLeft, ofStc, answer}
+use Rattle.format.proofs.Lists.{none, more, all-map}
+use Rattle.theorems.specs.Figure.{Stc, stcRow, WithStcs, IsLess, SameTime, IsLatestEnd, IsLeastStart, WholeMinutes, IsSpan, IsRemaining, Figure}
+
+-- ---- words
+
+-- a difference that stops at 0
+less-is : (a b : ℕ) → IsLess a b (a - b)
+less-is a b = record { above = λ h. omega arith; below = λ h. omega arith }
+
+-- twice as many ticks by the faster clock
+twice : (t : ℕ) → SameTime t (2 * t)
+twice t = omega arith
+
+-- the quotient is the greatest number that fits
+whole : (ticks : ℕ) → WholeMinutes ticks (ticks / 5400000)
+whole ticks = record { fit = omega arith; greatest = λ m h. omega arith }
+
+-- ---- the latest end
+
+-- a later one of two ends, of which the second is the latest of the STCs behind the first
+later-end : (s : Stc) (later : List Stc) (e : ℕ) → IsLatestEnd later e → IsLatestEnd (s ∷ later) (max (s .end) e)
+later-end s later e r = go (leb (s .end) e) refl
+  where
+    go : (b : Bool) → leb (s .end) e ≡ b → IsLatestEnd (s ∷ later) (max (s .end) e)
+    go true h =
+        let l = leb-true (s .end) e h in
+        let m : max (s .end) e ≡ e = omega arith in
+        rw m (record { of = r .of; one = List·Memᴰ·tail (r .one); ends = r .ends; no-later = more l (r .no-later) })
+    go false h =
+        let l = leb-false (s .end) e h in
+        let m : max (s .end) e ≡ s .end = omega arith in
+        rw m (record { of = s; one = List·Memᴰ·head refl; ends = refl; no-later = more {x = s} (omega arith) (all-map (λ y i. omega arith) (r .no-later)) })
+
+-- of one STC or more
+latest : (s : Stc) (later : List Stc) → IsLatestEnd (s ∷ later) (latestEnd (map stcRow (s ∷ later)) .ticks)
+latest s [] = record { of = s; one = List·Memᴰ·head refl; ends = omega arith; no-later = more {x = s} (omega arith) none }
+latest s (x ∷ xs) = later-end s (x ∷ xs) (latestEnd (map stcRow (x ∷ xs)) .ticks) (latest x xs)
+
+-- ---- the least start
+
+-- the lesser of two starts, of which the second is the least of the STCs behind the first
+earlier-start : (s : Stc) (later : List Stc) (e : ℕ) → IsLeastStart later e → IsLeastStart (s ∷ later) (min (s .start) e)
+earlier-start s later e r = go (leb (s .start) e) refl
+  where
+    go : (b : Bool) → leb (s .start) e ≡ b → IsLeastStart (s ∷ later) (min (s .start) e)
+    go true h =
+        let l = leb-true (s .start) e h in
+        let m : min (s .start) e ≡ s .start = omega arith in
+        rw m (record { of = s; one = List·Memᴰ·head refl; starts = refl; no-earlier = more {x = s} (omega arith) (all-map (λ y i. omega arith) (r .no-earlier)) })
+    go false h =
+        let l = leb-false (s .start) e h in
+        let m : min (s .start) e ≡ e = omega arith in
+        rw m (record { of = r .of; one = List·Memᴰ·tail (r .one); starts = r .starts; no-earlier = more {x = s} (omega arith) (r .no-earlier) })
+
+-- a start that is looked at first may as well be looked at last
+least-first : (t u : ℕ) (rows : List Row) → leastStart (record { ticks = min t u }) rows .ticks ≡ min t (leastStart (record { ticks = u }) rows .ticks)
+least-first t u [] = refl
+least-first t u (r ∷ rows) =
+    let v = stcStart r .ticks in
+    let e : min (min t u) v ≡ min t (min u v) = omega arith in
+    ap (λ (n : ℕ). leastStart (record { ticks = n }) rows .ticks) e ∙ least-first t (min u v) rows
+
+-- of one STC or more
+least : (s : Stc) (later : List Stc) → IsLeastStart (s ∷ later) (leastStart (stcStart (stcRow s)) (map stcRow later) .ticks)
+least s [] = record { of = s; one = List·Memᴰ·head refl; starts = refl; no-earlier = more {x = s} (omega arith) none }
+least s (x ∷ xs) =
+    rw (least-first (s .start) (x .start) (map stcRow xs))
+    (earlier-start s (x ∷ xs) (leastStart (stcStart (stcRow x)) (map stcRow xs) .ticks) (least x xs))
+
+-- ---- what is answered
+
+-- the row of the STC behind some others
+row-there : (before : List Stc) (s : Stc) (behind : List Stc) → getD (map stcRow (before ++ (s ∷ behind))) (length before) [] ≡ stcRow s
+row-there [] s behind = refl
+row-there (x ∷ before) s behind = row-there before s behind
+
+-- it is one of the rows
+is-there : (before : List Stc) (s : Stc) (behind : List Stc) → length before < length (map stcRow (before ++ (s ∷ behind)))
+is-there [] s behind = omega arith
+is-there (x ∷ before) s behind = let h = is-there before s behind in omega arith
+
+-- the durations of that STC
+durations : (before : List Stc) (s : Stc) (behind : List Stc) (c : WithStcs (before ++ (s ∷ behind)))
+    → (answer (duration45k (length before)) (c .clip) ≡ ticks45 (record { ticks = s .end - s .start }))
+    × (answer (duration90k (length before)) (c .clip) ≡ ticks90 (record { ticks = 2 * (s .end - s .start) }))
+unfolding answer ofStc
+durations before s behind c =
+    let l = lt-ltb (length before) (length (map stcRow (before ++ (s ∷ behind)))) (is-there before s behind) in
+    let e = row-there before s behind in
+    (rw (c .rows, l, e), rw (c .rows, l, e))
+
+-- a row behind the last is refused
+no-duration : (stcs : List Stc) (c : WithStcs stcs) (k : ℕ) → length stcs ≤ k
+    → (answer (duration45k k) (c .clip) ≡ refused 22) × (answer (duration90k k) (c .clip) ≡ refused 22)
+unfolding answer ofStc
+no-duration stcs c k h =
+    let l = le-ltb k (length (map stcRow stcs)) (omega (arith, length-map stcs stcRow)) in
+    (rw (c .rows, l), rw (c .rows, l))
+
+-- the span
+span-is : (s : Stc) (later : List Stc) (c : WithStcs (s ∷ later))
+    → (t : ℕ) × (answer presentationSpan90k (c .clip) ≡ ticks90 (record { ticks = t })) × IsSpan (s ∷ later) t
+unfolding answer presentationSpan
+span-is s later c =
+    let e = latestEnd (map stcRow (s ∷ later)) .ticks in
+    let b = leastStart (stcStart (stcRow s)) (map stcRow later) .ticks in (
+      2 * e - 2 * b,
+      rw (c .rows),
+      record {
+        end = e;
+        is-end = latest s later;
+        start = b;
+        is-start = least s later;
+        end-90 = 2 * e;
+        same-end = twice e;
+        start-90 = 2 * b;
+        same-start = twice b;
+        span-is = less-is (2 * e) (2 * b);
+      },
+    )
+
+-- the figure
+remaining-is : (s : Stc) (later : List Stc) (c : WithStcs (s ∷ later)) (at : Ticks90)
+    → (n : ℕ) × (answer (minutesRemaining at) (c .clip) ≡ number n) × IsRemaining (s ∷ later) (at .ticks) n
+unfolding answer minutesLeft
+remaining-is s later c at =
+    let e = latestEnd (map stcRow (s ∷ later)) .ticks in (
+      (2 * e - at .ticks) / 5400000,
+      rw (c .rows),
+      record {
+        end = e;
+        is-end = latest s later;
+        end-90 = 2 * e;
+        same-end = twice e;
+        left = 2 * e - at .ticks;
+        left-is = less-is (2 * e) (at .ticks);
+        minutes-are = whole (2 * e - at .ticks);
+      },
+    )
+
+-- without STCs the latest end is 0, and nothing is left
+nothing-left : (c : WithStcs []) (at : Ticks90) → answer (minutesRemaining at) (c .clip) ≡ number 0
+unfolding answer minutesLeft
+nothing-left c at = let z : (0 - at .ticks) / 5400000 ≡ 0 = omega arith in rw (c .rows, z)
+
+-- and there is no span
+no-span-is : (c : WithStcs []) → answer presentationSpan90k (c .clip) ≡ ticks90 (record { ticks = 0 })
+unfolding answer presentationSpan
+no-span-is c = rw (c .rows)
+
+-- the statements together
+pub figure : Figure
+figure = record {
+  doubling = λ t. twice (t .ticks);
+  duration = λ before s behind c.
+      let d = durations before s behind c in
+      let t = s .end - s .start in
+      (t, 2 * t, d .0, d .1, record { is-45 = less-is (s .end) (s .start); is-90 = twice t });
+  no-stc = no-duration;
+  span = span-is;
+  no-span = no-span-is;
+  remaining = remaining-is;
+  none-remaining = nothing-left;
+}

@@ -1,0 +1,107 @@
+-- Durations, the presentation span and the front figure in words: a clock's rate, the latest end, the least start, whole minutes.
+use Prim.Native.Nat.{ℕ, _+_, _*_, _≤_}
+use mathlib.Core.Path.{_≡_}
+use mathlib.Core.List.{List, [], _∷_, _++_, map, List·Memᴰ}
+use lib.ListN.{length}
+use Rattle.format.specs.Ticks.{Ticks45, Ticks90, doubled}
+use Rattle.format.specs.ClipRecord.{Row, Clip}
+use Rattle.format.specs.Questions.{refused, number, ticks45, ticks90, minutesRemaining, presentationSpan90k, duration45k, duration90k, answer}
+use Rattle.format.proofs.Lists.{All}
+
+-- ---- STCs as table 2 has them
+
+-- PID, packet, and start and end in 45 kHz ticks
+pub record Stc : Type 0 where
+  pub pid : ℕ
+  pub packet : ℕ
+  pub start : ℕ
+  pub end : ℕ
+
+-- its row
+abbrev pub stcRow : Stc → Row
+stcRow s = s .pid ∷ s .packet ∷ s .start ∷ s .end ∷ []
+
+-- a record whose table 2 has these STCs
+pub record WithStcs (stcs : List Stc) : Type 0 where
+  pub clip : Clip
+  pub rows : clip .stcs ≡ map stcRow stcs
+
+-- ---- words
+
+-- r is a less b, and 0 where b is the greater
+pub record IsLess (a b r : ℕ) : Type 0 where
+  pub above : b ≤ a → b + r ≡ a
+  pub below : a ≤ b → r ≡ 0
+
+-- one time counted by two clocks: t ticks at 45,000 a second and u ticks at 90,000 a second
+abbrev pub SameTime : (t u : ℕ) → Type 0
+SameTime t u = t * 90000 ≡ u * 45000
+
+-- some STC ends then, and none later
+pub record IsLatestEnd (stcs : List Stc) (t : ℕ) : Type 0 where
+  pub of : Stc
+  pub one : List·Memᴰ of stcs
+  pub ends : of .end ≡ t
+  pub no-later : All (λ s. s .end ≤ t) stcs
+
+-- some STC starts then, and none earlier
+pub record IsLeastStart (stcs : List Stc) (t : ℕ) : Type 0 where
+  pub of : Stc
+  pub one : List·Memᴰ of stcs
+  pub starts : of .start ≡ t
+  pub no-earlier : All (λ s. t ≤ s .start) stcs
+
+-- n minutes of 60 seconds, at 90,000 ticks a second, go into so many ticks, and no greater number does
+pub record WholeMinutes (ticks n : ℕ) : Type 0 where
+  pub fit : n * (60 * 90000) ≤ ticks
+  pub greatest : (m : ℕ) → m * (60 * 90000) ≤ ticks → m ≤ n
+
+-- ---- what is answered
+
+-- how long an STC is, by either clock
+pub record IsDuration (s : Stc) (t u : ℕ) : Type 0 where
+  pub is-45 : IsLess (s .end) (s .start) t
+  pub is-90 : SameTime t u
+
+-- from the least start to the latest end, each counted by the 90 kHz clock
+pub record IsSpan (stcs : List Stc) (span : ℕ) : Type 0 where
+  pub end : ℕ
+  pub is-end : IsLatestEnd stcs end
+  pub start : ℕ
+  pub is-start : IsLeastStart stcs start
+  pub end-90 : ℕ
+  pub same-end : SameTime end end-90
+  pub start-90 : ℕ
+  pub same-start : SameTime start start-90
+  pub span-is : IsLess end-90 start-90 span
+
+-- from a time to the latest end, in whole minutes
+pub record IsRemaining (stcs : List Stc) (at minutes : ℕ) : Type 0 where
+  pub end : ℕ
+  pub is-end : IsLatestEnd stcs end
+  pub end-90 : ℕ
+  pub same-end : SameTime end end-90
+  pub left : ℕ
+  pub left-is : IsLess end-90 at left
+  pub minutes-are : WholeMinutes left minutes
+
+-- ---- all of it
+
+-- the statements together, of any record
+pub record Figure : Type 0 where
+  -- the doubling is the one time by the other clock
+  pub doubling : (t : Ticks45) → SameTime (t .ticks) (doubled t .ticks)
+  -- the STC behind some others, in both clocks; a row that is not there is 22
+  pub duration : (before : List Stc) (s : Stc) (behind : List Stc) (c : WithStcs (before ++ (s ∷ behind)))
+      → (t : ℕ) × (u : ℕ) × (answer (duration45k (length before)) (c .clip) ≡ ticks45 (record { ticks = t }))
+      × (answer (duration90k (length before)) (c .clip) ≡ ticks90 (record { ticks = u })) × IsDuration s t u
+  pub no-stc : (stcs : List Stc) (c : WithStcs stcs) (k : ℕ) → length stcs ≤ k
+      → (answer (duration45k k) (c .clip) ≡ refused 22) × (answer (duration90k k) (c .clip) ≡ refused 22)
+  -- the span, and 0 without STCs
+  pub span : (s : Stc) (later : List Stc) (c : WithStcs (s ∷ later))
+      → (t : ℕ) × (answer presentationSpan90k (c .clip) ≡ ticks90 (record { ticks = t })) × IsSpan (s ∷ later) t
+  pub no-span : (c : WithStcs []) → answer presentationSpan90k (c .clip) ≡ ticks90 (record { ticks = 0 })
+  -- the front figure, and 0 without STCs
+  pub remaining : (s : Stc) (later : List Stc) (c : WithStcs (s ∷ later)) (at : Ticks90)
+      → (n : ℕ) × (answer (minutesRemaining at) (c .clip) ≡ number n) × IsRemaining (s ∷ later) (at .ticks) n
+  pub none-remaining : (c : WithStcs []) (at : Ticks90) → answer (minutesRemaining at) (c .clip) ≡ number 0
