@@ -5,7 +5,7 @@ use mathlib.Core.List.{[], _∷_}
 use mathlib.Core.Bool.{true, false}
 use lib.ListN.{length, getD, replicate}
 use Rattle.format.specs.Bytes.{part}
-use Rattle.format.specs.Questions.{Answer, answerNumbers}
+use Rattle.format.specs.Questions.{Answer, transferSecs, answerNumbers}
 use Rattle.format.specs.Refusals.{Stated, ReadAnswer, readNumbers, WriteAnswer, writeNumbers}
 
 -- the refusal, then zeros, unless it is 21 or 23; 0 where nothing is refused
@@ -15,6 +15,10 @@ pub record AnswerNumbers : Type 0 where
   pub nothing : (answerNumbers Answer.none ≡ replicate 3 0) × (answerNumbers Answer.noRate ≡ replicate 3 0)
   pub value : (v : ℕ) → (answerNumbers (Answer.number v) ≡ 0 ∷ 1 ∷ v ∷ [])
       × (answerNumbers (Answer.ticks45 (record { ticks = v })) ≡ 0 ∷ 1 ∷ v ∷ []) × (answerNumbers (Answer.ticks90 (record { ticks = v })) ≡ 0 ∷ 1 ∷ v ∷ [])
+  -- seconds as the bits of an f64: 1,000 packets at 96,000 bytes a second take 2, one packet at 47 takes the f64 that is nearest to 192 / 47
+  pub two-seconds : answerNumbers (transferSecs 96000 1000) ≡ 0 ∷ 1 ∷ 0x4000000000000000 ∷ []
+  pub nearest : answerNumbers (transferSecs 47 1) ≡ 0 ∷ 1 ∷ 0x4010572620AE4C41 ∷ []
+  pub no-rate : answerNumbers (transferSecs 0 1) ≡ replicate 3 0
   -- reading: 21 numbers
   pub not-read : (n : ℕ) → readNumbers (ReadAnswer.refused n) ≡ n ∷ replicate 20 0
   pub short-table : (k n : ℕ) → readNumbers (ReadAnswer.tooShort k n) ≡ 21 ∷ k ∷ n ∷ replicate 18 0
