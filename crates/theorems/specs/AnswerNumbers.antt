@@ -22,7 +22,7 @@ pub record AnswerNumbers : Type 0 where
   -- reading: 21 numbers
   pub not-read : (n : ℕ) → readNumbers (ReadAnswer.refused n) ≡ n ∷ replicate 20 0
   pub short-table : (k n : ℕ) → readNumbers (ReadAnswer.tooShort k n) ≡ 21 ∷ k ∷ n ∷ replicate 18 0
-  pub read : (s : Stated) → (length (readNumbers (ReadAnswer.accepted s)) ≡ 21) × (getD (readNumbers (ReadAnswer.accepted s)) 0 0 ≡ 0)
+  pub read : (s : Stated) → (length (readNumbers (ReadAnswer.accepted s)) ≡ 21) × (part (readNumbers (ReadAnswer.accepted s)) 0 3 ≡ replicate 3 0)
   -- behind three zeros the scalars, the mark count, the rows of tables 1 to 9, and whether there is a list
   pub scalars : (s : Stated) → part (readNumbers (ReadAnswer.accepted s)) 3 7
       ≡ s .scalars .version ∷ s .scalars .streamType ∷ s .scalars .applicationType ∷ s .scalars .rate ∷ s .scalars .packets ∷ s .scalars .validityFlags ∷ s .scalars .formatId ∷ []
