@@ -185,7 +185,7 @@ pub extern "C" fn clpi_ep_map_by_kind(maps: &[u8], rows: u32, kind: u8) -> ClpiA
     answer_of(ep_map_by_kind(maps, rows, kind))
 }
 
-// The row of the first video map from a row on.
+// The row of the first video map from a row on, by the low four bits of the type.
 #[no_mangle]
 pub extern "C" fn clpi_next_video_ep_map(maps: &[u8], rows: u32, from: u32) -> ClpiAnswer
     ensures { λ r. ⌜ foundNumbers r ≡ answerNumbers (ask (nextVideoEpMap «from») (onlyMaps (stated (now (maps .entry)) rows))) ⌝ }

@@ -27,7 +27,7 @@ pub fn ep_map_by_kind(maps: &[u8], rows: u32, kind: u8) -> Found
     first_row(maps, rows, MAP, 1, 0, Test::Kind((kind % 16) as u32))
 }
 
-// The first video map from a row on.
+// The first video map from a row on, by the low four bits of the type.
 pub fn next_video_ep_map(maps: &[u8], rows: u32, from: u32) -> Found
     ensures { λ r. ⌜ foundOf r ≡ ask (nextVideoEpMap «from») (onlyMaps (stated (now (maps .entry)) rows)) ⌝ }
 {
