@@ -32,10 +32,10 @@ use Rattle.ep_map_queries.proofs.Answers.{seek-asks}
 -- ---- by type
 
 -- the searches of the type's low four bits
-pub kind-asked : (t : Table) (kind : ℕ) → askRow mapCells 1 0 (Test.Kind (kind % 16)) t ≡ ask (epMapByKind kind) (onlyMaps t)
+pub kind-asked : (t : Table) (kind : ℕ) → askRow mapCells 1 0 (Test.MapKind (kind % 16)) t ≡ ask (epMapByKind kind) (onlyMaps t)
 unfolding answer clipIn
 kind-asked t kind =
-    row-answers (epMapByKind kind) (onlyMaps t) of.maps mapCells 1 0 (Test.Kind (kind % 16)) t refl refl
+    row-answers (epMapByKind kind) (onlyMaps t) of.maps mapCells 1 0 (Test.MapKind (kind % 16)) t refl refl
     (through (λ y. y % 16) (λ y. eqb y (kind % 16)) mapType 0 (rowsOf mapCells t))
 
 -- the search of a video type from a row on is the question for the next video map

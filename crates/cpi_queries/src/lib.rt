@@ -24,7 +24,7 @@ const MAP: usize = 3;
 pub fn ep_map_by_kind(maps: &[u8], rows: u32, kind: u8) -> Found
     ensures { λ r. ⌜ foundOf r ≡ ask (epMapByKind kind) (onlyMaps (stated (now (maps .entry)) rows)) ⌝ }
 {
-    first_row(maps, rows, MAP, 1, 0, Test::Kind((kind % 16) as u32))
+    first_row(maps, rows, MAP, 1, 0, Test::MapKind((kind % 16) as u32))
 }
 
 // The first video map from a row on, by the low four bits of the type.
