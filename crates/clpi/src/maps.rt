@@ -2,7 +2,8 @@
 ghost use mathlib.Core.Path.{_≡_};
 ghost use Rattle.format.specs.Questions.{answerNumbers, ask, entryPointAtOrBefore, entryPointAfter, indexedSpan90k, primaryVideoEpMap, seekSpn, nextSeekSpn, primarySeekSpn, primaryNextSeekSpn, firstPts, lastPts, epMapByKind, nextVideoEpMap};
 ghost use Rattle.format.specs.ClipRecord.{entryCells};
-ghost use Rattle.queries.specs.Asked.{stated, onlyMaps, mapsAndEntries};
+ghost use Rattle.format.specs.Tables.{stated};
+ghost use Rattle.queries.specs.Asked.{onlyMaps, mapsAndEntries};
 ghost use Rattle.table_rows.specs.OwnRows.{ownedRows, ownedNumbers};
 ghost use Rattle.clpi_answers.specs.Numbers.{foundNumbers, rowsNumbers};
 use clpi_answers::ClpiAnswer;

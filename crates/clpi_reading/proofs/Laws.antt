@@ -3,11 +3,10 @@ use Prim.Native.Nat.{ℕ, _≤_}
 use mathlib.Core.Path.{_≡_, refl, sym, ap, _∙_}
 use mathlib.Core.List.{List}
 use mathlib.Core.Bool.{Bool, true, false}
-use native.Mathlib.Omega.{arith}
 use lib.Dec.{lit≤}
 use mir.Val.{boolByte}
 use Rattle.format.specs.Bytes.{IsBytes}
-use Rattle.format.specs.Refusals.{readAnswer, readNumbers, flag, tablesOf, statedOf, tableBy, tablesAfter}
+use Rattle.format.specs.Refusals.{Stated, readAnswer, readNumbers, flag, tablesOf, statedOf, tableBy, tablesAfter}
 use Rattle.format.specs.Tables.{Nine}
 use Rattle.format.proofs.Counts.{tables-few, needed-few}
 use Rattle.format.proofs.Listing.{accepted-is}
@@ -31,18 +30,7 @@ counts-fit f bytes t (Answer.Refused n) h = lit≤ tt
 counts-fit f bytes t (Answer.TooShort k n) h = needed-few f t (tables-few f bytes) (sym h)
 counts-fit f bytes t (Answer.Accepted info marks rows has) h =
     let e = accepted-is f t (sym h) .1 in
-    let few = tables-few f bytes in
-    record {
-      atcs = omega (arith, ap (λ s. s .rows .atcs) e, few .atcs);
-      stcs = omega (arith, ap (λ s. s .rows .stcs) e, few .stcs);
-      programs = omega (arith, ap (λ s. s .rows .programs) e, few .programs);
-      streams = omega (arith, ap (λ s. s .rows .streams) e, few .streams);
-      maps = omega (arith, ap (λ s. s .rows .maps) e, few .maps);
-      entries = omega (arith, ap (λ s. s .rows .entries) e, few .entries);
-      extensions = omega (arith, ap (λ s. s .rows .extensions) e, few .extensions);
-      listPrograms = omega (arith, ap (λ s. s .rows .listPrograms) e, few .listPrograms);
-      listStreams = omega (arith, ap (λ s. s .rows .listStreams) e, few .listStreams);
-    }
+    rw (ap (λ (s : Stated). s .rows) e) (tables-few f bytes)
 
 -- nine equations for the tables are one
 pub tables-are : (f : List ℕ) (t x : Nine (List ℕ)) (a : Answer) → readAnswerOf a ≡ readAnswer f t

@@ -1,6 +1,6 @@
 // The entries of one map: where they begin in the table of entries, and how many there are.
 ghost use mathlib.Core.Path.{_≡_};
-ghost use Rattle.queries.specs.Asked.{stated};
+ghost use Rattle.format.specs.Tables.{stated};
 ghost use Rattle.table_rows.specs.OwnRows.{ownedOf};
 ghost use Rattle.ep_map_queries.specs.InMap.{ownedEntries};
 use entry_rows::CELLS;

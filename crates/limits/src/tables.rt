@@ -2,8 +2,7 @@
 ghost use mathlib.Core.Path.{_≡_};
 ghost use Prim.Native.Nat.{_≤_};
 ghost use Rattle.format.specs.Bytes.{every};
-ghost use Rattle.format.specs.Tables.{tableRows, rowRoom, atcCells, stcCells, programCells, streamCells, mapCells};
-ghost use Rattle.queries.specs.Asked.{stated};
+ghost use Rattle.format.specs.Tables.{tableRows, rowRoom, atcCells, stcCells, programCells, streamCells, mapCells, stated};
 ghost use Rattle.row_limits.specs.Kinds.{tableCells, fitsBy};
 ghost use Rattle.limits.specs.Clips.{headsFit, groupsFit, tablesFit};
 use crate::rows::rows_fit;

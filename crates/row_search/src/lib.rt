@@ -1,8 +1,8 @@
 // The first row of a table that passes a test of one of its numbers.
 ghost use mathlib.Core.Path.{_≡_};
 ghost use Prim.Native.Nat.{_≤_, _<_};
+ghost use Rattle.format.specs.Tables.{stated};
 ghost use Rattle.queries.specs.Answers.{foundOf};
-ghost use Rattle.queries.specs.Asked.{stated};
 ghost use Rattle.row_search.specs.FirstRow.{testOf, askRow};
 use cells::cell_at;
 use queries::Found;

@@ -10,11 +10,11 @@ use borrow.Author.Tests.{lt-ltb, le-ltb}
 use Rattle.format.specs.ClipRecord.{Row, stcStart}
 use Rattle.format.specs.Ticks.{Ticks45, Ticks90, doubled, less45, less90, minutes}
 use Rattle.format.specs.Questions.{Question, firstStcSequence, minutesRemaining, presentationSpan90k, Answer, refused, none, number, ticks90, stcs, partsOf, latestEnd, leastStart, presentationSpan, minutesLeft, durationOf, ofStc, answer, ask}
-use Rattle.format.specs.Tables.{cellsAt, tableRows, stcCells, isStated, clipIn}
+use Rattle.format.specs.Tables.{cellsAt, tableRows, stcCells, isStated, clipIn, stated}
 use Rattle.format.proofs.Cell.{row-cell, cell-of}
 use Rattle.format.proofs.Rows.{rows-length}
 use Rattle.cells.specs.Reads.{CellIs}
-use Rattle.queries.specs.Asked.{stated, onlyStcs}
+use Rattle.queries.specs.Asked.{onlyStcs}
 use Rattle.queries.proofs.Asking.{answered}
 use Rattle.table_rows.proofs.Scans.{rowsLeft, left-all, left-turn, left-done}
 

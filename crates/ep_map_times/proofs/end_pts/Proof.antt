@@ -1,7 +1,7 @@
 -- A refusal stands in front of the map's own entries; of these one end answers.
 use mathlib.Core.Path.{_≡_, sym, ap, _∙_}
 use denote.Ref.{now}
-use Rattle.queries.specs.Asked.{stated}
+use Rattle.format.specs.Tables.{stated}
 use Rattle.table_rows.specs.OwnRows.{owns, ownedOf}
 use Rattle.ep_map_queries.specs.InMap.{ownedEntries}
 use Rattle.ep_map_queries.proofs.Answers.{not-asked, asked, inside}

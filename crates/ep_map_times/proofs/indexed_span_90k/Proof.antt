@@ -2,7 +2,7 @@
 use mathlib.Core.Path.{_≡_, sym, ap, _∙_}
 use denote.Ref.{now}
 use Rattle.format.specs.Questions.{ticks90}
-use Rattle.queries.specs.Asked.{stated}
+use Rattle.format.specs.Tables.{stated}
 use Rattle.table_rows.specs.OwnRows.{owns, ownedOf}
 use Rattle.ep_map_queries.specs.InMap.{ownedEntries}
 use Rattle.ep_map_queries.proofs.Answers.{not-asked, asked, inside}
