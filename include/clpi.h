@@ -537,7 +537,8 @@ struct clpi_answer clpi_primary_video_ep_map(const uint8_t *maps, size_t maps_by
 /* The row of the first map of a type, by the low four bits of both. */
 struct clpi_answer clpi_ep_map_by_kind(const uint8_t *maps, size_t maps_bytes, uint32_t rows, uint8_t kind);
 
-/* The first video map, of type 1, 5, 6 or 8, from row `from` on, which is no row number; nothing where none is left. */
+/* The first video map, of type 1, 5, 6 or 8 by the low four bits, from row `from` on, which is no row number; nothing
+ * where none is left. */
 struct clpi_answer clpi_next_video_ep_map(const uint8_t *maps, size_t maps_bytes, uint32_t rows, uint32_t from);
 
 /* ---- questions about the packet count and the rate: none is refused */

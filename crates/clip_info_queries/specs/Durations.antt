@@ -3,6 +3,6 @@ use Rattle.format.specs.Questions.{Answer, seconds, noRate}
 use Rattle.clip_info_queries.specs.declared.Duration.{Duration}
 
 -- the code's answer as that of the definition
-abbrev pub durationOf : Duration → Answer
-durationOf (Duration.Seconds q) = seconds q
-durationOf Duration.NoRate = noRate
+abbrev pub transferOf : Duration → Answer
+transferOf (Duration.Seconds q) = seconds q
+transferOf Duration.NoRate = noRate

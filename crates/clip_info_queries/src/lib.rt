@@ -3,7 +3,7 @@ ghost use mathlib.Core.Path.{_≡_};
 ghost use Rattle.format.specs.Questions.{number, ask, clipByteLen, spnToByte, byteToSpn, transferDurationSecs, IsTransfer};
 ghost use Rattle.queries.specs.Answers.{foundOf};
 ghost use Rattle.queries.specs.Asked.{onlyCounts, onlyScalars};
-ghost use Rattle.clip_info_queries.specs.Durations.{durationOf};
+ghost use Rattle.clip_info_queries.specs.Durations.{transferOf};
 use queries::Found;
 
 // The bytes of a packet.
@@ -45,8 +45,8 @@ pub fn byte_to_spn(packets: u32, byte: u64) -> Found
 
 // The seconds that the clip's bytes take at its rate.
 pub fn transfer_duration_secs(rate: u32, packets: u32) -> Duration
-    ensures { λ r. ⌜ durationOf r ≡ ask transferDurationSecs (onlyScalars (onlyCounts rate packets)) ⌝ }
-    ensures { λ r. ⌜ IsTransfer rate packets (durationOf r) ⌝ }
+    ensures { λ r. ⌜ transferOf r ≡ ask transferDurationSecs (onlyScalars (onlyCounts rate packets)) ⌝ }
+    ensures { λ r. ⌜ IsTransfer rate packets (transferOf r) ⌝ }
 {
     if rate == 0 {
         return Duration::NoRate;

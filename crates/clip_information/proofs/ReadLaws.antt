@@ -19,7 +19,7 @@ use Rattle.clip_sections.specs.Infos.{clipInfoOf}
 use Rattle.nine_tables.specs.Room.{roomOf, roomBehind}
 use Rattle.clip_prepare.specs.Prepare.{neededRows, roomAnswer, answerFor, preparedAnswer, ReadyIs, PreparedIs}
 use Rattle.clip_information.specs.Fill.{SectionsFit, ListFits, MarksThere}
-use Rattle.clip_information.specs.Read.{lengthsOf, nineBy, scalarsBy, answerOf, acceptedOf}
+use Rattle.clip_information.specs.Read.{lengthsOf, nineBy, scalarsBy, readAnswerOf, acceptedOf}
 use Rattle.clip_sections.specs.declared.info.ClipInfo.{ClipInfo}
 use Rattle.nine_tables.specs.declared.Rows.{Rows}
 use Rattle.nine_tables.specs.declared.Room.{Room}
@@ -129,7 +129,7 @@ module _ (f : List ℕ) (tables : Nine (List ℕ)) {rows : Rows} {list : ListDat
   }
 
   -- what the code states is what reading states
-  pub stated : answerOf (acceptedOf f rows has) ≡ accepted (statedOf f)
+  pub stated : readAnswerOf (acceptedOf f rows has) ≡ accepted (statedOf f)
   unfolding statedOf recordOf clipOf
   stated = λ k. accepted (record { scalars = scalarsBy (clipInfoOf f); marks = marksFrom f (marksStart f); rows = nineBy (ready .rows-are k); hasList = ready .has-is k })
 

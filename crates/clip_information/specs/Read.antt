@@ -88,7 +88,7 @@ nineBy r = record {
 }
 
 -- the code's answer as that of the definition
-abbrev pub answerOf : Answer → ReadAnswer
-answerOf (Answer.Refused n) = refused n
-answerOf (Answer.TooShort k n) = tooShort k n
-answerOf (Answer.Accepted info marks rows has) = accepted (record { scalars = scalarsBy info; marks = marks; rows = nineBy rows; hasList = has })
+abbrev pub readAnswerOf : Answer → ReadAnswer
+readAnswerOf (Answer.Refused n) = refused n
+readAnswerOf (Answer.TooShort k n) = tooShort k n
+readAnswerOf (Answer.Accepted info marks rows has) = accepted (record { scalars = scalarsBy info; marks = marks; rows = nineBy rows; hasList = has })

@@ -1,7 +1,7 @@
 // A clip file read into nine lent tables.
 ghost use mathlib.Core.Path.{_≡_};
 ghost use Rattle.format.specs.Refusals.{refusalOf, readAnswer, tablesOf, tableBy};
-ghost use Rattle.clip_information.specs.Read.{answerOf, nineTables, sixLengths, nineLengths, acceptedOf};
+ghost use Rattle.clip_information.specs.Read.{readAnswerOf, nineTables, sixLengths, nineLengths, acceptedOf};
 use crate::fill::fill_list;
 use crate::fill::fill_sections;
 use crate::fill::mark_count;
@@ -94,16 +94,16 @@ pub fn read(
     programs2: &mut [u8],
     streams2: &mut [u8],
 ) -> Answer
-    ensures { λ r. ⌜ answerOf r ≡ readAnswer (now (file .entry)) (nineTables (now (atcs .entry)) (now (stcs .entry)) (now (programs .entry)) (now (streams .entry)) (now (maps .entry)) (now (entries .entry)) (now (extensions .entry)) (now (programs2 .entry)) (now (streams2 .entry))) ⌝ }
-    ensures { λ r. ⌜ now (atcs .exit) ≡ tableBy (answerOf r) (tablesOf (now (file .entry)) .atcs) (now (atcs .entry)) ⌝ }
-    ensures { λ r. ⌜ now (stcs .exit) ≡ tableBy (answerOf r) (tablesOf (now (file .entry)) .stcs) (now (stcs .entry)) ⌝ }
-    ensures { λ r. ⌜ now (programs .exit) ≡ tableBy (answerOf r) (tablesOf (now (file .entry)) .programs) (now (programs .entry)) ⌝ }
-    ensures { λ r. ⌜ now (streams .exit) ≡ tableBy (answerOf r) (tablesOf (now (file .entry)) .streams) (now (streams .entry)) ⌝ }
-    ensures { λ r. ⌜ now (maps .exit) ≡ tableBy (answerOf r) (tablesOf (now (file .entry)) .maps) (now (maps .entry)) ⌝ }
-    ensures { λ r. ⌜ now (entries .exit) ≡ tableBy (answerOf r) (tablesOf (now (file .entry)) .entries) (now (entries .entry)) ⌝ }
-    ensures { λ r. ⌜ now (extensions .exit) ≡ tableBy (answerOf r) (tablesOf (now (file .entry)) .extensions) (now (extensions .entry)) ⌝ }
-    ensures { λ r. ⌜ now (programs2 .exit) ≡ tableBy (answerOf r) (tablesOf (now (file .entry)) .listPrograms) (now (programs2 .entry)) ⌝ }
-    ensures { λ r. ⌜ now (streams2 .exit) ≡ tableBy (answerOf r) (tablesOf (now (file .entry)) .listStreams) (now (streams2 .entry)) ⌝ }
+    ensures { λ r. ⌜ readAnswerOf r ≡ readAnswer (now (file .entry)) (nineTables (now (atcs .entry)) (now (stcs .entry)) (now (programs .entry)) (now (streams .entry)) (now (maps .entry)) (now (entries .entry)) (now (extensions .entry)) (now (programs2 .entry)) (now (streams2 .entry))) ⌝ }
+    ensures { λ r. ⌜ now (atcs .exit) ≡ tableBy (readAnswerOf r) (tablesOf (now (file .entry)) .atcs) (now (atcs .entry)) ⌝ }
+    ensures { λ r. ⌜ now (stcs .exit) ≡ tableBy (readAnswerOf r) (tablesOf (now (file .entry)) .stcs) (now (stcs .entry)) ⌝ }
+    ensures { λ r. ⌜ now (programs .exit) ≡ tableBy (readAnswerOf r) (tablesOf (now (file .entry)) .programs) (now (programs .entry)) ⌝ }
+    ensures { λ r. ⌜ now (streams .exit) ≡ tableBy (readAnswerOf r) (tablesOf (now (file .entry)) .streams) (now (streams .entry)) ⌝ }
+    ensures { λ r. ⌜ now (maps .exit) ≡ tableBy (readAnswerOf r) (tablesOf (now (file .entry)) .maps) (now (maps .entry)) ⌝ }
+    ensures { λ r. ⌜ now (entries .exit) ≡ tableBy (readAnswerOf r) (tablesOf (now (file .entry)) .entries) (now (entries .entry)) ⌝ }
+    ensures { λ r. ⌜ now (extensions .exit) ≡ tableBy (readAnswerOf r) (tablesOf (now (file .entry)) .extensions) (now (extensions .entry)) ⌝ }
+    ensures { λ r. ⌜ now (programs2 .exit) ≡ tableBy (readAnswerOf r) (tablesOf (now (file .entry)) .listPrograms) (now (programs2 .entry)) ⌝ }
+    ensures { λ r. ⌜ now (streams2 .exit) ≡ tableBy (readAnswerOf r) (tablesOf (now (file .entry)) .listStreams) (now (streams2 .entry)) ⌝ }
 {
     let six = six_lengths(atcs, stcs, programs, streams, maps, entries);
     match prepare(file, nine_lengths(six, extensions, programs2, streams2)) {

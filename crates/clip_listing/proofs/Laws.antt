@@ -19,7 +19,7 @@ use Rattle.format.proofs.Good.{Maps}
 use Rattle.format.proofs.Lists.{All, none, all-map, all-append, all-at}
 use Rattle.format.proofs.Read.{good-clip}
 use Rattle.format.proofs.Listing.{accepted-is, maps-back, entries-back, entries-add, maps-room, entries-room, few}
-use Rattle.clip_information.specs.Read.{answerOf}
+use Rattle.clip_information.specs.Read.{readAnswerOf}
 use Rattle.clip_sections.specs.declared.info.ClipInfo.{ClipInfo}
 use Rattle.nine_tables.specs.declared.Rows.{Rows}
 use Rattle.clip_information.specs.declared.read.Answer.{Answer}
@@ -32,7 +32,7 @@ pub text-of : (maps entries : List ℕ) {a b : Answer} → a ≡ b → answerTex
 text-of maps entries e = ap (λ x. answerText x maps entries) (sym e)
 
 -- what an answer states of an accepted file is what reading states of it
-stated : (f : List ℕ) (info : ClipInfo) (marks : ℕ) (rows : Rows) (has : Bool) → answerOf (Answer.Accepted info marks rows has) ≡ readAnswer f listingTables
+stated : (f : List ℕ) (info : ClipInfo) (marks : ℕ) (rows : Rows) (has : Bool) → readAnswerOf (Answer.Accepted info marks rows has) ≡ readAnswer f listingTables
     → (numbersBy info marks rows ≡ numbersOf (recordOf f)) × (rows .maps ≡ length (clipOf f .maps)) × (rows .entries ≡ length (clipOf f .entries))
 unfolding statedOf tablesOf recordOf
 stated f info marks rows has h =
@@ -40,7 +40,7 @@ stated f info marks rows has h =
     (λ i. numbers (e i .scalars .streamType) (e i .scalars .applicationType) (e i .scalars .rate) (e i .scalars .packets) (e i .rows .atcs) (e i .rows .stcs) (e i .rows .programs) (e i .rows .streams) (e i .marks), ap (λ s. s .rows .maps) e, ap (λ s. s .rows .entries) e)
 
 -- its counts have at most 32 bits
-shown : (f : List ℕ) (info : ClipInfo) (marks : ℕ) (rows : Rows) (has : Bool) → answerOf (Answer.Accepted info marks rows has) ≡ readAnswer f listingTables → Shown rows
+shown : (f : List ℕ) (info : ClipInfo) (marks : ℕ) (rows : Rows) (has : Bool) → readAnswerOf (Answer.Accepted info marks rows has) ≡ readAnswer f listingTables → Shown rows
 unfolding statedOf
 shown f info marks rows has h =
     let p = accepted-is f listingTables (sym h) in
@@ -81,13 +81,13 @@ times-back f bytes t = record { narrow = narrow }
 module _ (f : List ℕ) (bytes : IsBytes f) (maps entries : List ℕ) where
   -- the maps and the entries after reading
   abbrev mapsBy : Answer → List ℕ
-  mapsBy a = tableBy (answerOf a) (tablesOf f .maps) maps
+  mapsBy a = tableBy (readAnswerOf a) (tablesOf f .maps) maps
 
   abbrev entriesBy : Answer → List ℕ
-  entriesBy a = tableBy (answerOf a) (tablesOf f .entries) entries
+  entriesBy a = tableBy (readAnswerOf a) (tablesOf f .entries) entries
 
   -- what was answered can be told
-  pub tellable : (a : Answer) (out : List ℕ) → answerOf a ≡ readAnswer f listingTables → listingRoom ≤ length out → Tellable a (mapsBy a) (entriesBy a) out
+  pub tellable : (a : Answer) (out : List ℕ) → readAnswerOf a ≡ readAnswer f listingTables → listingRoom ≤ length out → Tellable a (mapsBy a) (entriesBy a) out
   unfolding tablesOf recordOf
   tellable (Answer.Refused n) out h room = record { room = room; rows = lit≤ tt }
   tellable (Answer.TooShort k n) out h room = record { room = room; rows = lit≤ tt }
@@ -109,7 +109,7 @@ module _ (f : List ℕ) (bytes : IsBytes f) (maps entries : List ℕ) where
       }
 
   -- and its text is that of the answer on the record
-  pub told : (a : Answer) → answerOf a ≡ readAnswer f listingTables
+  pub told : (a : Answer) → readAnswerOf a ≡ readAnswer f listingTables
       → answerText a (mapsBy a) (entriesBy a) ≡ linesBy (readAnswer f listingTables) (recordOf f)
   unfolding tablesOf recordOf
   told (Answer.Refused n) h = ap (λ r. linesBy r (recordOf f)) h

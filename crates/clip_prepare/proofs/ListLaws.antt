@@ -10,8 +10,8 @@ use Rattle.format.specs.Extensions.{listIn}
 use Rattle.extension.specs.Block.{foundIn, listEnd}
 use Rattle.extension.specs.declared.ListData.{ListData}
 use Rattle.section_heads.specs.declared.Section.{Section}
-use Rattle.info_sections.specs.Sections.{measured}
-use Rattle.info_sections.specs.declared.Measured.{Measured}
+use Rattle.info_sections.specs.Sections.{sectionMeasured}
+use Rattle.info_sections.specs.declared.SectionCounts.{SectionCounts}
 use Rattle.info_sections.proofs.Sections.{counts-are, past-end}
 use Rattle.clip_prepare.specs.Lists.{listRowsOf}
 use Rattle.clip_prepare.specs.declared.list.ListRows.{ListRows}
@@ -32,12 +32,12 @@ module _ (f : List ℕ) (list : ListData) where
     part-is = let e : s + n - s ≡ n = omega arith in rw e
 
     -- data that ends within a program is no list
-    pub list-past : measured Section.Programs (take (s + n - s) (drop s f)) 0 ≡ Measured.PastEnd → ListRows.Absent ≡ listRowsOf (foundIn f list)
+    pub list-past : sectionMeasured Section.Programs (take (s + n - s) (drop s f)) 0 ≡ SectionCounts.PastEnd → ListRows.Absent ≡ listRowsOf (foundIn f list)
     unfolding listRowsOf listIn
     list-past h = let p = past-end Section.Programs (take n (drop s f)) 0 (rw part-is at h) in rw (at, p)
 
     -- else its rows are counted
-    pub list-rows : (p t : ℕ) → measured Section.Programs (take (s + n - s) (drop s f)) 0 ≡ Measured.Counts p t → ListRows.Rows p t ≡ listRowsOf (foundIn f list)
+    pub list-rows : (p t : ℕ) → sectionMeasured Section.Programs (take (s + n - s) (drop s f)) 0 ≡ SectionCounts.Counts p t → ListRows.Rows p t ≡ listRowsOf (foundIn f list)
     unfolding listRowsOf listIn
     list-rows p t h =
         let d = take n (drop s f) in

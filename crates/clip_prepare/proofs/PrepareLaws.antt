@@ -14,7 +14,7 @@ use Rattle.format.specs.Reading.{clipOf, recordOf}
 use Rattle.format.specs.Refusals.{refused, tooShort, accepted, refusalOf, tablesOf, statedOf}
 use Rattle.format.proofs.Tests.{ap-pick}
 use Rattle.extension.specs.Block.{foundIn, MeasuredIs}
-use Rattle.extension.specs.declared.Measured.{Measured}
+use Rattle.extension.specs.declared.MeasuredBlock.{MeasuredBlock}
 use Rattle.clip_sections.specs.Clips.{sectionsOf}
 use Rattle.clip_prepare.specs.Lists.{listRowsOf}
 use Rattle.nine_tables.specs.Room.{roomOf}
@@ -67,7 +67,7 @@ list-is-there (found d) = go (listIn (found d))
 -- ---- all nine
 
 -- what the passes over the file answered
-pub record Passed (f : List ℕ) (a s p t m e start : ℕ) (r : Measured) (second : ListRows) (lp ls : ℕ) : Type 0 where
+pub record Passed (f : List ℕ) (a s p t m e start : ℕ) (r : MeasuredBlock) (second : ListRows) (lp ls : ℕ) : Type 0 where
   pub sections : SectionsAre f a s p t m e
   pub start-is : start ≡ extensionsStart f
   pub block : MeasuredIs f (extensionRows f start) (extensionsFrom f start) r
@@ -75,7 +75,7 @@ pub record Passed (f : List ℕ) (a s p t m e start : ℕ) (r : Measured) (secon
   pub lp-is : lp ≡ listPrograms second
   pub ls-is : ls ≡ listStreams second
 
-module _ (f : List ℕ) (bytes : Rows) {a s p t m e start : ℕ} {r : Measured} {second : ListRows} {lp ls : ℕ} (c : Passed f a s p t m e start r second lp ls) where
+module _ (f : List ℕ) (bytes : Rows) {a s p t m e start : ℕ} {r : MeasuredBlock} {second : ListRows} {lp ls : ℕ} (c : Passed f a s p t m e start r second lp ls) where
   -- the rows measured
   abbrev pub measuredRows : Rows
   measuredRows = record {

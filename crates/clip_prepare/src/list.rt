@@ -5,7 +5,7 @@ ghost use lib.ListN.{length};
 ghost use Rattle.extension.specs.Block.{foundIn, listEnd};
 ghost use Rattle.clip_prepare.specs.Lists.{listRowsOf};
 use extension::ListData;
-use info_sections::Measured;
+use info_sections::SectionCounts;
 use section_heads::Section;
 
 // The rows of the list, or that there is none.
@@ -23,7 +23,7 @@ pub(crate) fn measure_list(file: &[u8], list: ListData) -> ListRows
         return ListRows::Absent;
     };
     let end = start + len;
-    let Measured::Counts {
+    let SectionCounts::Counts {
         heads: programs,
         rows: streams,
     } = info_sections::measure(Section::Programs, &file[start..end], 0)

@@ -18,8 +18,8 @@ use Rattle.common.specs.Header.{parsedOf}
 use Rattle.common.specs.declared.header.BdmvHeader.{BdmvHeader}
 use Rattle.common.specs.declared.header.Parsed.{Parsed}
 use Rattle.common.proofs.Laws.{rest}
-use Rattle.cpi.specs.Maps.{measured as cpiMeasured, mapsMeasured}
-use Rattle.cpi.specs.declared.maps.Measured.{Measured as CpiMeasured}
+use Rattle.cpi.specs.Maps.{cpiMeasured, mapsMeasured}
+use Rattle.cpi.specs.declared.maps.CpiCounts.{CpiCounts}
 use Rattle.clip_sections.specs.Clips.{frontOf, sectionsOf}
 use Rattle.clip_sections.specs.declared.sections.Sections.{Sections}
 
@@ -213,32 +213,32 @@ all-counted f front seq prog cpi maps marks {a} {s} {p} {t} {m} {e} ea es ep et 
 
 module _ (f : List ℕ) (c : ℕ) where
   -- a section that is told to pass the end is not in the file
-  pub cpi-past : cpiMeasured f c ≡ CpiMeasured.PastEnd → cpiIn f c ≡ false
+  pub cpi-past : cpiMeasured f c ≡ CpiCounts.PastEnd → cpiIn f c ≡ false
   unfolding cpiMeasured mapsMeasured
   cpi-past h = go (cpiIn f c) (mapsIn f c) h
     where
-      go : (a b : Bool) → pick a (pick b (CpiMeasured.Counts (length (mapsFrom f c)) (length (entriesFrom f c))) CpiMeasured.MapPastEnd) CpiMeasured.PastEnd ≡ CpiMeasured.PastEnd → a ≡ false
+      go : (a b : Bool) → pick a (pick b (CpiCounts.Counts (length (mapsFrom f c)) (length (entriesFrom f c))) CpiCounts.MapPastEnd) CpiCounts.PastEnd ≡ CpiCounts.PastEnd → a ≡ false
       go false b h = refl
       go true true h = let z : _≡_ {A = ℕ} 0 1 = cc in absurd (omega arith)
       go true false h = let z : _≡_ {A = ℕ} 0 1 = cc in absurd (omega arith)
 
   -- where a map is told to pass it, the section is in the file and not every map is
-  pub map-past : cpiMeasured f c ≡ CpiMeasured.MapPastEnd → (cpiIn f c ≡ true) × (mapsIn f c ≡ false)
+  pub map-past : cpiMeasured f c ≡ CpiCounts.MapPastEnd → (cpiIn f c ≡ true) × (mapsIn f c ≡ false)
   unfolding cpiMeasured mapsMeasured
   map-past h = go (cpiIn f c) (mapsIn f c) h
     where
-      go : (a b : Bool) → pick a (pick b (CpiMeasured.Counts (length (mapsFrom f c)) (length (entriesFrom f c))) CpiMeasured.MapPastEnd) CpiMeasured.PastEnd ≡ CpiMeasured.MapPastEnd
+      go : (a b : Bool) → pick a (pick b (CpiCounts.Counts (length (mapsFrom f c)) (length (entriesFrom f c))) CpiCounts.MapPastEnd) CpiCounts.PastEnd ≡ CpiCounts.MapPastEnd
           → (a ≡ true) × (b ≡ false)
       go false b h = let z : _≡_ {A = ℕ} 0 1 = cc in absurd (omega arith)
       go true true h = let z : _≡_ {A = ℕ} 0 1 = cc in absurd (omega arith)
       go true false h = (refl, refl)
 
   -- counts are told of a section that is in the file with its maps, and are those of its rows
-  pub cpi-counts : (m e : ℕ) → cpiMeasured f c ≡ CpiMeasured.Counts m e → (cpiIn f c ≡ true) × (mapsIn f c ≡ true) × (m ≡ length (mapsFrom f c)) × (e ≡ length (entriesFrom f c))
+  pub cpi-counts : (m e : ℕ) → cpiMeasured f c ≡ CpiCounts.Counts m e → (cpiIn f c ≡ true) × (mapsIn f c ≡ true) × (m ≡ length (mapsFrom f c)) × (e ≡ length (entriesFrom f c))
   unfolding cpiMeasured mapsMeasured
   cpi-counts m e h = go (cpiIn f c) (mapsIn f c) h
     where
-      go : (a b : Bool) → pick a (pick b (CpiMeasured.Counts (length (mapsFrom f c)) (length (entriesFrom f c))) CpiMeasured.MapPastEnd) CpiMeasured.PastEnd ≡ CpiMeasured.Counts m e
+      go : (a b : Bool) → pick a (pick b (CpiCounts.Counts (length (mapsFrom f c)) (length (entriesFrom f c))) CpiCounts.MapPastEnd) CpiCounts.PastEnd ≡ CpiCounts.Counts m e
           → (a ≡ true) × (b ≡ true) × (m ≡ length (mapsFrom f c)) × (e ≡ length (entriesFrom f c))
       go false b h = let z : _≡_ {A = ℕ} 0 1 = cc in absurd (omega arith)
       go true true h = (refl, refl, cc, cc)

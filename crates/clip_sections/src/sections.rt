@@ -5,7 +5,7 @@ ghost use Rattle.format.specs.ClipRecord.{marksIn};
 use common::header::BdmvHeader;
 use common::header::Parsed;
 use common::header::Starts;
-use info_sections::Measured;
+use info_sections::SectionCounts;
 use numbers::u32_at;
 use section_heads::Section;
 
@@ -77,14 +77,14 @@ pub fn measure(file: &[u8]) -> Sections
         return Sections::Refused(refusal);
     }
     let starts = Starts::read(file);
-    let Measured::Counts {
+    let SectionCounts::Counts {
         heads: atcs,
         rows: stcs,
     } = info_sections::measure(Section::Sequences, file, starts.sequences)
     else {
         return Sections::Refused(4);
     };
-    let Measured::Counts {
+    let SectionCounts::Counts {
         heads: programs,
         rows: streams,
     } = info_sections::measure(Section::Programs, file, starts.programs)
@@ -92,9 +92,9 @@ pub fn measure(file: &[u8]) -> Sections
         return Sections::Refused(5);
     };
     match cpi::maps::measure(file, starts.cpi) {
-        cpi::maps::Measured::PastEnd => Sections::Refused(6),
-        cpi::maps::Measured::MapPastEnd => Sections::Refused(7),
-        cpi::maps::Measured::Counts { maps, entries } => {
+        cpi::maps::CpiCounts::PastEnd => Sections::Refused(6),
+        cpi::maps::CpiCounts::MapPastEnd => Sections::Refused(7),
+        cpi::maps::CpiCounts::Counts { maps, entries } => {
             if marks_in(file, starts.marks) {
                 Sections::Counts {
                     atcs,

@@ -2,9 +2,8 @@
 ghost use mathlib.Core.Path.{_≡_};
 ghost use Rattle.format.specs.Questions.{answerNumbers};
 ghost use Rattle.format.specs.Refusals.{dataNumbers};
-ghost use Rattle.extension_entry.specs.Part.{tableOf};
+ghost use Rattle.format.specs.Tables.{stated};
 ghost use Rattle.extension_queries.specs.ById.{askEntry};
-ghost use Rattle.queries.specs.Asked.{stated};
 ghost use Rattle.clpi_answers.specs.Numbers.{foundNumbers, partNumbers};
 use clpi_answers::ClpiAnswer;
 use clpi_answers::answer_of;
@@ -21,7 +20,7 @@ pub extern "C" fn clpi_extension_data(
     rows: u32,
     row: u32,
 ) -> ClpiPart
-    ensures { λ r. ⌜ partNumbers r ≡ dataNumbers (now (file .entry)) (tableOf (now (extensions .entry)) rows) row ⌝ }
+    ensures { λ r. ⌜ partNumbers r ≡ dataNumbers (now (file .entry)) (stated (now (extensions .entry)) rows) row ⌝ }
 {
     part_of(data_place(file, extensions, rows, row))
 }

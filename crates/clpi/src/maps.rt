@@ -2,7 +2,8 @@
 ghost use mathlib.Core.Path.{_≡_};
 ghost use Rattle.format.specs.Questions.{answerNumbers, ask, entryPointAtOrBefore, entryPointAfter, indexedSpan90k, primaryVideoEpMap, seekSpn, nextSeekSpn, primarySeekSpn, primaryNextSeekSpn, firstPts, lastPts, epMapByKind, nextVideoEpMap};
 ghost use Rattle.format.specs.ClipRecord.{entryCells};
-ghost use Rattle.queries.specs.Asked.{stated, onlyMaps, mapsAndEntries};
+ghost use Rattle.format.specs.Tables.{stated};
+ghost use Rattle.queries.specs.Asked.{onlyMaps, mapsAndEntries};
 ghost use Rattle.table_rows.specs.OwnRows.{ownedRows, ownedNumbers};
 ghost use Rattle.clpi_answers.specs.Numbers.{foundNumbers, rowsNumbers};
 use clpi_answers::ClpiAnswer;
@@ -185,7 +186,7 @@ pub extern "C" fn clpi_ep_map_by_kind(maps: &[u8], rows: u32, kind: u8) -> ClpiA
     answer_of(ep_map_by_kind(maps, rows, kind))
 }
 
-// The row of the first video map from a row on.
+// The row of the first video map from a row on, by the low four bits of the type.
 #[no_mangle]
 pub extern "C" fn clpi_next_video_ep_map(maps: &[u8], rows: u32, from: u32) -> ClpiAnswer
     ensures { λ r. ⌜ foundNumbers r ≡ answerNumbers (ask (nextVideoEpMap «from») (onlyMaps (stated (now (maps .entry)) rows))) ⌝ }

@@ -1,8 +1,8 @@
 // Questions about the programs and their streams.
 ghost use mathlib.Core.Path.{_≡_};
 ghost use Rattle.format.specs.Questions.{answerNumbers, ask, streamByPid, primaryVideoPid, programByPmtPid, nextVideoStream, nextAudioStream};
-ghost use Rattle.format.specs.Tables.{streamCells};
-ghost use Rattle.queries.specs.Asked.{stated, onlyPrograms, onlyStreams};
+ghost use Rattle.format.specs.Tables.{streamCells, stated};
+ghost use Rattle.queries.specs.Asked.{onlyPrograms, onlyStreams};
 ghost use Rattle.table_rows.specs.OwnRows.{ownedRows, ownedNumbers};
 ghost use Rattle.clpi_answers.specs.Numbers.{foundNumbers, rowsNumbers};
 use clpi_answers::ClpiAnswer;

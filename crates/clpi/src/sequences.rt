@@ -1,8 +1,8 @@
 // Questions about the ATC and STC sequences.
 ghost use mathlib.Core.Path.{_≡_};
 ghost use Rattle.format.specs.Questions.{answerNumbers, ask, minutesRemaining, presentationSpan90k, duration45k, duration90k, stcSequenceById, stcSequenceForSpn, firstStcSequence};
-ghost use Rattle.format.specs.Tables.{stcCells};
-ghost use Rattle.queries.specs.Asked.{stated, onlyStcs, atcsAndStcs};
+ghost use Rattle.format.specs.Tables.{stcCells, stated};
+ghost use Rattle.queries.specs.Asked.{onlyStcs, atcsAndStcs};
 ghost use Rattle.table_rows.specs.OwnRows.{ownedRows, ownedNumbers};
 ghost use Rattle.clpi_answers.specs.Numbers.{foundNumbers, rowsNumbers};
 use atc_queries::stc_sequence_by_id;

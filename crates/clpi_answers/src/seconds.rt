@@ -1,7 +1,7 @@
 // The transfer duration as numbers for C.
 ghost use mathlib.Core.Path.{_≡_};
 ghost use Rattle.format.specs.Questions.{answerNumbers};
-ghost use Rattle.clip_info_queries.specs.Durations.{durationOf};
+ghost use Rattle.clip_info_queries.specs.Durations.{transferOf};
 ghost use Rattle.clpi_answers.specs.Numbers.{secondsNumbers};
 use clip_info_queries::Duration;
 
@@ -15,7 +15,7 @@ pub struct ClpiSeconds {
 
 // The numbers of a duration.
 pub fn seconds_of(duration: Duration) -> ClpiSeconds
-    ensures { λ r. ⌜ secondsNumbers r ≡ answerNumbers (durationOf duration) ⌝ }
+    ensures { λ r. ⌜ secondsNumbers r ≡ answerNumbers (transferOf duration) ⌝ }
 {
     match duration {
         Duration::Seconds(seconds) => ClpiSeconds {

@@ -3,21 +3,20 @@ use Prim.Native.Nat.{ℕ, _≤_}
 use mathlib.Core.Path.{_≡_, refl, sym, ap, _∙_}
 use mathlib.Core.List.{List}
 use mathlib.Core.Bool.{Bool, true, false}
-use native.Mathlib.Omega.{arith}
 use lib.Dec.{lit≤}
 use mir.Val.{boolByte}
 use Rattle.format.specs.Bytes.{IsBytes}
-use Rattle.format.specs.Refusals.{readAnswer, readNumbers, flag, tablesOf, statedOf, tableBy, tablesAfter}
+use Rattle.format.specs.Refusals.{Stated, readAnswer, readNumbers, flag, tablesOf, statedOf, tableBy, tablesAfter}
 use Rattle.format.specs.Tables.{Nine}
 use Rattle.format.proofs.Counts.{tables-few, needed-few}
 use Rattle.format.proofs.Listing.{accepted-is}
-use Rattle.clip_information.specs.Read.{answerOf}
+use Rattle.clip_information.specs.Read.{readAnswerOf}
 use Rattle.clip_information.specs.declared.read.Answer.{Answer}
 use Rattle.clpi_reading.specs.Numbers.{CountsFit}
 
 -- the numbers of an answer are those of the case it is
-pub numbers-of : {a b : Answer} → a ≡ b → readNumbers (answerOf b) ≡ readNumbers (answerOf a)
-numbers-of e = ap (λ x. readNumbers (answerOf x)) (sym e)
+pub numbers-of : {a b : Answer} → a ≡ b → readNumbers (readAnswerOf b) ≡ readNumbers (readAnswerOf a)
+numbers-of e = ap (λ x. readNumbers (readAnswerOf x)) (sym e)
 
 -- a flag's number
 pub flag-is : (b : Bool) → boolByte b ≡ flag b
@@ -25,36 +24,25 @@ flag-is true = refl
 flag-is false = refl
 
 -- no count of an answer is above 66,846,465
-pub counts-fit : (f : List ℕ) → IsBytes f → (t : Nine (List ℕ)) (a : Answer) → answerOf a ≡ readAnswer f t → CountsFit a
+pub counts-fit : (f : List ℕ) → IsBytes f → (t : Nine (List ℕ)) (a : Answer) → readAnswerOf a ≡ readAnswer f t → CountsFit a
 unfolding statedOf
 counts-fit f bytes t (Answer.Refused n) h = lit≤ tt
 counts-fit f bytes t (Answer.TooShort k n) h = needed-few f t (tables-few f bytes) (sym h)
 counts-fit f bytes t (Answer.Accepted info marks rows has) h =
     let e = accepted-is f t (sym h) .1 in
-    let few = tables-few f bytes in
-    record {
-      atcs = omega (arith, ap (λ s. s .rows .atcs) e, few .atcs);
-      stcs = omega (arith, ap (λ s. s .rows .stcs) e, few .stcs);
-      programs = omega (arith, ap (λ s. s .rows .programs) e, few .programs);
-      streams = omega (arith, ap (λ s. s .rows .streams) e, few .streams);
-      maps = omega (arith, ap (λ s. s .rows .maps) e, few .maps);
-      entries = omega (arith, ap (λ s. s .rows .entries) e, few .entries);
-      extensions = omega (arith, ap (λ s. s .rows .extensions) e, few .extensions);
-      listPrograms = omega (arith, ap (λ s. s .rows .listPrograms) e, few .listPrograms);
-      listStreams = omega (arith, ap (λ s. s .rows .listStreams) e, few .listStreams);
-    }
+    rw (ap (λ (s : Stated). s .rows) e) (tables-few f bytes)
 
 -- nine equations for the tables are one
-pub tables-are : (f : List ℕ) (t x : Nine (List ℕ)) (a : Answer) → answerOf a ≡ readAnswer f t
-    → x .atcs ≡ tableBy (answerOf a) (tablesOf f .atcs) (t .atcs)
-    → x .stcs ≡ tableBy (answerOf a) (tablesOf f .stcs) (t .stcs)
-    → x .programs ≡ tableBy (answerOf a) (tablesOf f .programs) (t .programs)
-    → x .streams ≡ tableBy (answerOf a) (tablesOf f .streams) (t .streams)
-    → x .maps ≡ tableBy (answerOf a) (tablesOf f .maps) (t .maps)
-    → x .entries ≡ tableBy (answerOf a) (tablesOf f .entries) (t .entries)
-    → x .extensions ≡ tableBy (answerOf a) (tablesOf f .extensions) (t .extensions)
-    → x .listPrograms ≡ tableBy (answerOf a) (tablesOf f .listPrograms) (t .listPrograms)
-    → x .listStreams ≡ tableBy (answerOf a) (tablesOf f .listStreams) (t .listStreams)
+pub tables-are : (f : List ℕ) (t x : Nine (List ℕ)) (a : Answer) → readAnswerOf a ≡ readAnswer f t
+    → x .atcs ≡ tableBy (readAnswerOf a) (tablesOf f .atcs) (t .atcs)
+    → x .stcs ≡ tableBy (readAnswerOf a) (tablesOf f .stcs) (t .stcs)
+    → x .programs ≡ tableBy (readAnswerOf a) (tablesOf f .programs) (t .programs)
+    → x .streams ≡ tableBy (readAnswerOf a) (tablesOf f .streams) (t .streams)
+    → x .maps ≡ tableBy (readAnswerOf a) (tablesOf f .maps) (t .maps)
+    → x .entries ≡ tableBy (readAnswerOf a) (tablesOf f .entries) (t .entries)
+    → x .extensions ≡ tableBy (readAnswerOf a) (tablesOf f .extensions) (t .extensions)
+    → x .listPrograms ≡ tableBy (readAnswerOf a) (tablesOf f .listPrograms) (t .listPrograms)
+    → x .listStreams ≡ tableBy (readAnswerOf a) (tablesOf f .listStreams) (t .listStreams)
     → x ≡ tablesAfter f t
 unfolding tablesAfter
 tables-are f t x a h e1 e2 e3 e4 e5 e6 e7 e8 e9 =

@@ -2,7 +2,9 @@
 use Prim.Native.Nat.{ℕ, _≤_}
 use mathlib.Core.List.{List, [], _∷_}
 use lib.ListN.{replicate}
+use Rattle.format.specs.Tables.{sameNine, AllNine}
 use Rattle.nine_tables.specs.declared.Rows.{Rows}
+use Rattle.clip_information.specs.Read.{nineBy}
 use Rattle.clip_information.specs.declared.read.Answer.{Answer}
 use Rattle.clpi_reading.specs.declared.ClpiReading.{ClpiReading}
 
@@ -20,16 +22,8 @@ abbrev pub refusedNumbers : ℕ → ℕ → ℕ → List ℕ
 refusedNumbers refusal table rows = refusal ∷ table ∷ rows ∷ replicate 18 0
 
 -- counts of rows that 32 bits can hold: none is above 66,846,465
-pub record RowsFit (rows : Rows) : Type 0 where
-  pub atcs : rows .atcs ≤ 66846465
-  pub stcs : rows .stcs ≤ 66846465
-  pub programs : rows .programs ≤ 66846465
-  pub streams : rows .streams ≤ 66846465
-  pub maps : rows .maps ≤ 66846465
-  pub entries : rows .entries ≤ 66846465
-  pub extensions : rows .extensions ≤ 66846465
-  pub listPrograms : rows .«list_programs» ≤ 66846465
-  pub listStreams : rows .«list_streams» ≤ 66846465
+abbrev pub RowsFit : Rows → Type 0
+RowsFit rows = AllNine _≤_ (nineBy rows) (sameNine 66846465)
 
 -- the counts that an answer tells are so small: the rows needed, or those of all nine tables; a refusal tells none
 abbrev pub CountsFit : Answer → Type 0

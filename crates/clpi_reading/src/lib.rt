@@ -1,7 +1,7 @@
 // The answer of reading as numbers for C.
 ghost use mathlib.Core.Path.{_≡_};
 ghost use Rattle.format.specs.Refusals.{readNumbers};
-ghost use Rattle.clip_information.specs.Read.{answerOf};
+ghost use Rattle.clip_information.specs.Read.{readAnswerOf};
 ghost use Rattle.clpi_reading.specs.Numbers.{readingNumbers, refusedNumbers, CountsFit};
 use clip_information::read::Answer;
 
@@ -63,7 +63,7 @@ fn refused(refusal: u32, table: u32, rows_needed: u32) -> ClpiReading
 // The numbers of an answer.
 pub fn reading_of(answer: Answer) -> ClpiReading
     requires { ⌜ CountsFit answer ⌝ }
-    ensures { λ r. ⌜ readingNumbers r ≡ readNumbers (answerOf answer) ⌝ }
+    ensures { λ r. ⌜ readingNumbers r ≡ readNumbers (readAnswerOf answer) ⌝ }
 {
     match answer {
         Answer::Refused(number) => refused(number, 0, 0),

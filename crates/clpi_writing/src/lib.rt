@@ -2,7 +2,7 @@
 ghost use mathlib.Core.Path.{_≡_};
 ghost use Prim.Native.Nat.{_^_, _<_};
 ghost use Rattle.format.specs.Refusals.{writeNumbers};
-ghost use Rattle.encode.specs.Writing.{answerOf, bytesIn};
+ghost use Rattle.encode.specs.Writing.{writeAnswerOf, bytesIn};
 ghost use Rattle.rewrite.specs.Rewrite.{lengthOf, lengthNumbers, lengthIn};
 ghost use Rattle.clpi_writing.specs.Numbers.{writingNumbers, newLengthNumbers};
 use encode::write::Answer;
@@ -18,8 +18,8 @@ pub struct ClpiWriting {
 
 // The numbers of an answer.
 pub fn writing_of(answer: Answer) -> ClpiWriting
-    requires { ⌜ bytesIn (answerOf answer) < 2 ^ 32 ⌝ }
-    ensures { λ r. ⌜ writingNumbers r ≡ writeNumbers (answerOf answer) ⌝ }
+    requires { ⌜ bytesIn (writeAnswerOf answer) < 2 ^ 32 ⌝ }
+    ensures { λ r. ⌜ writingNumbers r ≡ writeNumbers (writeAnswerOf answer) ⌝ }
 {
     match answer {
         Answer::Written(bytes) => ClpiWriting {

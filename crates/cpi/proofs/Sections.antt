@@ -15,10 +15,10 @@ use Rattle.format.proofs.Cpi.{count-by}
 use Rattle.format.proofs.Read.{own-length}
 use Rattle.format.proofs.Loops.{one-left, none-left}
 use Rattle.ep_rows.proofs.Headers.{counts-small}
-use Rattle.cpi.specs.Maps.{headOf, mapRows, mapsMeasured, measured, HeadersIn}
-use Rattle.cpi.specs.declared.maps.Head.{Head}
+use Rattle.cpi.specs.Maps.{cpiHead, mapRows, mapsMeasured, cpiMeasured, HeadersIn}
+use Rattle.cpi.specs.declared.maps.CpiHead.{CpiHead}
 use Rattle.cpi.specs.declared.maps.MapRows.{MapRows}
-use Rattle.cpi.specs.declared.maps.Measured.{Measured}
+use Rattle.cpi.specs.declared.maps.CpiCounts.{CpiCounts}
 
 -- ---- one map, test by test
 
@@ -117,14 +117,14 @@ module _ (f : List ℕ) (c count : ℕ) (counted : count ≡ mapCount f c) where
         record { few = omega arith; decide = d; still = omega arith }
 
     -- a turn: one map past the end decides for all
-    pub counting-bad : k < count → mapRows f c (c + 8 + 12 * k) ≡ MapRows.PastEnd → Measured.MapPastEnd ≡ mapsMeasured f c
+    pub counting-bad : k < count → mapRows f c (c + 8 + 12 * k) ≡ MapRows.PastEnd → CpiCounts.MapPastEnd ≡ mapsMeasured f c
     unfolding mapsMeasured
     counting-bad h e =
         let d = rw (one-left count k h, map-refused f c (c + 8 + 12 * k) e) at (i .decide) in
         rw (← d)
 
     -- after the last turn every map is in the file and every entry is counted
-    pub counting-done : count ≤ k → Measured.Counts count entries ≡ mapsMeasured f c
+    pub counting-done : count ≤ k → CpiCounts.Counts count entries ≡ mapsMeasured f c
     unfolding mapsMeasured mapsFrom
     counting-done h =
         let d : true ≡ mapsIn f c = rw (none-left count k h) at (i .decide) in
@@ -142,17 +142,17 @@ module _ (f : List ℕ) (c : ℕ) where
   present-of q = both-true q .0
 
   -- without maps both counts are 0
-  no-maps : hasMaps f c ≡ false → Measured.Counts 0 0 ≡ mapsMeasured f c
+  no-maps : hasMaps f c ≡ false → CpiCounts.Counts 0 0 ≡ mapsMeasured f c
   unfolding mapsMeasured mapsIn mapsFrom entriesFrom mapCount
   no-maps h = rw h
 
   -- what the head's answer says
-  pub head-said : (n e : ℕ) → length f ≤ 536870912 → headOf f c ≡ Head.Maps n e → (cpiIn f c ≡ true) × HeadersIn f c n e
-  unfolding headOf cpiIn
+  pub head-said : (n e : ℕ) → length f ≤ 536870912 → cpiHead f c ≡ CpiHead.Maps n e → (cpiIn f c ≡ true) × HeadersIn f c n e
+  unfolding cpiHead cpiIn
   head-said n e small h = go (cpiLengthIn f c) (hasMaps f c) (mapHeadersIn f c) refl refl refl h
     where
       go : (a m b : Bool) → cpiLengthIn f c ≡ a → hasMaps f c ≡ m → mapHeadersIn f c ≡ b
-          → pick (both a b) (pick m (Head.Maps (beAt f (c + 7) 1) (cpiEnd f c)) Head.NoMaps) Head.PastEnd ≡ Head.Maps n e
+          → pick (both a b) (pick m (CpiHead.Maps (beAt f (c + 7) 1) (cpiEnd f c)) CpiHead.NoMaps) CpiHead.PastEnd ≡ CpiHead.Maps n e
           → (both a b ≡ true) × HeadersIn f c n e
       go false m b p q r h = let z : _≡_ {A = ℕ} 0 1 = cc in absurd (omega arith)
       go true m false p q r h = let z : _≡_ {A = ℕ} 0 1 = cc in absurd (omega arith)
@@ -167,28 +167,28 @@ module _ (f : List ℕ) (c : ℕ) where
           (refl, record { small = small; counted = is-n ∙ sym count; end-is = is-e; end-in = omega arith; headers = omega arith })
 
   -- where the head tells of no maps, both counts of the section are 0
-  pub head-none : headOf f c ≡ Head.NoMaps → Measured.Counts 0 0 ≡ measured f c
-  unfolding headOf measured
+  pub head-none : cpiHead f c ≡ CpiHead.NoMaps → CpiCounts.Counts 0 0 ≡ cpiMeasured f c
+  unfolding cpiHead cpiMeasured
   head-none h = go (cpiIn f c) (hasMaps f c) refl h
     where
-      go : (a m : Bool) → hasMaps f c ≡ m → pick a (pick m (Head.Maps (beAt f (c + 7) 1) (cpiEnd f c)) Head.NoMaps) Head.PastEnd ≡ Head.NoMaps
-          → Measured.Counts 0 0 ≡ pick a (mapsMeasured f c) Measured.PastEnd
+      go : (a m : Bool) → hasMaps f c ≡ m → pick a (pick m (CpiHead.Maps (beAt f (c + 7) 1) (cpiEnd f c)) CpiHead.NoMaps) CpiHead.PastEnd ≡ CpiHead.NoMaps
+          → CpiCounts.Counts 0 0 ≡ pick a (mapsMeasured f c) CpiCounts.PastEnd
       go true false q h = no-maps q
       go true true q h = let z : _≡_ {A = ℕ} 0 1 = cc in absurd (omega arith)
       go false m q h = let z : _≡_ {A = ℕ} 0 1 = cc in absurd (omega arith)
 
   -- where the head is past the end, so is the section
-  pub head-refused : headOf f c ≡ Head.PastEnd → Measured.PastEnd ≡ measured f c
-  unfolding headOf measured
+  pub head-refused : cpiHead f c ≡ CpiHead.PastEnd → CpiCounts.PastEnd ≡ cpiMeasured f c
+  unfolding cpiHead cpiMeasured
   head-refused h = go (cpiIn f c) (hasMaps f c) h
     where
-      go : (a m : Bool) → pick a (pick m (Head.Maps (beAt f (c + 7) 1) (cpiEnd f c)) Head.NoMaps) Head.PastEnd ≡ Head.PastEnd
-          → Measured.PastEnd ≡ pick a (mapsMeasured f c) Measured.PastEnd
+      go : (a m : Bool) → pick a (pick m (CpiHead.Maps (beAt f (c + 7) 1) (cpiEnd f c)) CpiHead.NoMaps) CpiHead.PastEnd ≡ CpiHead.PastEnd
+          → CpiCounts.PastEnd ≡ pick a (mapsMeasured f c) CpiCounts.PastEnd
       go true true h = let z : _≡_ {A = ℕ} 0 1 = cc in absurd (omega arith)
       go true false h = let z : _≡_ {A = ℕ} 0 1 = cc in absurd (omega arith)
       go false m h = refl
 
   -- of a section that is in the file the maps decide
-  pub maps-then : {r : Measured} → cpiIn f c ≡ true → r ≡ mapsMeasured f c → r ≡ measured f c
-  unfolding measured
+  pub maps-then : {r : CpiCounts} → cpiIn f c ≡ true → r ≡ mapsMeasured f c → r ≡ cpiMeasured f c
+  unfolding cpiMeasured
   maps-then h e = e ∙ rw h

@@ -2,7 +2,7 @@
 ghost use mathlib.Core.Path.{_≡_};
 ghost use Prim.Native.Nat.{_≤_};
 ghost use lib.ListN.{length};
-ghost use Rattle.cpi.specs.Maps.{headOf, mapRows, mapsMeasured, measured, HeaderIn, HeadersIn};
+ghost use Rattle.cpi.specs.Maps.{cpiHead, mapRows, mapsMeasured, cpiMeasured, HeaderIn, HeadersIn};
 use common::reader::Moved;
 use common::reader::Number;
 use common::reader::Reader;
@@ -13,7 +13,7 @@ use numbers::u32_at;
 use numbers::u48_at;
 
 // What the head of the section says: maps, of which the headers are in the file; none; or a length or headers that pass the end.
-pub enum Head {
+pub enum CpiHead {
     Maps { count: usize, end: usize },
     NoMaps,
     PastEnd,
@@ -26,45 +26,45 @@ pub enum MapRows {
 }
 
 // The rows of both tables; refusal 6; or refusal 7.
-pub enum Measured {
+pub enum CpiCounts {
     Counts { maps: usize, entries: usize },
     PastEnd,
     MapPastEnd,
 }
 
 // Reads the head of the section: its length, its type, its map count.
-fn read_head(file: &[u8], start: usize) -> Head
+fn read_head(file: &[u8], start: usize) -> CpiHead
     requires { ⌜ length (now file) ≤ 536870912 ⌝ }
-    ensures { λ r. ⌜ r ≡ headOf (now (file .entry)) start ⌝ }
+    ensures { λ r. ⌜ r ≡ cpiHead (now (file .entry)) start ⌝ }
 {
     if start == 0 {
-        return Head::NoMaps;
+        return CpiHead::NoMaps;
     }
     if file.len() <= start {
-        return Head::NoMaps;
+        return CpiHead::NoMaps;
     }
     let at = Reader { pos: start };
     let Number::Read(len, body) = at.read_u32(file) else {
-        return Head::PastEnd;
+        return CpiHead::PastEnd;
     };
     let Moved::At(last) = body.skip(file, len as usize) else {
-        return Head::PastEnd;
+        return CpiHead::PastEnd;
     };
     if len < 2 {
-        return Head::NoMaps;
+        return CpiHead::NoMaps;
     }
     if u16_at(file, start + 4) % 16 != 1 {
-        return Head::NoMaps;
+        return CpiHead::NoMaps;
     }
     if len < 4 {
-        return Head::NoMaps;
+        return CpiHead::NoMaps;
     }
     let count = u8_at(file, start + 7) as usize;
     let headers = Reader { pos: start + 8 };
     let Moved::At(_) = headers.skip(file, 12 * count) else {
-        return Head::PastEnd;
+        return CpiHead::PastEnd;
     };
-    Head::Maps {
+    CpiHead::Maps {
         count,
         end: last.pos,
     }
@@ -94,7 +94,7 @@ fn map_rows(file: &[u8], start: usize, end: usize, q: usize) -> MapRows
 }
 
 // All maps, and all their entries.
-fn measure_maps(file: &[u8], start: usize, count: usize, end: usize) -> Measured
+fn measure_maps(file: &[u8], start: usize, count: usize, end: usize) -> CpiCounts
     requires { ⌜ HeadersIn (now file) start count end ⌝ }
     ensures { λ r. ⌜ r ≡ mapsMeasured (now (file .entry)) start ⌝ }
 {
@@ -102,28 +102,28 @@ fn measure_maps(file: &[u8], start: usize, count: usize, end: usize) -> Measured
     let mut k: usize = 0;
     while k < count {
         let MapRows::Entries(n) = map_rows(file, start, end, start + 8 + 12 * k) else {
-            return Measured::MapPastEnd;
+            return CpiCounts::MapPastEnd;
         };
         entries += n;
         k += 1;
     }
-    Measured::Counts {
+    CpiCounts::Counts {
         maps: count,
         entries,
     }
 }
 
 // The rows that the section needs of both tables, or its refusal.
-pub fn measure(file: &[u8], start: usize) -> Measured
+pub fn measure(file: &[u8], start: usize) -> CpiCounts
     requires { ⌜ length (now file) ≤ 536870912 ⌝ }
-    ensures { λ r. ⌜ r ≡ measured (now (file .entry)) start ⌝ }
+    ensures { λ r. ⌜ r ≡ cpiMeasured (now (file .entry)) start ⌝ }
 {
     match read_head(file, start) {
-        Head::NoMaps => Measured::Counts {
+        CpiHead::NoMaps => CpiCounts::Counts {
             maps: 0,
             entries: 0,
         },
-        Head::PastEnd => Measured::PastEnd,
-        Head::Maps { count, end } => measure_maps(file, start, count, end),
+        CpiHead::PastEnd => CpiCounts::PastEnd,
+        CpiHead::Maps { count, end } => measure_maps(file, start, count, end),
     }
 }

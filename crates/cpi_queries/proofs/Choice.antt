@@ -5,10 +5,10 @@ use mathlib.Core.List.{List, [], map}
 use mathlib.Core.Bool.{Bool, true, false}
 use native.Mathlib.Numerals.{add-one}
 use native.Mathlib.Omega.{arith}
-use lib.Dec.{eqb, ltb, lit<}
+use lib.Dec.{eqb, lit<}
 use lib.ListN.{length}
-use borrow.Author.Tests.{ne-eqb, lt-ltb, le-ltb, ltb-true, ltb-false, leb-true, le-leb}
-use Rattle.format.specs.Bytes.{both, pick}
+use borrow.Author.Tests.{ne-eqb, lt-ltb, leb-true, le-leb}
+use Rattle.format.specs.Bytes.{both}
 use Rattle.format.specs.ClipRecord.{Row, mapPid, mapType, entryCount, entryCells}
 use Rattle.format.specs.Questions.{epMapByKind, nextVideoEpMap, primaryVideoEpMap, Answer, refused, none, number, Best, nothing, best, better, bestOf, firstWhere, rowOr, orElse, isVideoMap, kinds, primaryMap, ofMap, ofPrimaryMap, unless22, answer, ask}
 use Rattle.format.specs.Questions as of
@@ -25,18 +25,17 @@ use Rattle.table_rows.proofs.Scans.{rowsLeft, left-all, left-turn, left-done}
 use Rattle.row_search.proofs.FirstRow.{row-answers, through, next-through}
 use Rattle.queries.proofs.Asking.{through-test}
 use Rattle.ep_map_queries.specs.InMap.{seekIn, seekQuestion, primarySeekQuestion}
-use Rattle.nearest.specs.Nearest.{far, noneYet}
-use Rattle.cpi_queries.specs.PrimaryMap.{leastPid, videoOrLeast}
-use Rattle.nearest.specs.declared.Nearest.{Nearest}
+use Rattle.cpi_queries.specs.PrimaryMap.{lessPid, asBest, leastPid, videoOrLeast}
+use Rattle.cpi_queries.specs.declared.PidRow.{PidRow}
 use Rattle.ep_map_queries.proofs.Answers.{seek-asks}
 
 -- ---- by type
 
 -- the searches of the type's low four bits
-pub kind-asked : (t : Table) (kind : ℕ) → askRow mapCells 1 0 (Test.Kind (kind % 16)) t ≡ ask (epMapByKind kind) (onlyMaps t)
+pub kind-asked : (t : Table) (kind : ℕ) → askRow mapCells 1 0 (Test.MapKind (kind % 16)) t ≡ ask (epMapByKind kind) (onlyMaps t)
 unfolding answer clipIn
 kind-asked t kind =
-    row-answers (epMapByKind kind) (onlyMaps t) of.maps mapCells 1 0 (Test.Kind (kind % 16)) t refl refl
+    row-answers (epMapByKind kind) (onlyMaps t) of.maps mapCells 1 0 (Test.MapKind (kind % 16)) t refl refl
     (through (λ y. y % 16) (λ y. eqb y (kind % 16)) mapType 0 (rowsOf mapCells t))
 
 -- the search of a video type from a row on is the question for the next video map
@@ -48,78 +47,37 @@ video-asked t from =
 
 -- ---- the least PID
 
--- a row and a number that say which is least: row 0 and far where nothing is
-pub data Least : Best → ℕ → ℕ → Type 0 where
-  no-row : Least nothing 0 far
-  a-row : (k x : ℕ) → x < far → Least (best k x) k x
-
--- of two PIDs the lesser one is better
-abbrev less : ℕ → ℕ → Bool
-less y z = ltb y z
-
-module _ (k x : ℕ) (below : x < far) where
-  -- row k is less
-  less-row : {b : Best} {row d : ℕ} → Least b row d → x < d → Least (better less k x b) k x
-  less-row Least.no-row h = Least.a-row k x below
-  less-row (Least.a-row j y yb) h = rw (lt-ltb x y h) (Least.a-row k x below)
-
-  -- it is not
-  other-row : {b : Best} {row d : ℕ} → Least b row d → d ≤ x → Least (better less k x b) row d
-  other-row Least.no-row h = absurd (omega arith)
-  other-row (Least.a-row j y yb) h = rw (le-ltb x y h) (Least.a-row j y yb)
-
-  -- the code's choice
-  least-chosen : {b : Best} {n r : Nearest} → Least b (n .row) (n .distance) → r ≡ pick (ltb x (n .distance)) (record { row = k; distance = x }) n
-      → Least (better less k x b) (r .row) (r .distance)
-  least-chosen {b} {n} {r} s c = go (ltb x (n .distance)) refl
-    where
-      go : (o : Bool) → ltb x (n .distance) ≡ o → Least (better less k x b) (r .row) (r .distance)
-      go true l = rw (c, l) (less-row s (ltb-true x (n .distance) l))
-      go false l = rw (c, l) (other-row s (ltb-false x (n .distance) l))
-
 module _ (t : List ℕ) (n : ℕ) where
-  -- what is least of the rows seen and of those left is least of all
-  pub record Pids (k : ℕ) (s : Nearest) : Type 0 where
-    pub so-far : Best
-    pub says : Least so-far (s .row) (s .distance)
-    pub rest : bestOf (λ y. true) less k (map mapPid (rowsLeft mapCells t n k)) so-far ≡ bestOf (λ y. true) less 0 (map mapPid (tableRows mapCells t n)) nothing
+  -- the best of all PIDs, and that of a best so far and of the PIDs left from row k on
+  abbrev all : Best
+  all = bestOf (λ y. true) lessPid 0 (map mapPid (tableRows mapCells t n)) nothing
 
-  -- before the first turn nothing is least and all rows are left
-  pub pids-first : {s : Nearest} → s ≡ noneYet → Pids 0 s
-  pids-first e = rw e (record { so-far = nothing; says = Least.no-row; rest = rw (left-all mapCells t n) })
+  abbrev pub Pids : ℕ → PidRow → Type 0
+  Pids k s = bestOf (λ y. true) lessPid k (map mapPid (rowsLeft mapCells t n k)) (asBest s) ≡ all
+
+  -- the PID of row k stands in its first cell
+  pid-at : (k : ℕ) {at x : ℕ} → at ≡ 12 * k → CellIs t at x → x ≡ mapPid (cellsAt t mapCells (4 * mapCells * k))
+  pid-at k e c = row-cell t mapCells (4 * mapCells * k) 0 (lit< tt) (omega (arith, e)) (c .same)
+
+  -- without rows there is none
+  pub no-pid : n ≡ 0 → none ≡ leastPid (map mapPid (tableRows mapCells t n))
+  unfolding tableRows
+  no-pid e = rw e
+
+  -- the first row is the least so far
+  pub pids-first : (n ≡ 0 → ⊥) → {x : ℕ} → CellIs t 0 x → Pids 1 (record { row = 0; pid = x })
+  pids-first some {x} c =
+      let rows = sym (left-all mapCells t n) ∙ left-turn mapCells t n 0 (omega (arith, some)) in
+      rw (pid-at 0 refl c, rows)
 
   -- a row with a lesser PID takes over, so among equals the earliest stays
-  pub pids-turn : (k : ℕ) (s : Nearest) {x : ℕ} {r : Nearest} → k < n → CellIs t (12 * k) x → r ≡ pick (ltb x (s .distance)) (record { row = k; distance = x }) s → Pids k s → Pids (k + 1) r
-  pids-turn k s {x} h c chose i =
-      let is : x ≡ mapPid (cellsAt t mapCells (4 * mapCells * k)) = row-cell t mapCells (4 * mapCells * k) 0 (lit< tt) (omega arith) (c .same) in
-      record {
-        so-far = better less k x (i .so-far);
-        says = least-chosen k x (omega (arith, c .below)) (i .says) chose;
-        rest = rw add-one (rw (left-turn mapCells t n k h, ← is, add-one) at (i .rest));
-      }
+  pub pids-turn : (k : ℕ) (s : PidRow) {x : ℕ} {r : PidRow} → k < n → CellIs t (12 * k) x → asBest r ≡ better lessPid k x (asBest s) → Pids k s → Pids (k + 1) r
+  pids-turn k s h c chose i =
+      rw (chose, pid-at k refl c, add-one) (rw (left-turn mapCells t n k h, add-one) at i)
 
-  -- none, or the row that is least
-  least-or : {b : Best} {row d : ℕ} → Least b row d → d ≡ far → none ≡ rowOr none b
-  least-or Least.no-row h = refl
-  least-or (Least.a-row k x xb) h = absurd (omega arith)
-
-  -- a number that is not far is that of a row
-  least-row : {b : Best} {row d : ℕ} → Least b row d → (d ≡ far → ⊥) → number row ≡ rowOr none b
-  least-row Least.no-row h = absurd (h refl)
-  least-row (Least.a-row k x xb) h = refl
-
-  module _ (k : ℕ) (s : Nearest) (h : n ≤ k) (i : Pids k s) where
-    -- what is best of all
-    done : i .so-far ≡ bestOf (λ y. true) less 0 (map mapPid (tableRows mapCells t n)) nothing
-    done = rw (left-done mapCells t n k h) at (i .rest)
-
-    -- where nothing was found, there is none
-    pub no-pid : s .distance ≡ far → none ≡ leastPid (map mapPid (tableRows mapCells t n))
-    no-pid e = least-or (i .says) e ∙ ap (rowOr none) done
-
-    -- else the row that was found has the least PID
-    pub pid-is : (s .distance ≡ far → ⊥) → number (s .row) ≡ leastPid (map mapPid (tableRows mapCells t n))
-    pid-is e = least-row (i .says) e ∙ ap (rowOr none) done
+  -- behind the last row the least so far is that of all
+  pub pid-is : (k : ℕ) (s : PidRow) → n ≤ k → Pids k s → number (s .row) ≡ leastPid (map mapPid (tableRows mapCells t n))
+  pid-is k s h i = let done = rw (left-done mapCells t n k h) at i in ap (rowOr none) done
 
 -- ---- the choice
 

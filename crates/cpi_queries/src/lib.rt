@@ -3,18 +3,15 @@ ghost use mathlib.Core.Path.{_≡_};
 ghost use Prim.Native.Nat.{_≤_};
 ghost use mathlib.Core.List.{map};
 ghost use Rattle.format.specs.ClipRecord.{mapPid};
-ghost use Rattle.format.specs.Questions.{ask, primaryVideoEpMap, epMapByKind, nextVideoEpMap, primarySeekSpn, primaryNextSeekSpn};
-ghost use Rattle.format.specs.Tables.{tableRows, rowRoom, mapCells};
+ghost use Rattle.format.specs.Questions.{ask, better, primaryVideoEpMap, epMapByKind, nextVideoEpMap, primarySeekSpn, primaryNextSeekSpn};
+ghost use Rattle.format.specs.Tables.{tableRows, rowRoom, mapCells, stated};
 ghost use Rattle.queries.specs.Answers.{foundOf};
-ghost use Rattle.queries.specs.Asked.{stated, onlyMaps, mapsAndEntries};
+ghost use Rattle.queries.specs.Asked.{onlyMaps, mapsAndEntries};
 ghost use Rattle.ticks.specs.Times.{asPts};
 ghost use Rattle.ep_map_queries.specs.InMap.{primarySeekQuestion};
-ghost use Rattle.cpi_queries.specs.PrimaryMap.{leastPid, videoOrLeast};
+ghost use Rattle.cpi_queries.specs.PrimaryMap.{lessPid, asBest, leastPid, videoOrLeast};
 use cells::cell_at;
 use ep_map_queries::entries::seek;
-use nearest::FAR;
-use nearest::closer;
-use nearest::none_yet;
 use queries::Found;
 use row_search::Test;
 use row_search::first_row;
@@ -27,14 +24,30 @@ const MAP: usize = 3;
 pub fn ep_map_by_kind(maps: &[u8], rows: u32, kind: u8) -> Found
     ensures { λ r. ⌜ foundOf r ≡ ask (epMapByKind kind) (onlyMaps (stated (now (maps .entry)) rows)) ⌝ }
 {
-    first_row(maps, rows, MAP, 1, 0, Test::Kind((kind % 16) as u32))
+    first_row(maps, rows, MAP, 1, 0, Test::MapKind((kind % 16) as u32))
 }
 
-// The first video map from a row on.
+// The first video map from a row on, by the low four bits of the type.
 pub fn next_video_ep_map(maps: &[u8], rows: u32, from: u32) -> Found
     ensures { λ r. ⌜ foundOf r ≡ ask (nextVideoEpMap «from») (onlyMaps (stated (now (maps .entry)) rows)) ⌝ }
 {
     first_row(maps, rows, MAP, 1, from, Test::VideoMap)
+}
+
+// The row of a map, and its PID.
+struct PidRow {
+    row: u32,
+    pid: u32,
+}
+
+// The row with the least PID so far, or row k where its PID is less; the earlier among equals.
+fn lesser(so_far: PidRow, k: u32, pid: u32) -> PidRow
+    ensures { λ r. ⌜ asBest r ≡ better lessPid k pid (asBest «so_far») ⌝ }
+{
+    if pid < so_far.pid {
+        return PidRow { row: k, pid };
+    }
+    so_far
 }
 
 // The map with the least PID, the earliest among equals.
@@ -42,17 +55,20 @@ fn least_pid(maps: &[u8], rows: u32) -> Found
     requires { ⌜ rows ≤ rowRoom mapCells (now maps) ⌝ }
     ensures { λ r. ⌜ foundOf r ≡ leastPid (map mapPid (tableRows mapCells (now (maps .entry)) rows)) ⌝ }
 {
-    let mut best = none_yet();
-    let mut k: u32 = 0;
-    while k < rows {
-        let pid = cell_at(maps, 4 * MAP * (k as usize));
-        best = closer(best, k as usize, pid as u64);
-        k += 1;
-    }
-    if best.distance == FAR {
+    if rows == 0 {
         return Found::Nothing;
     }
-    Found::Number(best.row as u64)
+    let mut least = PidRow {
+        row: 0,
+        pid: cell_at(maps, 0),
+    };
+    let mut k: u32 = 1;
+    while k < rows {
+        let pid = cell_at(maps, 4 * MAP * (k as usize));
+        least = lesser(least, k, pid);
+        k += 1;
+    }
+    Found::Number(least.row as u64)
 }
 
 // The first video map, else the one with the least PID.

@@ -4,10 +4,10 @@ use Rattle.format.specs.Refusals.{WriteAnswer, refused, tooShort, written}
 use Rattle.encode.specs.declared.write.Answer.{Answer}
 
 -- the code's answer as that of the definition
-abbrev pub answerOf : Answer → WriteAnswer
-answerOf (Answer.Written n) = written n
-answerOf (Answer.Refused n) = refused n
-answerOf (Answer.TooShort n) = tooShort n
+abbrev pub writeAnswerOf : Answer → WriteAnswer
+writeAnswerOf (Answer.Written n) = written n
+writeAnswerOf (Answer.Refused n) = refused n
+writeAnswerOf (Answer.TooShort n) = tooShort n
 
 -- the length that an answer tells, written or needed; none beside a refusal
 abbrev pub bytesIn : WriteAnswer → ℕ

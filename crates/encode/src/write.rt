@@ -10,7 +10,7 @@ ghost use Rattle.limits.specs.Stated.{statedTables};
 ghost use Rattle.encode_sections.specs.Sections.{sectionIn, Storable};
 ghost use Rattle.section_heads.specs.declared.Section.{Section};
 ghost use Rattle.encode_measure.specs.Places.{Ready};
-ghost use Rattle.encode.specs.Writing.{answerOf};
+ghost use Rattle.encode.specs.Writing.{writeAnswerOf};
 use clip_sections::info::ClipInfo;
 use encode_cpi::put_cpi;
 use encode_head::put_head;
@@ -113,8 +113,8 @@ pub fn write(
     entries: &[u8],
     out: &mut [u8],
 ) -> Answer
-    ensures { λ r. ⌜ answerOf r ≡ writeAnswer (statedTables (scalarsBy info) rows (now (atcs .entry)) (now (stcs .entry)) (now (programs .entry)) (now (streams .entry)) (now (maps .entry)) (now (entries .entry))) (now (out .entry)) ⌝ }
-    ensures { λ r. ⌜ now (out .exit) ≡ outputBy (answerOf r) (encode (clipIn (statedTables (scalarsBy info) rows (now (atcs .entry)) (now (stcs .entry)) (now (programs .entry)) (now (streams .entry)) (now (maps .entry)) (now (entries .entry))))) (now (out .entry)) ⌝ }
+    ensures { λ r. ⌜ writeAnswerOf r ≡ writeAnswer (statedTables (scalarsBy info) rows (now (atcs .entry)) (now (stcs .entry)) (now (programs .entry)) (now (streams .entry)) (now (maps .entry)) (now (entries .entry))) (now (out .entry)) ⌝ }
+    ensures { λ r. ⌜ now (out .exit) ≡ outputBy (writeAnswerOf r) (encode (clipIn (statedTables (scalarsBy info) rows (now (atcs .entry)) (now (stcs .entry)) (now (programs .entry)) (now (streams .entry)) (now (maps .entry)) (now (entries .entry))))) (now (out .entry)) ⌝ }
 {
     match measure(info, rows, atcs, stcs, programs, streams, maps, entries) {
         Measured::Refused(n) => Answer::Refused(n),

@@ -19,7 +19,7 @@ use Rattle.cells.specs.Reads.{CellIs}
 use Rattle.table_rows.proofs.Scans.{left-all, left-done}
 use Rattle.format.proofs.Cell.{row-cell}
 use Rattle.runs.specs.Runs.{entriesAt}
-use Rattle.entry_runs.specs.Fitting.{runsFit}
+use Rattle.entry_runs.specs.Fitting.{countFit}
 use Rattle.entry_runs.specs.declared.RunCount.{RunCount}
 use Rattle.entry_runs.proofs.Choices.{runs-told, unfit-told}
 use Rattle.encode_map.proofs.Bodies.{body-size, runs-within}
@@ -62,7 +62,7 @@ before-true false = refl
 
 module _ (maps : List ℕ) (n : ℕ) (entries : List ℕ) (m : ℕ) where
   -- the entries of the first k maps fit, whether one of these has too many runs is told, and they are measured
-  pub record Measured (len : ℕ) (few : Bool) (j k : ℕ) : Type 0 where
+  pub record MeasuredTo (len : ℕ) (few : Bool) (j k : ℕ) : Type 0 where
     pub walk : Walk maps n entries m j k
     pub small : len ≤ 8 + 12 * n + 3145720 * k
     pub fit : everyMap entriesFit (mapsLeft maps n entries m k) (entriesLeft maps n entries m j) ≡ everyMap entriesFit (mapRows maps n) (entryRows entries m)
@@ -70,7 +70,7 @@ module _ (maps : List ℕ) (n : ℕ) (entries : List ℕ) (m : ℕ) where
     pub rest : len + length (bodies (mapsLeft maps n entries m k) (entriesLeft maps n entries m j)) ≡ 8 + 12 * n + length (bodies (mapRows maps n) (entryRows entries m))
 
   -- before the first map the top and the headers are
-  pub measured-first : Counted (mapRows maps n) (entryRows entries m) → Measured (8 + 12 * n) true 0 0
+  pub measured-first : Counted (mapRows maps n) (entryRows entries m) → MeasuredTo (8 + 12 * n) true 0 0
   measured-first c = record {
     walk = walk-first maps n entries m c;
     small = omega arith;
@@ -79,8 +79,8 @@ module _ (maps : List ℕ) (n : ℕ) (entries : List ℕ) (m : ℕ) where
     rest = rw (left-all mapCells maps n, left-all entryCells entries m);
   }
 
-  module _ (len : ℕ) (few : Bool) (j k : ℕ) (i : Measured len few j k) (h : k < n) {type c : ℕ} (kind : CellIs maps (12 * k + 4) type) (cell : CellIs maps (12 * k + 8) c)
-      {told : RunCount} (is : told ≡ runsFit type (entriesAt entries (entrySize * j) c)) where
+  module _ (len : ℕ) (few : Bool) (j k : ℕ) (i : MeasuredTo len few j k) (h : k < n) {type c : ℕ} (kind : CellIs maps (12 * k + 4) type) (cell : CellIs maps (12 * k + 8) c)
+      {told : RunCount} (is : told ≡ countFit type (entriesAt entries (entrySize * j) c)) where
     -- the map's own entries
     abbrev own : List Row
     own = entriesAt entries (entrySize * j) c
@@ -107,7 +107,7 @@ module _ (maps : List ℕ) (n : ℕ) (entries : List ℕ) (m : ℕ) where
       runs-within-count = omega (arith, runs-told type own is counted .1, runs-within entries (entrySize * j) c)
 
       -- they fit
-      pub measured-turn : {few′ : Bool} → few′ ≡ both few (leb r 65535) → Measured (len + (4 + 8 * r + 4 * c)) few′ (j + c) (k + 1)
+      pub measured-turn : {few′ : Bool} → few′ ≡ both few (leb r 65535) → MeasuredTo (len + (4 + 8 * r + 4 * c)) few′ (j + c) (k + 1)
       measured-turn still =
           let all = runs-told type own is counted in
           let later = bodies (mapsLeft maps n entries m (k + 1)) (entriesLeft maps n entries m (j + c)) in
@@ -123,7 +123,7 @@ module _ (maps : List ℕ) (n : ℕ) (entries : List ℕ) (m : ℕ) where
           }
 
   -- all are measured
-  module _ (len : ℕ) (few : Bool) (j k : ℕ) (i : Measured len few j k) (h : n ≤ k) where
+  module _ (len : ℕ) (few : Bool) (j k : ℕ) (i : MeasuredTo len few j k) (h : n ≤ k) where
     -- every entry fits
     all-fit : everyMap entriesFit (mapRows maps n) (entryRows entries m) ≡ true
     all-fit = sym (i .fit) ∙ rw (left-done mapCells maps n k h)

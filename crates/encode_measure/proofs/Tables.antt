@@ -94,13 +94,13 @@ module _ (l : ClipTables) where
   fieldsOf = both (scalarsFit (l .scalars)) (tablesFit (l .atcs) (l .stcs) (l .programs) (l .streams) (l .maps))
 
   -- those of the entries do
-  abbrev entriesOf : Bool
-  entriesOf = entriesFit (rowsOf mapCells (l .maps)) (rowsOf entryCells (l .entries))
+  abbrev allEntriesFit : Bool
+  allEntriesFit = entriesFit (rowsOf mapCells (l .maps)) (rowsOf entryCells (l .entries))
 
   -- cells before the entries that do not fit
   pub fields-refused : {r : Bool} → pairsCounted l ≡ true → r ≡ fieldsOf → not r ≡ true → refusalIn l ≡ 30
   fields-refused {r} p is h =
-      let fails : cellsFit (clipIn l) ≡ false = fields-and-entries l ∙ left-fails entriesOf (sym is ∙ not-true r h) in
+      let fails : cellsFit (clipIn l) ≡ false = fields-and-entries l ∙ left-fails allEntriesFit (sym is ∙ not-true r h) in
       refusal-is l ∙ rw (p, fails)
 
   -- cells that do
@@ -115,7 +115,7 @@ module _ (l : ClipTables) where
   pub entries-refused : pairsCounted l ≡ true → testedIn ≡ Tested.Unfit → refusalIn l ≡ 30
   unfolding cpi.testedOf
   entries-refused p is =
-      let unfit : entriesOf ≡ false = not-picked entriesOf (λ e. let z : _≡_ {A = ℕ} 0 1 = cc in omega arith) is .0 in
+      let unfit : allEntriesFit ≡ false = not-picked allEntriesFit (λ e. let z : _≡_ {A = ℕ} 0 1 = cc in omega arith) is .0 in
       let fails : cellsFit (clipIn l) ≡ false = fields-and-entries l ∙ right-fails fieldsOf unfit in
       refusal-is l ∙ rw (p, fails)
 
@@ -127,7 +127,7 @@ module _ (l : ClipTables) where
   pub entries-fit : {length : Length} → fieldsOf ≡ true → testedIn ≡ Tested.Fit length → (cellsFit (clipIn l) ≡ true) × (length ≡ lengthIn)
   unfolding cpi.testedOf
   entries-fit fields is =
-      let p = picked entriesOf (λ e. let z : _≡_ {A = ℕ} 0 1 = cc in omega arith) is in
+      let p = picked allEntriesFit (λ e. let z : _≡_ {A = ℕ} 0 1 = cc in omega arith) is in
       (fields-and-entries l ∙ true-both fields (p .0), cc (p .1))
 
   -- a map has too many runs

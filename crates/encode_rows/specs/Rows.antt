@@ -4,17 +4,17 @@ use mathlib.Core.List.{List}
 use Rattle.format.specs.Bytes.{rowsAt, flat}
 use Rattle.format.specs.ClipRecord.{Row}
 use Rattle.format.specs.Tables.{cellsAt}
-use Rattle.row_values.specs.declared.Kind.{Kind}
+use Rattle.row_values.specs.declared.RowKind.{RowKind}
 use Rattle.row_values.specs.Kinds.{cellsOf, bytesBy}
 
 -- where the row behind the one at byte p stands
-abbrev pub stepOf : Kind → ℕ → ℕ
+abbrev pub stepOf : RowKind → ℕ → ℕ
 stepOf kind p = p + 4 * cellsOf kind
 
 -- n rows from byte p on
-abbrev pub rowsIn : Kind → List ℕ → ℕ → ℕ → List Row
+abbrev pub rowsIn : RowKind → List ℕ → ℕ → ℕ → List Row
 rowsIn kind t p n = rowsAt (cellsAt t (cellsOf kind)) (stepOf kind) p n
 
 -- their bytes in a file
-abbrev pub rowsBytes : Kind → List ℕ → ℕ → ℕ → List ℕ
+abbrev pub rowsBytes : RowKind → List ℕ → ℕ → ℕ → List ℕ
 rowsBytes kind t p n = flat (bytesBy kind) (rowsIn kind t p n)

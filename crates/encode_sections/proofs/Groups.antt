@@ -12,14 +12,14 @@ use Rattle.format.specs.Tables.{cellsAt, tableRows}
 use Rattle.format.proofs.Loops.{one-left, none-left, flat-append, total-turn}
 use Rattle.format.proofs.Rows.{take-rows, drop-rows}
 use Rattle.format.proofs.Sweep.{end-steps}
-use Rattle.row_values.specs.declared.Kind.{Kind}
+use Rattle.row_values.specs.declared.RowKind.{RowKind}
 use Rattle.row_values.specs.Kinds.{cellsOf}
 use Rattle.encode_rows.specs.Rows.{stepOf, rowsIn}
 use Rattle.encode_sections.specs.Sections.{headKind, rowKind, countOf, itemsOf, groupBytes, countIn, itemsIn}
 use Rattle.section_heads.specs.declared.Section.{Section}
 
 -- where rows of a kind end: the first of them, and those behind these
-rows-end : (kind : Kind) (q c m : ℕ) → endOf (stepOf kind) q (c + m) ≡ q + 4 * cellsOf kind * c + 4 * cellsOf kind * m
+rows-end : (kind : RowKind) (q c m : ℕ) → endOf (stepOf kind) q (c + m) ≡ q + 4 * cellsOf kind * c + 4 * cellsOf kind * m
 rows-end kind q c m = end-steps (4 * cellsOf kind) q (c + m) ∙ rw (mul-add (4 * cellsOf kind) c m) (omega arith)
 
 -- ---- what is left after k of n header rows, from byte p of their table and byte q of the other on

@@ -7,7 +7,7 @@ use Rattle.format.specs.Bytes.{endOf, total}
 use Rattle.format.specs.ClipRecord.{Row, atcStcCount, streamCount}
 use Rattle.format.specs.Rewriting.{groups, sectionBytes}
 use Rattle.format.specs.Tables.{tableRows, rowRoom}
-use Rattle.row_values.specs.declared.Kind.{Kind}
+use Rattle.row_values.specs.declared.RowKind.{RowKind}
 use Rattle.row_values.specs.Kinds.{cellsOf, bytesBy}
 use Rattle.encode_rows.specs.Rows.{stepOf, rowsBytes}
 use Rattle.section_heads.specs.declared.Section.{Section}
@@ -15,14 +15,14 @@ use Rattle.section_heads.specs.declared.Section.{Section}
 -- ---- a section's kinds of rows
 
 -- its header rows
-abbrev pub headKind : Section → Kind
-headKind Section.Sequences = Kind.Atc
-headKind Section.Programs = Kind.Program
+abbrev pub headKind : Section → RowKind
+headKind Section.Sequences = RowKind.Atc
+headKind Section.Programs = RowKind.Program
 
 -- the rows behind each of them
-abbrev pub rowKind : Section → Kind
-rowKind Section.Sequences = Kind.Stc
-rowKind Section.Programs = Kind.Stream
+abbrev pub rowKind : Section → RowKind
+rowKind Section.Sequences = RowKind.Stc
+rowKind Section.Programs = RowKind.Stream
 
 -- how many these are
 abbrev pub countOf : Section → Row → ℕ

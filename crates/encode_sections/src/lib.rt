@@ -8,8 +8,8 @@ ghost use Rattle.encode_sections.specs.Sections.{headKind, rowKind, coun
 use encode_rows::put_rows;
 use encode_rows::rows_length;
 use row_bytes::put_row;
-use row_values::Kind;
 use row_values::Row;
+use row_values::RowKind;
 use row_values::cells_of;
 use row_values::table_row;
 use section_heads::Section;
@@ -19,22 +19,22 @@ use section_heads::put_head;
 const HEAD: usize = 12;
 
 // The kind of a section's header rows.
-fn head_kind(section: Section) -> Kind
+fn head_kind(section: Section) -> RowKind
     ensures { λ r. ⌜ r ≡ headKind section ⌝ }
 {
     match section {
-        Section::Sequences => Kind::Atc,
-        Section::Programs => Kind::Program,
+        Section::Sequences => RowKind::Atc,
+        Section::Programs => RowKind::Program,
     }
 }
 
 // The kind of the rows behind each header row.
-fn row_kind(section: Section) -> Kind
+fn row_kind(section: Section) -> RowKind
     ensures { λ r. ⌜ r ≡ rowKind section ⌝ }
 {
     match section {
-        Section::Sequences => Kind::Stc,
-        Section::Programs => Kind::Stream,
+        Section::Sequences => RowKind::Stc,
+        Section::Programs => RowKind::Stream,
     }
 }
 

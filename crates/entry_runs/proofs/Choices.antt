@@ -10,7 +10,7 @@ use Rattle.format.specs.ClipRecord.{Row}
 use Rattle.format.specs.Refusals.{entryFits}
 use Rattle.format.specs.Rewriting.{runs}
 use Rattle.format.proofs.Tests.{picked, not-picked}
-use Rattle.entry_runs.specs.Fitting.{runsFit}
+use Rattle.entry_runs.specs.Fitting.{countFit}
 use Rattle.entry_runs.specs.declared.RunCount.{RunCount}
 
 -- a test of every element: of the first m and of those behind them
@@ -24,15 +24,15 @@ every-parts test (suc m) (x ∷ xs) = go (test x) (every-parts test m xs)
     go true i = i
     go false i = refl
 
-module _ (type : ℕ) (es : List Row) {c : RunCount} (is : c ≡ runsFit type es) where
+module _ (type : ℕ) (es : List Row) {c : RunCount} (is : c ≡ countFit type es) where
   -- a number is that of the runs, and each entry fits
   pub runs-told : {r : ℕ} → c ≡ RunCount.Runs r → (every (entryFits type) es ≡ true) × (r ≡ runs es)
-  unfolding runsFit
+  unfolding countFit
   runs-told told =
       let p = picked (every (entryFits type) es) (λ e. let z : _≡_ {A = ℕ} 0 1 = cc in omega arith) (sym is ∙ told) in
       (p .0, cc (p .1))
 
   -- else one does not
   pub unfit-told : c ≡ RunCount.Unfit → every (entryFits type) es ≡ false
-  unfolding runsFit
+  unfolding countFit
   unfit-told told = not-picked (every (entryFits type) es) (λ e. let z : _≡_ {A = ℕ} 0 1 = cc in omega arith) (sym is ∙ told) .0

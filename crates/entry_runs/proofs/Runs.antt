@@ -18,7 +18,7 @@ use Rattle.entry_rows.specs.declared.Words.{Words}
 use Rattle.entry_rows.specs.Reads.{WordsAre}
 use Rattle.runs.specs.Runs.{entriesAt, entriesFrom, runEnd, endFrom, coarseFrom}
 use Rattle.runs.proofs.Runs.{run-ends, after-run, coarse-all}
-use Rattle.entry_runs.specs.Fitting.{fitUntil, endFit, runsFit, wordsSame, goesOn}
+use Rattle.entry_runs.specs.Fitting.{fitUntil, endFit, countFit, wordsSame, goesOn}
 use Rattle.entry_runs.specs.declared.RunEnd.{RunEnd}
 use Rattle.entry_runs.specs.declared.RunCount.{RunCount}
 use Rattle.entry_runs.proofs.Choices.{every-parts}
@@ -206,13 +206,13 @@ module _ (t : List ℕ) (p n type : ℕ) where
         record { within = next .within; small = omega (arith, next .past, i .small); rest = omega arith; fit = sym (next .fit) ∙ i .fit }
 
     -- an entry does not fit
-    pub counted-unfit : every (entryFits type) (entriesFrom t p n k) ≡ false → RunCount.Unfit ≡ runsFit type (entriesAt t p n)
-    unfolding runsFit
+    pub counted-unfit : every (entryFits type) (entriesFrom t p n k) ≡ false → RunCount.Unfit ≡ countFit type (entriesAt t p n)
+    unfolding countFit
     counted-unfit fails = rw (← i .fit, fails)
 
     -- all are counted
-    pub counted-done : n ≤ k → RunCount.Runs count ≡ runsFit type (entriesAt t p n)
-    unfolding runsFit
+    pub counted-done : n ≤ k → RunCount.Runs count ≡ countFit type (entriesAt t p n)
+    unfolding countFit
     counted-done h =
         let rest = rw (left-done (cellsAt t entryCells) entrySize p n k h) at (i .rest) in
         let fits = rw (left-done (cellsAt t entryCells) entrySize p n k h) at (i .fit) in

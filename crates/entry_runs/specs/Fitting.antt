@@ -22,8 +22,8 @@ unfoldable pub endFit : ℕ → ℕ → List Row → RunEnd
 endFit type k es = fitUntil type (endFrom k es) k es
 
 -- how many runs these entries have, where each of them fits a map of this type
-unfoldable pub runsFit : ℕ → List Row → RunCount
-runsFit type es = pick (every (entryFits type) es) (RunCount.Runs (runs es)) RunCount.Unfit
+unfoldable pub countFit : ℕ → List Row → RunCount
+countFit type es = pick (every (entryFits type) es) (RunCount.Runs (runs es)) RunCount.Unfit
 
 -- two entries by their words have equal keys
 abbrev pub wordsSame : Words → Words → Bool

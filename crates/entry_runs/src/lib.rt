@@ -8,13 +8,13 @@ ghost use Rattle.format.specs.Refusals.{entryFits};
 ghost use Rattle.format.specs.ClipRecord.{entrySize};
 ghost use Rattle.runs.specs.Runs.{entriesAt, entriesFrom};
 ghost use Rattle.entry_rows.specs.Reads.{wordsRow, wordsType};
-ghost use Rattle.entry_runs.specs.Fitting.{endFit, runsFit, wordsSame, goesOn};
+ghost use Rattle.entry_runs.specs.Fitting.{endFit, countFit, wordsSame, goesOn};
 ghost use Rattle.entry_runs.specs.declared.RunEnd.{RunEnd};
 use entry_rows::SIZE;
 use entry_rows::Words;
 use entry_rows::packet_of;
 use entry_rows::words_at;
-use row_limits::Kind;
+use row_limits::TableKind;
 use row_limits::row_fits;
 use runs::same_run;
 
@@ -60,7 +60,7 @@ pub fn run_end(entries: &[u8], p: usize, from: usize, n: usize, map_type: u32) -
     ensures { λ r. ⌜ r ≡ endFit «map_type» from (entriesFrom (now (entries .entry)) p n from) ⌝ }
 {
     let at = p + SIZE * from;
-    if !row_fits(entries, at, Kind::Entry(map_type)) {
+    if !row_fits(entries, at, TableKind::Entry(map_type)) {
         return RunEnd::Unfit;
     }
     let first = words_at(entries, at);
@@ -78,7 +78,7 @@ pub fn run_end(entries: &[u8], p: usize, from: usize, n: usize, map_type: u32) -
 // How many runs the n entries at byte p of a map of this type have.
 pub fn count_runs(entries: &[u8], p: usize, n: usize, map_type: u32) -> RunCount
     requires { ⌜ p + entrySize * n ≤ length (now entries) ⌝ }
-    ensures { λ r. ⌜ r ≡ runsFit «map_type» (entriesAt (now (entries .entry)) p n) ⌝ }
+    ensures { λ r. ⌜ r ≡ countFit «map_type» (entriesAt (now (entries .entry)) p n) ⌝ }
 {
     let mut count: usize = 0;
     let mut k: usize = 0;

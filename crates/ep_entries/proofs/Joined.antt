@@ -16,7 +16,7 @@ use Rattle.format.proofs.Sweep.{row-bytes, rows-bytes}
 use Rattle.ep_rows.specs.Rows.{fineOf}
 use Rattle.ep_rows.specs.declared.FineRow.{FineRow}
 use Rattle.ep_entries.specs.Body.{coarseIn, entriesIn, entriesLeft, entryIn}
-use Rattle.ep_entries.specs.Entries.{joined, rowOf, entryBy, runBytes}
+use Rattle.ep_entries.specs.Entries.{joined, rowOf, entryBy, stretchBytes}
 use Rattle.ep_entries.specs.Walks.{walkAt, IsWalk}
 use Rattle.ep_entries.proofs.Walks.{walk-step, walk-stop, walk-later}
 use Rattle.ep_entries.specs.declared.body.MapBody.{MapBody}
@@ -43,30 +43,30 @@ module _ (f : List ℕ) (m : MapBody) where
     abbrev row : ℕ → Row
     row q = entryBy (m .kind) (w .time) (w .packet) (fineAt f q)
 
-    -- where the walk is right and its next row is not reached before `end`: a run under its coarse row, and those behind it
-    run-left : (d k : ℕ) → k + d ≤ m .«num_fine» → k + d ≤ w .next → IsWalk f (coarseIn f m) k w
+    -- where the walk is right and its next row is not reached before `end`: a stretch under its coarse row, and those behind it
+    stretch-left : (d k : ℕ) → k + d ≤ m .«num_fine» → k + d ≤ w .next → IsWalk f (coarseIn f m) k w
         → tableBytes (entriesLeft f m k) ≡ tableBytes (rowsAt row nextFine (m .fine + 4 * k) d) ++ tableBytes (entriesLeft f m (k + d))
-    run-left zero k h g i = let e : k + 0 ≡ k = omega arith in rw e
-    run-left (suc d) k h g i =
+    stretch-left zero k h g i = let e : k + 0 ≡ k = omega arith in rw e
+    stretch-left (suc d) k h g i =
         let q = m .fine + 4 * k in
         let at = walk-stop f (coarseIn f m) k w i (omega arith) in
         let here : entryIn f m k ≡ row q = rw (at .0, at .1) in
         let b : m .fine + 4 * (k + 1) ≡ q + 4 = omega arith in
         let e : k + 1 + d ≡ k + suc d = omega arith in
-        let later = rw (b, e) at (run-left d (k + 1) (omega arith) (omega arith) (walk-later f (coarseIn f m) k (k + 1) w (omega arith) i)) in
+        let later = rw (b, e) at (stretch-left d (k + 1) (omega arith) (omega arith) (walk-later f (coarseIn f m) k (k + 1) w (omega arith) i)) in
         rw b at (ap tableBytes (left-turn k (omega arith))) ∙ ap₂ (λ (x y : List ℕ). x ++ y) (ap (λ (r : Row). rowBytes r) here) later
         ∙ sym (append-assoc (rowBytes (row q)) (tableBytes (rowsAt row nextFine (q + 4) d)) (tableBytes (entriesLeft f m (k + suc d))))
 
-    -- a run is stored; what is left goes behind it
-    run-put : (k end : ℕ) (t : List ℕ) (at : ℕ) {t′ whole : List ℕ} → k ≤ end → end ≤ w .next → end ≤ m .«num_fine» → IsWalk f (coarseIn f m) k w
-        → t′ ≡ sets t (at + entrySize * k) (runBytes f (m .kind) (w .time) (w .packet) (m .fine) k end)
+    -- a stretch is stored; what is left goes behind it
+    stretch-put : (k end : ℕ) (t : List ℕ) (at : ℕ) {t′ whole : List ℕ} → k ≤ end → end ≤ w .next → end ≤ m .«num_fine» → IsWalk f (coarseIn f m) k w
+        → t′ ≡ sets t (at + entrySize * k) (stretchBytes f (m .kind) (w .time) (w .packet) (m .fine) k end)
         → sets t (at + entrySize * k) (tableBytes (entriesLeft f m k)) ≡ whole → sets t′ (at + entrySize * end) (tableBytes (entriesLeft f m end)) ≡ whole
-    run-put k end t at h b n i p whole =
+    stretch-put k end t at h b n i p whole =
         let back : k + (end - k) ≡ end = omega arith in
-        let split = rw back at (run-left (end - k) k (omega arith) (omega arith) i) in
+        let split = rw back at (stretch-left (end - k) k (omega arith) (omega arith) i) in
         let place : at + entrySize * k + entrySize * (end - k) ≡ at + entrySize * end = omega arith in
         let size = rows-bytes entryCells row nextFine (λ q. refl) (m .fine + 4 * k) (end - k) in
-        rw place at (put-more t (at + entrySize * k) (entrySize * (end - k)) (runBytes f (m .kind) (w .time) (w .packet) (m .fine) k end) (tableBytes (entriesLeft f m end)) size p (rw split at whole))
+        rw place at (put-more t (at + entrySize * k) (entrySize * (end - k)) (stretchBytes f (m .kind) (w .time) (w .packet) (m .fine) k end) (tableBytes (entriesLeft f m end)) size p (rw split at whole))
 
 -- ---- the loop over coarse rows
 
@@ -85,14 +85,14 @@ module _ (f : List ℕ) (m : MapBody) (t₀ : List ℕ) (at : ℕ) where
       record { within = omega arith; walk = i; same = refl; rest = rw (z, left-all f m) }
 
   module _ (t : List ℕ) (w : Walk) (k : ℕ) (g : Filled t w k) where
-    -- a run up to fine row `end`, before which the next coarse row is not reached, is stored
-    pub filled-run : (end : ℕ) {t′ : List ℕ} → k ≤ end → end ≤ w .next → end ≤ m .«num_fine» → length t′ ≡ length t
-        → t′ ≡ sets t (at + entrySize * k) (runBytes f (m .kind) (w .time) (w .packet) (m .fine) k end) → Filled t′ w end
-    filled-run end h b n same p = record {
+    -- a stretch up to fine row `end`, before which the next coarse row is not reached, is stored
+    pub filled-stretch : (end : ℕ) {t′ : List ℕ} → k ≤ end → end ≤ w .next → end ≤ m .«num_fine» → length t′ ≡ length t
+        → t′ ≡ sets t (at + entrySize * k) (stretchBytes f (m .kind) (w .time) (w .packet) (m .fine) k end) → Filled t′ w end
+    filled-stretch end h b n same p = record {
       within = n;
       walk = walk-later f (coarseIn f m) k end w h (g .walk);
       same = same ∙ g .same;
-      rest = run-put f m w k end t at h b n (g .walk) p (g .rest);
+      rest = stretch-put f m w k end t at h b n (g .walk) p (g .rest);
     }
 
     -- a step to a coarse row that is reached
@@ -108,14 +108,14 @@ module _ (f : List ℕ) (m : MapBody) (t₀ : List ℕ) (at : ℕ) where
   pub filled-done : (t : List ℕ) (w : Walk) → Filled t w (m .«num_fine») → t ≡ sets t₀ at (tableBytes (entriesIn f m))
   filled-done t w g = rw (left-done f m (m .«num_fine») (omega arith)) at (g .rest)
 
--- ---- one run
+-- ---- one stretch
 
 module _ (f : List ℕ) (type time packet fine end k : ℕ) where
   -- a turn stores the entry of fine row k
-  pub run-turn : (t : List ℕ) (at x : ℕ) {t′ whole : List ℕ} → k < end → x ≡ beAt f (fine + 4 * k) 4
+  pub stretch-turn : (t : List ℕ) (at x : ℕ) {t′ whole : List ℕ} → k < end → x ≡ beAt f (fine + 4 * k) 4
       → t′ ≡ sets t (at + entrySize * k) (rowBytes (entryBy type time packet (unpacked fineWidths x)))
-      → sets t (at + entrySize * k) (runBytes f type time packet fine k end) ≡ whole → sets t′ (at + entrySize * (k + 1)) (runBytes f type time packet fine (k + 1) end) ≡ whole
-  run-turn t at x h e p i =
+      → sets t (at + entrySize * k) (stretchBytes f type time packet fine k end) ≡ whole → sets t′ (at + entrySize * (k + 1)) (stretchBytes f type time packet fine (k + 1) end) ≡ whole
+  stretch-turn t at x h e p i =
       let q = fine + 4 * k in
       let one = entryBy type time packet (fineAt f q) in
       let rest = tableBytes (rowsAt (λ q. entryBy type time packet (fineAt f q)) nextFine (q + 4) (end - (k + 1))) in
@@ -126,9 +126,9 @@ module _ (f : List ℕ) (type time packet fine end k : ℕ) where
       let b : fine + 4 * (k + 1) ≡ fine + 4 * k + 4 = omega arith in
       rw (a, b) done
 
-  -- with no row left the run is stored
-  pub run-done : (t : List ℕ) (at : ℕ) {whole : List ℕ} → end ≤ k → sets t at (runBytes f type time packet fine k end) ≡ whole → t ≡ whole
-  run-done t at h i = rw (none-left end k h) at i
+  -- with no row left the stretch is stored
+  pub stretch-done : (t : List ℕ) (at : ℕ) {whole : List ℕ} → end ≤ k → sets t at (stretchBytes f type time packet fine k end) ≡ whole → t ≡ whole
+  stretch-done t at h i = rw (none-left end k h) at i
 
 -- ---- one entry
 

@@ -8,7 +8,7 @@ ghost use Rattle.format.specs.EntryPoints.{fineWidths};
 ghost use Rattle.format.specs.ClipRecord.{entrySize};
 ghost use Rattle.format.specs.Tables.{rowBytes, tableBytes};
 ghost use Rattle.ep_entries.specs.Body.{entriesIn};
-ghost use Rattle.ep_entries.specs.Entries.{joined, entryBy, runBytes, Run, Fill};
+ghost use Rattle.ep_entries.specs.Entries.{joined, entryBy, stretchBytes, Stretch, Fill};
 use crate::body::MapBody;
 use crate::walk::Walk;
 use crate::walk::at_row;
@@ -53,9 +53,17 @@ fn put_entry(word: u32, w: Walk, kind: u32, table: &mut [u8], at: usize)
 }
 
 // The entries of the fine rows from number `from` up to `end`, all under the walk's coarse row; the table's row for fine row 0 is at `at`.
-fn put_run(file: &[u8], m: MapBody, from: usize, end: usize, w: Walk, table: &mut [u8], at: usize)
-    requires { ⌜ Run (length (now file)) (m .fine) from end (length (now table)) at ⌝ }
-    ensures { λ _. ⌜ now (table .exit) ≡ sets (now (table .entry)) (at + entrySize * from) (runBytes (now (file .entry)) (m .kind) (w .time) (w .packet) (m .fine) from end) ⌝ }
+fn put_stretch(
+    file: &[u8],
+    m: MapBody,
+    from: usize,
+    end: usize,
+    w: Walk,
+    table: &mut [u8],
+    at: usize,
+)
+    requires { ⌜ Stretch (length (now file)) (m .fine) from end (length (now table)) at ⌝ }
+    ensures { λ _. ⌜ now (table .exit) ≡ sets (now (table .entry)) (at + entrySize * from) (stretchBytes (now (file .entry)) (m .kind) (w .time) (w .packet) (m .fine) from end) ⌝ }
 {
     let mut k = from;
     while k < end {
@@ -80,10 +88,10 @@ pub fn put_entries(file: &[u8], m: MapBody, table: &mut [u8], at: usize)
     while (w.next as usize) < m.num_fine {
         let end = w.next as usize;
         if k < end {
-            put_run(file, m, k, end, w, table, at);
+            put_stretch(file, m, k, end, w, table, at);
             k = end;
         }
         w = at_row(file, w.behind, w.left);
     }
-    put_run(file, m, k, m.num_fine, w, table, at);
+    put_stretch(file, m, k, m.num_fine, w, table, at);
 }

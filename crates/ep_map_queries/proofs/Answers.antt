@@ -15,7 +15,7 @@ use Rattle.entry_rows.specs.Reads.{EntryHas}
 use Rattle.queries.specs.Asked.{mapsAndEntries}
 use Rattle.table_rows.specs.OwnRows.{refusal, owns}
 use Rattle.table_rows.proofs.OwnRows.{own-rows, behindTests, tests-fail, tests-pass}
-use Rattle.ep_map_queries.specs.InMap.{entriesOf, entriesAt, findIn, seekIn, findQuestion, seekQuestion}
+use Rattle.ep_map_queries.specs.InMap.{ownedEntries, entriesAt, findIn, seekIn, findQuestion, seekQuestion}
 use Rattle.ep_map_queries.proofs.Nearest.{times-length}
 
 -- ---- the refusals
@@ -32,17 +32,17 @@ module _ {q : Question} {maps entries : Table} {m : ℕ} {f : List Row → Answe
   by-tests = rw (a .two, a .asks)
 
   -- where the entries of the map are refused, so is the question, by 22
-  pub not-asked : refusal ≡ entriesOf maps entries m → refused 22 ≡ ask q (mapsAndEntries maps entries)
+  pub not-asked : refusal ≡ ownedEntries maps entries m → refused 22 ≡ ask q (mapsAndEntries maps entries)
   not-asked h = tests-fail 2 entryCells maps entries m (f (ownRows entryCount (rowsOf mapCells maps) (rowsOf entryCells entries) m)) h ∙ by-tests
 
   -- where they are not, the question is answered from the rows that belong to the map
-  pub asked : {first count : ℕ} → owns first count ≡ entriesOf maps entries m → f (entriesAt (entries .bytes) first count) ≡ ask q (mapsAndEntries maps entries)
+  pub asked : {first count : ℕ} → owns first count ≡ ownedEntries maps entries m → f (entriesAt (entries .bytes) first count) ≡ ask q (mapsAndEntries maps entries)
   asked h =
       ap f (sym (own-rows 2 entryCells maps entries m h .own))
       ∙ tests-pass 2 entryCells maps entries m (f (ownRows entryCount (rowsOf mapCells maps) (rowsOf entryCells entries) m)) h ∙ by-tests
 
 -- the entries of a map stand in the table
-pub inside : (maps entries : Table) (m : ℕ) {first count : ℕ} → owns first count ≡ entriesOf maps entries m → entrySize * (first + count) ≤ length (entries .bytes)
+pub inside : (maps entries : Table) (m : ℕ) {first count : ℕ} → owns first count ≡ ownedEntries maps entries m → entrySize * (first + count) ≤ length (entries .bytes)
 inside maps entries m h = let o = own-rows 2 entryCells maps entries m h in omega (arith, o .inside, o .room)
 
 -- the questions about one map

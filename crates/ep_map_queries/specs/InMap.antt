@@ -9,8 +9,8 @@ use Rattle.nearest.specs.Nearest.{rowIn}
 use Rattle.table_rows.specs.OwnRows.{Owned, ownedRows, rowsFrom}
 
 -- the entries of a map, whose count stands in cell 2
-abbrev pub entriesOf : Table → Table → ℕ → Owned
-entriesOf maps entries m = ownedRows 2 entryCells maps entries m
+abbrev pub ownedEntries : Table → Table → ℕ → Owned
+ownedEntries maps entries m = ownedRows 2 entryCells maps entries m
 
 -- so many entries from the one with this number
 abbrev pub entriesAt : List ℕ → ℕ → ℕ → List Row

@@ -20,13 +20,13 @@ use Rattle.format.proofs.Rows.{gather-all}
 use Rattle.format.proofs.Loops.{one-left, none-left, sets-front}
 use Rattle.format.proofs.Sweep.{row-bytes, HaveCells, table-bytes, Filling, filled, group-room, group-put}
 use Rattle.numbers.specs.Reads.{ReadIs}
-use Rattle.extension.specs.Block.{headOf, Block, InBlock, rowsIn, extensionsIn, entryRows, entryEnd, EntryIs, entryList, orList, foundIn, listEnd, MeasuredIs, PutIs}
-use Rattle.extension.specs.declared.Head.{Head}
+use Rattle.extension.specs.Block.{blockHead, Block, InBlock, rowsIn, extensionsIn, entryRows, entryEnd, EntryIs, entryList, orList, foundIn, listEnd, MeasuredIs, PutIs}
+use Rattle.extension.specs.declared.BlockHead.{BlockHead}
 use Rattle.extension.specs.declared.ExtensionDataEntry.{ExtensionDataEntry}
 use Rattle.extension.specs.declared.ExtensionDataEntry.the-variants.{Kept, LeftOut}
 use Rattle.extension.specs.declared.ListData.{ListData}
 use Rattle.extension.specs.declared.ListData.the-variants.{At, Absent}
-use Rattle.extension.specs.declared.Measured.{Measured}
+use Rattle.extension.specs.declared.MeasuredBlock.{MeasuredBlock}
 
 -- ---- the head
 
@@ -49,38 +49,38 @@ module _ (f : List ℕ) (start : ℕ) where
   whole = leb (start + 12 + 12 * extensionCount f start) (length f)
 
   -- a test of the block that fails leaves no entries
-  empty : hasExtensions f start ≡ false → Head.Empty ≡ headOf f start
-  unfolding headOf
+  empty : hasExtensions f start ≡ false → BlockHead.Empty ≡ blockHead f start
+  unfolding blockHead
   empty h = rw h
 
   -- no block starts at 0
-  pub at-zero : start ≡ 0 → Head.Empty ≡ headOf f start
+  pub at-zero : start ≡ 0 → BlockHead.Empty ≡ blockHead f start
   at-zero h = empty (left-fails (both long whole) (left-fails before (ap not (eq-eqb start 0 h))))
 
   -- nor at or past the end
-  pub at-end : length f ≤ start → Head.Empty ≡ headOf f start
+  pub at-end : length f ≤ start → BlockHead.Empty ≡ blockHead f start
   at-end h = empty (left-fails (both long whole) (right-fails some (le-ltb start (length f) h)))
 
   -- a block of length 0 has no entries
-  pub no-length : {v : ℕ} → v ≡ blockLength f start → v ≡ 0 → Head.Empty ≡ headOf f start
+  pub no-length : {v : ℕ} → v ≡ blockLength f start → v ≡ 0 → BlockHead.Empty ≡ blockHead f start
   no-length e h = empty (right-fails (both some before) (left-fails whole (ap not (eq-eqb (blockLength f start) 0 (sym e ∙ h)))))
 
   -- nor has one whose entries pass the end
-  pub too-short : length f < start + 12 + 12 * extensionCount f start → Head.Empty ≡ headOf f start
+  pub too-short : length f < start + 12 + 12 * extensionCount f start → BlockHead.Empty ≡ blockHead f start
   too-short h = empty (right-fails (both some before) (right-fails long (lt-leb (start + 12 + 12 * extensionCount f start) (length f) h)))
 
   -- else there are entries
   pub entries : {v n end : ℕ} → (start ≡ 0 → ⊥) → start < length f → v ≡ blockLength f start → (v ≡ 0 → ⊥) → n ≡ extensionCount f start
-      → start + 12 + 12 * n ≤ length f → end ≡ min (start + 4 + v) (length f) → Head.Entries n end ≡ headOf f start
-  unfolding headOf
+      → start + 12 + 12 * n ≤ length f → end ≡ min (start + 4 + v) (length f) → BlockHead.Entries n end ≡ blockHead f start
+  unfolding blockHead
   entries {v} {n} {end} not-zero inside length-is not-empty n-is room stop =
       let bl : eqb (blockLength f start) 0 ≡ false = ne-eqb (blockLength f start) 0 (λ h. not-empty (length-is ∙ h)) in
       let all : whole ≡ true = le-leb (start + 12 + 12 * extensionCount f start) (length f) (rw n-is at room) in
       rw (ne-eqb start 0 not-zero, lt-ltb start (length f) inside, bl, all, stop, n-is, length-is)
 
   -- the rows of a block with no entries
-  pub no-rows : Head.Empty ≡ headOf f start → extensionRows f start ≡ []
-  unfolding headOf extensionRows
+  pub no-rows : BlockHead.Empty ≡ blockHead f start → extensionRows f start ≡ []
+  unfolding blockHead extensionRows
   no-rows e = by-test (hasExtensions f start) refl
     where
       by-test : (t : Bool) → hasExtensions f start ≡ t → extensionRows f start ≡ []
@@ -94,8 +94,8 @@ module _ (f : List ℕ) (start : ℕ) where
     stop : end ≡ min (blockEnd f start) (length f)
 
   -- it says so
-  has : {n end : ℕ} → Head.Entries n end ≡ headOf f start → Has n end
-  unfolding headOf
+  has : {n end : ℕ} → BlockHead.Entries n end ≡ blockHead f start → Has n end
+  unfolding blockHead
   has {n} {end} e = by-test (hasExtensions f start) refl
     where
       by-test : (t : Bool) → hasExtensions f start ≡ t → Has n end
@@ -103,12 +103,12 @@ module _ (f : List ℕ) (start : ℕ) where
       by-test false h = let is = rw h at e in let z : _≡_ {A = ℕ} 0 1 = cc in absurd (omega arith)
 
   -- its rows are those of the n entries
-  pub rows-are : {n end : ℕ} → Head.Entries n end ≡ headOf f start → extensionRows f start ≡ rowsIn f start n
+  pub rows-are : {n end : ℕ} → BlockHead.Entries n end ≡ blockHead f start → extensionRows f start ≡ rowsIn f start n
   unfolding extensionRows
   rows-are e = let h = has e in rw (h .is, h .count)
 
   -- what the passes over the entries rely on holds
-  pub block : {n end : ℕ} → IsBytes f → length f ≤ 536870912 → Head.Entries n end ≡ headOf f start → Block f start n end
+  pub block : {n end : ℕ} → IsBytes f → length f ≤ 536870912 → BlockHead.Entries n end ≡ blockHead f start → Block f start n end
   block bytes small e =
       let h = has e in
       let t = both-true {a = long} (both-true {a = both some before} (h .is) .1) .1 in
@@ -329,7 +329,7 @@ module _ (f : List ℕ) (start : ℕ) where
   nothing-measured is = record { rows = rw is; few = omega arith; list = rw is; inside = omega arith }
 
   -- the rows of the entries
-  pub all-measured : (n : ℕ) {r : Measured} → extensionRows f start ≡ rowsIn f start n → MeasuredIs f (rowsIn f start n) (extensionsIn f (rowsIn f start n)) r
+  pub all-measured : (n : ℕ) {r : MeasuredBlock} → extensionRows f start ≡ rowsIn f start n → MeasuredIs f (rowsIn f start n) (extensionsIn f (rowsIn f start n)) r
       → MeasuredIs f (extensionRows f start) (extensionsFrom f start) r
   unfolding extensionsFrom
   all-measured n is m = rw is m

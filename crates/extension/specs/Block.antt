@@ -9,18 +9,18 @@ use Rattle.format.specs.Bytes.{part, both, pick, gather}
 use Rattle.format.specs.ClipRecord.{Row, Extension}
 use Rattle.format.specs.Extensions.{blockEnd, extensionCount, nextExtension, keptAt, hasExtensions, extensionOf, Found, nothing, found, listData}
 use Rattle.format.specs.Tables.{tableBytes}
-use Rattle.extension.specs.declared.Head.{Head}
+use Rattle.extension.specs.declared.BlockHead.{BlockHead}
 use Rattle.extension.specs.declared.ExtensionDataEntry.{ExtensionDataEntry}
 use Rattle.extension.specs.declared.ExtensionDataEntry.the-variants.{Kept, LeftOut}
 use Rattle.extension.specs.declared.ListData.{ListData}
 use Rattle.extension.specs.declared.ListData.the-variants.{At, Absent}
-use Rattle.extension.specs.declared.Measured.{Measured}
+use Rattle.extension.specs.declared.MeasuredBlock.{MeasuredBlock}
 
 -- ---- the head
 
 -- the number of entries and the smaller of block end and file end, where there are entries
-unfoldable pub headOf : List ℕ → ℕ → Head
-headOf f start = pick (hasExtensions f start) (Head.Entries (extensionCount f start) (min (blockEnd f start) (length f))) Head.Empty
+unfoldable pub blockHead : List ℕ → ℕ → BlockHead
+blockHead f start = pick (hasExtensions f start) (BlockHead.Entries (extensionCount f start) (min (blockEnd f start) (length f))) BlockHead.Empty
 
 -- what the passes over the entries rely on
 pub record Block (f : List ℕ) (start n end : ℕ) : Type 0 where
@@ -86,7 +86,7 @@ listEnd Absent = 0
 -- ---- the measuring pass
 
 -- the rows are counted, and the list is that of their extensions and lies inside the file
-pub record MeasuredIs (f : List ℕ) (all : List Row) (extensions : List Extension) (r : Measured) : Type 0 where
+pub record MeasuredIs (f : List ℕ) (all : List Row) (extensions : List Extension) (r : MeasuredBlock) : Type 0 where
   pub rows : r .rows ≡ length all
   pub few : r .rows ≤ 255
   pub list : foundIn f (r .list) ≡ listData extensions

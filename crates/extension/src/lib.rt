@@ -5,7 +5,7 @@ ghost use lib.ListN.{length};
 ghost use lib.Seq.{sets};
 ghost use Rattle.format.specs.Extensions.{extensionRows, extensionsFrom};
 ghost use Rattle.format.specs.Tables.{tableBytes, rowRoom, overwritten, extensionCells};
-ghost use Rattle.extension.specs.Block.{headOf, Block, InBlock, EntryIs, entryRows, entryList, orList, rowsIn, extensionsIn, MeasuredIs, PutIs};
+ghost use Rattle.extension.specs.Block.{blockHead, Block, InBlock, EntryIs, entryRows, entryList, orList, rowsIn, extensionsIn, MeasuredIs, PutIs};
 use cells::put_row4;
 use common::reader::Moved;
 use common::reader::Number;
@@ -32,13 +32,13 @@ pub enum ListData {
 }
 
 // What the measuring pass finds: the rows of table 7, and the list.
-pub struct Measured {
+pub struct MeasuredBlock {
     pub rows: usize,
     pub list: ListData,
 }
 
 // The head of a block: how many entries follow and where data may end; or no entries are read.
-enum Head {
+enum BlockHead {
     Entries { n: usize, end: usize },
     Empty,
 }
@@ -62,35 +62,35 @@ fn smaller(a: usize, b: usize) -> usize
 }
 
 // The head of the block that starts at `start`, read by the reader.
-fn head_at(file: &[u8], start: usize) -> Head
+fn head_at(file: &[u8], start: usize) -> BlockHead
     requires { ⌜ length (now file) ≤ 536870912 ⌝ }
-    ensures { λ r. ⌜ r ≡ headOf (now (file .entry)) start ⌝ }
+    ensures { λ r. ⌜ r ≡ blockHead (now (file .entry)) start ⌝ }
 {
     if start == 0 {
-        return Head::Empty;
+        return BlockHead::Empty;
     }
     if start >= file.len() {
-        return Head::Empty;
+        return BlockHead::Empty;
     }
     let Moved::At(front) = Reader::new().seek(file, start) else {
-        return Head::Empty;
+        return BlockHead::Empty;
     };
     let Number::Read(length, ignored) = front.read_u32(file) else {
-        return Head::Empty;
+        return BlockHead::Empty;
     };
     if length == 0 {
-        return Head::Empty;
+        return BlockHead::Empty;
     }
     let Moved::At(count) = ignored.skip(file, 7) else {
-        return Head::Empty;
+        return BlockHead::Empty;
     };
     let Number::Read(n, entries) = count.read_u8(file) else {
-        return Head::Empty;
+        return BlockHead::Empty;
     };
     let Moved::At(_) = entries.skip(file, SIZE * (n as usize)) else {
-        return Head::Empty;
+        return BlockHead::Empty;
     };
-    Head::Entries {
+    BlockHead::Entries {
         n: n as usize,
         end: smaller(start + 4 + (length as usize), file.len()),
     }
@@ -162,7 +162,7 @@ fn rows_of(entry: ExtensionDataEntry) -> usize
 }
 
 // Counts the rows of a block's n entries and finds its list.
-fn measure_entries(file: &[u8], start: usize, n: usize, end: usize) -> Measured
+fn measure_entries(file: &[u8], start: usize, n: usize, end: usize) -> MeasuredBlock
     requires { ⌜ Block (now file) start n end ⌝ }
     ensures { λ r. ⌜ MeasuredIs (now (file .entry)) (rowsIn (now (file .entry)) start n) (extensionsIn (now (file .entry)) (rowsIn (now (file .entry)) start n)) r ⌝ }
 {
@@ -177,16 +177,16 @@ fn measure_entries(file: &[u8], start: usize, n: usize, end: usize) -> Measured
         p += SIZE;
         k += 1;
     }
-    Measured { rows, list }
+    MeasuredBlock { rows, list }
 }
 
 // The measuring pass: how many rows table 7 gets, and where the list stands.
-pub fn measure(file: &[u8], start: usize) -> Measured
+pub fn measure(file: &[u8], start: usize) -> MeasuredBlock
     requires { ⌜ length (now file) ≤ 536870912 ⌝ }
     ensures { λ r. ⌜ MeasuredIs (now (file .entry)) (extensionRows (now (file .entry)) start) (extensionsFrom (now (file .entry)) start) r ⌝ }
 {
-    let Head::Entries { n, end } = head_at(file, start) else {
-        return Measured {
+    let BlockHead::Entries { n, end } = head_at(file, start) else {
+        return MeasuredBlock {
             rows: 0,
             list: ListData::Absent,
         };
@@ -233,7 +233,7 @@ pub fn fill(file: &[u8], start: usize, table: &mut [u8])
     requires { ⌜ (length (now file) ≤ 536870912) × (length (extensionRows (now file) start) ≤ rowRoom extensionCells (now table)) ⌝ }
     ensures { λ _. ⌜ now (table .exit) ≡ overwritten (tableBytes (extensionRows (now (file .entry)) start)) (now (table .entry)) ⌝ }
 {
-    let Head::Entries { n, end } = head_at(file, start) else {
+    let BlockHead::Entries { n, end } = head_at(file, start) else {
         return;
     };
     fill_entries(file, start, n, end, table);

@@ -11,10 +11,6 @@ use Rattle.format.specs.Refusals.{extensionRow, dataRefusal}
 use Rattle.extension_entry.specs.declared.Part.{Part}
 use Rattle.extension_entry.specs.declared.Part.the-variants.{At, Refused}
 
--- a lent table with the rows stated to be in it
-abbrev pub tableOf : List ℕ → ℕ → Table
-tableOf bytes rows = record { bytes = bytes; rows = rows }
-
 -- where the data of row k stands, unless it is refused
 unfoldable pub partOf : List ℕ → Table → ℕ → Part
 partOf f t k = pick (eqb (dataRefusal f t k) 0) (At (dataStart (extensionRow t k)) (dataLength (extensionRow t k))) Refused

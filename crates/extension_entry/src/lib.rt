@@ -1,7 +1,8 @@
 // The data of an extension: a row of a lent table 7 says where it stands in the lent file.
 ghost use mathlib.Core.Path.{_≡_};
 ghost use Rattle.format.specs.Refusals.{dataRefusal, dataAsked};
-ghost use Rattle.extension_entry.specs.Part.{tableOf, PartIs};
+ghost use Rattle.format.specs.Tables.{stated};
+ghost use Rattle.extension_entry.specs.Part.{PartIs};
 use cells::cell_at;
 
 // A row of table 7, in bytes.
@@ -15,7 +16,7 @@ pub enum Part {
 
 // Where the data of a row stands in the lent file, for a lent table 7, any rows stated to be in it and any row number.
 pub fn data_place(file: &[u8], table: &[u8], rows: u32, row: u32) -> Part
-    ensures { λ r. ⌜ PartIs (now (file .entry)) (tableOf (now (table .entry)) rows) row r ⌝ }
+    ensures { λ r. ⌜ PartIs (now (file .entry)) (stated (now (table .entry)) rows) row r ⌝ }
 {
     if table.len() / ROW < (rows as usize) {
         return Part::Refused;
@@ -34,7 +35,7 @@ pub fn data_place(file: &[u8], table: &[u8], rows: u32, row: u32) -> Part
 
 // 22 where the data of a row is refused, else 0.
 pub fn data_refusal(file: &[u8], table: &[u8], rows: u32, row: u32) -> u32
-    ensures { λ r. ⌜ r ≡ dataRefusal (now (file .entry)) (tableOf (now (table .entry)) rows) row ⌝ }
+    ensures { λ r. ⌜ r ≡ dataRefusal (now (file .entry)) (stated (now (table .entry)) rows) row ⌝ }
 {
     if let Part::Refused = data_place(file, table, rows, row) {
         return 22;
@@ -44,7 +45,7 @@ pub fn data_refusal(file: &[u8], table: &[u8], rows: u32, row: u32) -> u32
 
 // The data of a row, a part of the lent file itself; the empty part where it is refused, which `data_refusal` tells apart.
 pub fn data<'a>(file: &'a [u8], table: &[u8], rows: u32, row: u32) -> &'a [u8]
-    ensures { λ r. ⌜ now r ≡ dataAsked (now (file .entry)) (tableOf (now (table .entry)) rows) row ⌝ }
+    ensures { λ r. ⌜ now r ≡ dataAsked (now (file .entry)) (stated (now (table .entry)) rows) row ⌝ }
 {
     let Part::At { start, len } = data_place(file, table, rows, row) else {
         return &file[0..0];

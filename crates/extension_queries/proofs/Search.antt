@@ -10,10 +10,9 @@ use lib.ListN.{getD}
 use borrow.Author.Tests.{eq-eqb, ne-eqb, not-true, not-false}
 use Rattle.format.specs.Bytes.{both}
 use Rattle.format.specs.Questions.{refused, none, number}
-use Rattle.format.specs.Tables.{isStated, cellsAt, tableRows, extensionCells}
+use Rattle.format.specs.Tables.{isStated, cellsAt, tableRows, extensionCells, stated}
 use Rattle.cells.specs.Reads.{CellIs}
 use Rattle.format.proofs.Cell.{row-cell}
-use Rattle.queries.specs.Asked.{stated}
 use Rattle.table_rows.proofs.Scans.{rowsLeft, left-all, left-turn, left-done}
 use Rattle.extension_queries.specs.ById.{entryById, askEntry}
 

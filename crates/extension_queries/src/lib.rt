@@ -2,8 +2,8 @@
 ghost use mathlib.Core.Path.{_≡_};
 ghost use lib.Dec.{eqb};
 ghost use Rattle.format.specs.Bytes.{both};
+ghost use Rattle.format.specs.Tables.{stated};
 ghost use Rattle.queries.specs.Answers.{foundOf};
-ghost use Rattle.queries.specs.Asked.{stated};
 ghost use Rattle.extension_queries.specs.ById.{askEntry};
 use cells::cell_at;
 use queries::Found;

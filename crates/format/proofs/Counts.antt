@@ -14,7 +14,7 @@ use Rattle.format.specs.EntryPoints.{nextMap, entriesOf, mapCount, mapsF
 use Rattle.format.specs.Extensions.{Found, nothing, found, isKept, extensionAt, keptAt, nextExtension, extensionCount, hasExtensions, extensionRows, dataLength, dataStart, dataOf, extensionOf, extensionsFrom, listData, listIn, listProgramsOf, listStreamsOf}
 use Rattle.format.specs.Reading.{clipOf, recordOf}
 use Rattle.format.specs.Refusals.{ReadAnswer, refused, tooShort, accepted, refusalOf, tablesOf, statedOf, tablesAnswer, readAnswer}
-use Rattle.format.specs.Tables.{Nine, atcCells, stcCells, programCells, streamCells, mapCells, extensionCells, rowRoom}
+use Rattle.format.specs.Tables.{Nine, sameNine, mapNine, AllNine, atcCells, stcCells, programCells, streamCells, mapCells, extensionCells, rowRoom}
 use Rattle.format.proofs.Read.{own-length, few-maps}
 use Rattle.format.proofs.Rows.{rows-length}
 use Rattle.format.proofs.Stores.{be-below}
@@ -33,16 +33,8 @@ pub record Counted (rows : Nine (List Row)) : Type 0 where
   pub listStreams : length (rows .listStreams) ≤ 65025
 
 -- at most n rows in each table
-pub record AtMost (n : ℕ) (rows : Nine (List Row)) : Type 0 where
-  pub atcs : length (rows .atcs) ≤ n
-  pub stcs : length (rows .stcs) ≤ n
-  pub programs : length (rows .programs) ≤ n
-  pub streams : length (rows .streams) ≤ n
-  pub maps : length (rows .maps) ≤ n
-  pub entries : length (rows .entries) ≤ n
-  pub extensions : length (rows .extensions) ≤ n
-  pub listPrograms : length (rows .listPrograms) ≤ n
-  pub listStreams : length (rows .listStreams) ≤ n
+abbrev pub AtMost : ℕ → Nine (List Row) → Type 0
+AtMost n rows = AllNine _≤_ (mapNine length rows) (sameNine n)
 
 -- ---- parts of a list of bytes are bytes
 

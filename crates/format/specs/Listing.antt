@@ -4,9 +4,9 @@ use mathlib.Core.List.{List, [], _∷_, _++_}
 use lib.ListN.{length, take, drop, replicate}
 use lib.Dec.{leb, ltb}
 use Rattle.format.specs.Bytes.{pick, flat}
-use Rattle.format.specs.ClipRecord.{Row, Record, mapPid, mapType, entryCount, time, packet, entryCells}
+use Rattle.format.specs.ClipRecord.{Row, Record, mapPid, mapType, entryCount, time, packet}
 use Rattle.format.specs.Reading.{recordOf}
-use Rattle.format.specs.Tables.{Nine, atcCells, stcCells, programCells, streamCells, mapCells, extensionCells}
+use Rattle.format.specs.Tables.{Nine, mapNine, nineCells}
 use Rattle.format.specs.Refusals.{ReadAnswer, refused, tooShort, accepted, readAnswer}
 
 -- ---- numbers and lines
@@ -92,17 +92,7 @@ rows4096 cells = replicate (4096 * (4 * cells)) 0
 
 -- one for each table, zeros; a file that needs more rows in one of them is refused with 21
 unfoldable pub listingTables : Nine (List ℕ)
-listingTables = record {
-  atcs = rows4096 atcCells;
-  stcs = rows4096 stcCells;
-  programs = rows4096 programCells;
-  streams = rows4096 streamCells;
-  maps = rows4096 mapCells;
-  entries = rows4096 entryCells;
-  extensions = rows4096 extensionCells;
-  listPrograms = rows4096 programCells;
-  listStreams = rows4096 streamCells;
-}
+listingTables = mapNine rows4096 nineCells
 
 -- a refusal is one line, with the table after 21
 abbrev pub linesBy : ReadAnswer → Record → List ℕ

@@ -10,7 +10,7 @@ use Rattle.format.specs.Programs.{isVideo, programsEnd}
 use Rattle.format.specs.EntryPoints.{cpiIn, mapsIn}
 use Rattle.format.specs.Extensions.{extensionRows, dataStart, dataLength, dataOf, dataIn}
 use Rattle.format.specs.Reading.{recordOf}
-use Rattle.format.specs.Tables.{Nine, tableBytes, rowRoom, overwritten, Table, isStated, addUp, rowsOf, ClipTables, clipIn, atcCells, stcCells, programCells, streamCells, mapCells, extensionCells}
+use Rattle.format.specs.Tables.{Nine, mapNine, zipNine, tableBytes, rowRoom, overwritten, Table, isStated, addUp, rowsOf, ClipTables, clipIn, atcCells, stcCells, programCells, streamCells, mapCells, extensionCells}
 use Rattle.format.specs.Rewriting.{runs, encode}
 
 -- ---- reading a file: 20, 1 (8 bytes), 2, 1 (40 bytes), 3 to 8
@@ -54,17 +54,7 @@ pub record Stated : Type 0 where
 
 -- how many rows each table gets
 abbrev pub countsOf : Nine (List Row) → Nine ℕ
-countsOf t = record {
-  atcs = length (t .atcs);
-  stcs = length (t .stcs);
-  programs = length (t .programs);
-  streams = length (t .streams);
-  maps = length (t .maps);
-  entries = length (t .entries);
-  extensions = length (t .extensions);
-  listPrograms = length (t .listPrograms);
-  listStreams = length (t .listStreams);
-}
+countsOf t = mapNine length t
 
 -- what the record has beside its tables, and the rows of each table counted
 unfoldable pub statedOf : List ℕ → Stated
@@ -111,20 +101,7 @@ tableBy (accepted s) rows t = overwritten (tableBytes rows) t
 
 -- all nine
 unfoldable pub tablesAfter : List ℕ → Nine (List ℕ) → Nine (List ℕ)
-tablesAfter f tables =
-    let answer = readAnswer f tables in
-    let rows = tablesOf f in
-    record {
-      atcs = tableBy answer (rows .atcs) (tables .atcs);
-      stcs = tableBy answer (rows .stcs) (tables .stcs);
-      programs = tableBy answer (rows .programs) (tables .programs);
-      streams = tableBy answer (rows .streams) (tables .streams);
-      maps = tableBy answer (rows .maps) (tables .maps);
-      entries = tableBy answer (rows .entries) (tables .entries);
-      extensions = tableBy answer (rows .extensions) (tables .extensions);
-      listPrograms = tableBy answer (rows .listPrograms) (tables .listPrograms);
-      listStreams = tableBy answer (rows .listStreams) (tables .listStreams);
-    }
+tablesAfter f tables = zipNine (tableBy (readAnswer f tables)) (tablesOf f) tables
 
 -- 01's numbers of an answer: the refusal, the table and the rows it needs, the scalars, the mark count, nine row counts, whether there is a list.
 -- Other numbers are 0

@@ -87,12 +87,84 @@ pub record Nine (A : Type 0) : Type 0 where
   pub listPrograms : A
   pub listStreams : A
 
+-- one for each table, the same for all
+abbrev pub sameNine : {A : Type 0} → A → Nine A
+sameNine x = record {
+  atcs = x;
+  stcs = x;
+  programs = x;
+  streams = x;
+  maps = x;
+  entries = x;
+  extensions = x;
+  listPrograms = x;
+  listStreams = x;
+}
+
+-- what a function gives for each
+abbrev pub mapNine : {A B : Type 0} → (A → B) → Nine A → Nine B
+mapNine f t = record {
+  atcs = f (t .atcs);
+  stcs = f (t .stcs);
+  programs = f (t .programs);
+  streams = f (t .streams);
+  maps = f (t .maps);
+  entries = f (t .entries);
+  extensions = f (t .extensions);
+  listPrograms = f (t .listPrograms);
+  listStreams = f (t .listStreams);
+}
+
+-- what it gives for two of each
+abbrev pub zipNine : {A B C : Type 0} → (A → B → C) → Nine A → Nine B → Nine C
+zipNine f s t = record {
+  atcs = f (s .atcs) (t .atcs);
+  stcs = f (s .stcs) (t .stcs);
+  programs = f (s .programs) (t .programs);
+  streams = f (s .streams) (t .streams);
+  maps = f (s .maps) (t .maps);
+  entries = f (s .entries) (t .entries);
+  extensions = f (s .extensions) (t .extensions);
+  listPrograms = f (s .listPrograms) (t .listPrograms);
+  listStreams = f (s .listStreams) (t .listStreams);
+}
+
+-- each of nine stands in a relation to the same one of nine others
+pub record AllNine {A B : Type 0} (R : A → B → Type 0) (s : Nine A) (t : Nine B) : Type 0 where
+  pub atcs : R (s .atcs) (t .atcs)
+  pub stcs : R (s .stcs) (t .stcs)
+  pub programs : R (s .programs) (t .programs)
+  pub streams : R (s .streams) (t .streams)
+  pub maps : R (s .maps) (t .maps)
+  pub entries : R (s .entries) (t .entries)
+  pub extensions : R (s .extensions) (t .extensions)
+  pub listPrograms : R (s .listPrograms) (t .listPrograms)
+  pub listStreams : R (s .listStreams) (t .listStreams)
+
+-- the cells of a row in each table
+abbrev pub nineCells : Nine ℕ
+nineCells = record {
+  atcs = atcCells;
+  stcs = stcCells;
+  programs = programCells;
+  streams = streamCells;
+  maps = mapCells;
+  entries = entryCells;
+  extensions = extensionCells;
+  listPrograms = programCells;
+  listStreams = streamCells;
+}
+
 -- ---- tables that are given back, with the rows stated to be in each
 
 -- the bytes may reach beyond the rows stated
 pub record Table : Type 0 where
   pub bytes : List ℕ
   pub rows : ℕ
+
+-- a table with the rows stated to be in it
+abbrev pub stated : List ℕ → ℕ → Table
+stated bytes rows = record { bytes = bytes; rows = rows }
 
 -- not more rows are stated than lent, else 22
 abbrev pub isStated : ℕ → Table → Bool
@@ -151,13 +223,5 @@ pub record HoldsClip (l : ClipTables) (c : Clip) : Type 0 where
   pub entries : HoldsRows (l .entries) (c .entries)
 
 -- lent tables with room for their rows; they may be longer and hold anything
-pub record Room (rows : Nine (List Row)) (tables : Nine (List ℕ)) : Type 0 where
-  pub atcs : length (rows .atcs) ≤ rowRoom atcCells (tables .atcs)
-  pub stcs : length (rows .stcs) ≤ rowRoom stcCells (tables .stcs)
-  pub programs : length (rows .programs) ≤ rowRoom programCells (tables .programs)
-  pub streams : length (rows .streams) ≤ rowRoom streamCells (tables .streams)
-  pub maps : length (rows .maps) ≤ rowRoom mapCells (tables .maps)
-  pub entries : length (rows .entries) ≤ rowRoom entryCells (tables .entries)
-  pub extensions : length (rows .extensions) ≤ rowRoom extensionCells (tables .extensions)
-  pub listPrograms : length (rows .listPrograms) ≤ rowRoom programCells (tables .listPrograms)
-  pub listStreams : length (rows .listStreams) ≤ rowRoom streamCells (tables .listStreams)
+abbrev pub Room : Nine (List Row) → Nine (List ℕ) → Type 0
+Room rows tables = AllNine _≤_ (mapNine length rows) (zipNine rowRoom nineCells tables)

@@ -9,7 +9,7 @@ use Rattle.format.specs.ClipRecord.{Row, atcAt, stcsOf, nextAtc, atcsFrom, stcs
 use Rattle.format.specs.Programs.{programAt, streamsOf, nextProgram, programsFrom, streamsFrom, programsEnd}
 use Rattle.format.specs.Tables.{rowRoom, stcCells, streamCells}
 use Rattle.section_heads.specs.declared.Section.{Section}
-use Rattle.info_sections.specs.declared.Measured.{Measured}
+use Rattle.info_sections.specs.declared.SectionCounts.{SectionCounts}
 
 -- ---- one header row and its own rows
 
@@ -24,9 +24,9 @@ countPlace Section.Sequences p = p + 4
 countPlace Section.Programs p = p + 6
 
 -- these rows
-abbrev pub ownRows : Section → List ℕ → ℕ → List Row
-ownRows Section.Sequences f p = stcsOf f p
-ownRows Section.Programs f p = streamsOf f p
+abbrev pub groupRows : Section → List ℕ → ℕ → List Row
+groupRows Section.Sequences f p = stcsOf f p
+groupRows Section.Programs f p = streamsOf f p
 
 -- the cells of each
 abbrev pub ownCells : Section → ℕ
@@ -46,9 +46,9 @@ headsFrom Section.Sequences f start = atcsFrom f start
 headsFrom Section.Programs f start = programsFrom f start
 
 -- the rows behind them
-abbrev pub rowsFrom : Section → List ℕ → ℕ → List Row
-rowsFrom Section.Sequences f start = stcsFrom f start
-rowsFrom Section.Programs f start = streamsFrom f start
+abbrev pub sectionRows : Section → List ℕ → ℕ → List Row
+sectionRows Section.Sequences f start = stcsFrom f start
+sectionRows Section.Programs f start = streamsFrom f start
 
 -- its end
 abbrev pub sectionEnd : Section → List ℕ → ℕ → ℕ
@@ -56,11 +56,11 @@ sectionEnd Section.Sequences f start = sequencesEnd f start
 sectionEnd Section.Programs f start = programsEnd f start
 
 -- how many of both it has, where it ends within the file
-unfoldable pub measured : Section → List ℕ → ℕ → Measured
-measured section f start =
+unfoldable pub sectionMeasured : Section → List ℕ → ℕ → SectionCounts
+sectionMeasured section f start =
     pick (leb (sectionEnd section f start) (length f))
-    (Measured.Counts (length (headsFrom section f start)) (length (rowsFrom section f start)))
-    Measured.PastEnd
+    (SectionCounts.Counts (length (headsFrom section f start)) (length (sectionRows section f start)))
+    SectionCounts.PastEnd
 
 -- ---- what is asked
 
@@ -75,4 +75,4 @@ pub record GroupThere (section : Section) (f : List ℕ) (p n : ℕ) (heads : Li
 pub record Fillable (section : Section) (f : List ℕ) (start : ℕ) (heads rows : List ℕ) : Type 0 where
   pub ends : sectionEnd section f start ≤ length f
   pub heads-room : length (headsFrom section f start) ≤ rowRoom 3 heads
-  pub rows-room : length (rowsFrom section f start) ≤ rowRoom (ownCells section) rows
+  pub rows-room : length (sectionRows section f start) ≤ rowRoom (ownCells section) rows

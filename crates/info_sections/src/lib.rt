@@ -6,7 +6,7 @@ ghost use lib.Seq.{sets};
 ghost use Rattle.format.specs.Tables.{rowBytes, tableBytes, overwritten};
 ghost use Rattle.numbers.specs.Reads.{ReadIs};
 ghost use Rattle.common.specs.Reader.{movedTo};
-ghost use Rattle.info_sections.specs.Sections.{headAt, countPlace, ownRows, ownCells, nextHead, headsFrom, rowsFrom, measured, GroupThere, Fillable};
+ghost use Rattle.info_sections.specs.Sections.{headAt, countPlace, groupRows, ownCells, nextHead, headsFrom, sectionRows, sectionMeasured, GroupThere, Fillable};
 use common::reader::Moved;
 use common::reader::Number;
 use common::reader::Reader;
@@ -21,7 +21,7 @@ use sequence_info::put_stcs;
 use sequence_info::skip_atc;
 
 // How many header rows the section has and how many rows behind them, or that it passes the file's end.
-pub enum Measured {
+pub enum SectionCounts {
     Counts { heads: usize, rows: usize },
     PastEnd,
 }
@@ -58,11 +58,11 @@ fn row_size(section: Section) -> usize
 }
 
 // Pass 1: the section's counts, for every file and every start.
-pub fn measure(section: Section, file: &[u8], start: usize) -> Measured
-    ensures { λ r. ⌜ r ≡ measured section (now (file .entry)) start ⌝ }
+pub fn measure(section: Section, file: &[u8], start: usize) -> SectionCounts
+    ensures { λ r. ⌜ r ≡ sectionMeasured section (now (file .entry)) start ⌝ }
 {
     let Number::Read(count, first) = read_count(file, Reader { pos: start }, 5) else {
-        return Measured::PastEnd;
+        return SectionCounts::PastEnd;
     };
     let heads = count as usize;
     let mut pos = first.pos;
@@ -70,13 +70,13 @@ pub fn measure(section: Section, file: &[u8], start: usize) -> Measured
     let mut k: usize = 0;
     while k < heads {
         let Moved::At(next) = skip_group(section, file, Reader { pos }) else {
-            return Measured::PastEnd;
+            return SectionCounts::PastEnd;
         };
         rows += own_count(section, file, pos) as usize;
         pos = next.pos;
         k += 1;
     }
-    Measured::Counts { heads, rows }
+    SectionCounts::Counts { heads, rows }
 }
 
 // The header row at p, from byte `at` of its table, and the n rows behind it, from byte `to` of theirs; answers where these end.
@@ -93,7 +93,7 @@ fn put_group(
     requires { ⌜ GroupThere section (now file) p n (now heads) at (now rows) to ⌝ }
     ensures { λ r. ⌜ r ≡ nextHead section (now (file .entry)) p ⌝ }
     ensures { λ _. ⌜ now (heads .exit) ≡ sets (now (heads .entry)) at (rowBytes (headAt section (now (file .entry)) p)) ⌝ }
-    ensures { λ _. ⌜ now (rows .exit) ≡ sets (now (rows .entry)) to (tableBytes (ownRows section (now (file .entry)) p)) ⌝ }
+    ensures { λ _. ⌜ now (rows .exit) ≡ sets (now (rows .entry)) to (tableBytes (groupRows section (now (file .entry)) p)) ⌝ }
 {
     match section {
         Section::Sequences => {
@@ -111,7 +111,7 @@ fn put_group(
 pub fn fill(section: Section, file: &[u8], start: usize, heads: &mut [u8], rows: &mut [u8])
     requires { ⌜ Fillable section (now file) start (now heads) (now rows) ⌝ }
     ensures { λ _. ⌜ now (heads .exit) ≡ overwritten (tableBytes (headsFrom section (now (file .entry)) start)) (now (heads .entry)) ⌝ }
-    ensures { λ _. ⌜ now (rows .exit) ≡ overwritten (tableBytes (rowsFrom section (now (file .entry)) start)) (now (rows .entry)) ⌝ }
+    ensures { λ _. ⌜ now (rows .exit) ≡ overwritten (tableBytes (sectionRows section (now (file .entry)) start)) (now (rows .entry)) ⌝ }
 {
     let count = u8_at(file, start + 5) as usize;
     let step = row_size(section);

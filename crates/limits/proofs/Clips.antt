@@ -11,8 +11,8 @@ use Rattle.format.specs.ClipRecord.{atcStcCount, streamCount, entryCount, entry
 use Rattle.format.specs.Refusals.{scalarsFit, cellsFit, allStated, countsAdd}
 use Rattle.format.specs.Tables.{ClipTables, isStated, addUp, rowsOf, clipIn, tableRows, rowRoom, atcCells, stcCells, programCells, streamCells, mapCells}
 use Rattle.table_rows.specs.OwnRows.{isCounted}
-use Rattle.row_limits.specs.Kinds.{cellsOf, fitsBy}
-use Rattle.row_limits.specs.declared.Kind.{Kind}
+use Rattle.row_limits.specs.Kinds.{tableCells, fitsBy}
+use Rattle.row_limits.specs.declared.TableKind.{TableKind}
 use Rattle.limits.specs.Clips.{entriesFit, headsFit, groupsFit, tablesFit}
 use Rattle.format.proofs.Cell.{rows-room}
 use Rattle.format.proofs.Tables.{rows-stated}
@@ -30,18 +30,18 @@ then-second x y {a} is h then = rw (← is, not-false a h) then
 
 -- ---- the rows of a table
 
-module _ (kind : Kind) (t : List ℕ) (n : ℕ) where
+module _ (kind : TableKind) (t : List ℕ) (n : ℕ) where
   -- rows that are stated and there
-  pub table-room : n ≤ rowRoom (cellsOf kind) t → 0 + n * (4 * cellsOf kind) ≤ length t
-  table-room h = omega (arith, rows-room (cellsOf kind) t h)
+  pub table-room : n ≤ rowRoom (tableCells kind) t → 0 + n * (4 * tableCells kind) ≤ length t
+  table-room h = omega (arith, rows-room (tableCells kind) t h)
 
   -- too many
-  pub too-many : 255 < n → false ≡ headsFit kind (tableRows (cellsOf kind) t n)
-  too-many h = rw (rows-stated (cellsOf kind) t n, lt-leb n 255 h)
+  pub too-many : 255 < n → false ≡ headsFit kind (tableRows (tableCells kind) t n)
+  too-many h = rw (rows-stated (tableCells kind) t n, lt-leb n 255 h)
 
   -- few enough
-  pub few : {b : Bool} → n ≤ 255 → b ≡ every (fitsBy kind) (tableRows (cellsOf kind) t n) → b ≡ headsFit kind (tableRows (cellsOf kind) t n)
-  few h is = rw (rows-stated (cellsOf kind) t n, le-leb n 255 h) is
+  pub few : {b : Bool} → n ≤ 255 → b ≡ every (fitsBy kind) (tableRows (tableCells kind) t n) → b ≡ headsFit kind (tableRows (tableCells kind) t n)
+  few h is = rw (rows-stated (tableCells kind) t n, le-leb n 255 h) is
 
 -- ---- the record
 
@@ -57,13 +57,13 @@ fields-and-entries l = simp both-assoc
 module _ (l : ClipTables) where
   -- the sequences, the programs, the maps, and all of them
   abbrev pub sequencesOf : Bool
-  sequencesOf = groupsFit Kind.Atc Kind.Stc (rowsOf atcCells (l .atcs)) (rowsOf stcCells (l .stcs))
+  sequencesOf = groupsFit TableKind.Atc TableKind.Stc (rowsOf atcCells (l .atcs)) (rowsOf stcCells (l .stcs))
 
   abbrev pub programsOf : Bool
-  programsOf = groupsFit Kind.Program Kind.Stream (rowsOf programCells (l .programs)) (rowsOf streamCells (l .streams))
+  programsOf = groupsFit TableKind.Program TableKind.Stream (rowsOf programCells (l .programs)) (rowsOf streamCells (l .streams))
 
   abbrev pub mapsOf : Bool
-  mapsOf = headsFit Kind.Map (rowsOf mapCells (l .maps))
+  mapsOf = headsFit TableKind.Map (rowsOf mapCells (l .maps))
 
   abbrev pub allOf : Bool
   allOf = tablesFit (l .atcs) (l .stcs) (l .programs) (l .streams) (l .maps)

@@ -2,8 +2,8 @@
 use Prim.Native.Nat.{ℕ}
 use mathlib.Core.List.{List}
 use Rattle.format.specs.ClipRecord.{Scalars}
-use Rattle.format.specs.Tables.{ClipTables}
-use Rattle.queries.specs.Asked.{stated, tablesWith}
+use Rattle.format.specs.Tables.{ClipTables, stated}
+use Rattle.queries.specs.Asked.{tablesWith}
 use Rattle.limits.specs.declared.tables.StatedRows.{StatedRows}
 
 -- scalars, and six tables with their stated rows

@@ -2,12 +2,11 @@
 ghost use mathlib.Core.Path.{_≡_};
 ghost use Prim.Native.Nat.{_≤_};
 ghost use Rattle.format.specs.Bytes.{every};
-ghost use Rattle.format.specs.Tables.{tableRows, rowRoom, atcCells, stcCells, programCells, streamCells, mapCells};
-ghost use Rattle.queries.specs.Asked.{stated};
-ghost use Rattle.row_limits.specs.Kinds.{cellsOf, fitsBy};
+ghost use Rattle.format.specs.Tables.{tableRows, rowRoom, atcCells, stcCells, programCells, streamCells, mapCells, stated};
+ghost use Rattle.row_limits.specs.Kinds.{tableCells, fitsBy};
 ghost use Rattle.limits.specs.Clips.{headsFit, groupsFit, tablesFit};
 use crate::rows::rows_fit;
-use row_limits::Kind;
+use row_limits::TableKind;
 
 // The most ATCs, programs or maps.
 const MOST: u32 = 255;
@@ -23,17 +22,17 @@ pub struct StatedRows {
 }
 
 // Whether every row of a table fits.
-fn table_fits(t: &[u8], rows: u32, kind: Kind) -> bool
-    requires { ⌜ rows ≤ rowRoom (cellsOf kind) (now t) ⌝ }
-    ensures { λ r. ⌜ r ≡ every (fitsBy kind) (tableRows (cellsOf kind) (now (t .entry)) rows) ⌝ }
+fn table_fits(t: &[u8], rows: u32, kind: TableKind) -> bool
+    requires { ⌜ rows ≤ rowRoom (tableCells kind) (now t) ⌝ }
+    ensures { λ r. ⌜ r ≡ every (fitsBy kind) (tableRows (tableCells kind) (now (t .entry)) rows) ⌝ }
 {
     rows_fit(t, 0, rows as usize, kind)
 }
 
 // Whether rows with a count are few enough, and every one fits.
-fn heads_fit(t: &[u8], rows: u32, kind: Kind) -> bool
-    requires { ⌜ rows ≤ rowRoom (cellsOf kind) (now t) ⌝ }
-    ensures { λ r. ⌜ r ≡ headsFit kind (tableRows (cellsOf kind) (now (t .entry)) rows) ⌝ }
+fn heads_fit(t: &[u8], rows: u32, kind: TableKind) -> bool
+    requires { ⌜ rows ≤ rowRoom (tableCells kind) (now t) ⌝ }
+    ensures { λ r. ⌜ r ≡ headsFit kind (tableRows (tableCells kind) (now (t .entry)) rows) ⌝ }
 {
     if rows > MOST {
         return false;
@@ -45,13 +44,13 @@ fn heads_fit(t: &[u8], rows: u32, kind: Kind) -> bool
 fn groups_fit(
     heads: &[u8],
     head_rows: u32,
-    head: Kind,
+    head: TableKind,
     rows: &[u8],
     row_rows: u32,
-    row: Kind,
+    row: TableKind,
 ) -> bool
-    requires { ⌜ («head_rows» ≤ rowRoom (cellsOf head) (now heads)) × («row_rows» ≤ rowRoom (cellsOf row) (now rows)) ⌝ }
-    ensures { λ r. ⌜ r ≡ groupsFit head row (tableRows (cellsOf head) (now (heads .entry)) «head_rows») (tableRows (cellsOf row) (now (rows .entry)) «row_rows») ⌝ }
+    requires { ⌜ («head_rows» ≤ rowRoom (tableCells head) (now heads)) × («row_rows» ≤ rowRoom (tableCells row) (now rows)) ⌝ }
+    ensures { λ r. ⌜ r ≡ groupsFit head row (tableRows (tableCells head) (now (heads .entry)) «head_rows») (tableRows (tableCells row) (now (rows .entry)) «row_rows») ⌝ }
 {
     if !heads_fit(heads, head_rows, head) {
         return false;
@@ -73,18 +72,25 @@ pub fn cells_fit(
     requires maps { ⌜ rows .maps ≤ rowRoom mapCells (now maps) ⌝ }
     ensures { λ r. ⌜ r ≡ tablesFit (stated (now (atcs .entry)) (rows .atcs)) (stated (now (stcs .entry)) (rows .stcs)) (stated (now (programs .entry)) (rows .programs)) (stated (now (streams .entry)) (rows .streams)) (stated (now (maps .entry)) (rows .maps)) ⌝ }
 {
-    if !groups_fit(atcs, rows.atcs, Kind::Atc, stcs, rows.stcs, Kind::Stc) {
+    if !groups_fit(
+        atcs,
+        rows.atcs,
+        TableKind::Atc,
+        stcs,
+        rows.stcs,
+        TableKind::Stc,
+    ) {
         return false;
     }
     if !groups_fit(
         programs,
         rows.programs,
-        Kind::Program,
+        TableKind::Program,
         streams,
         rows.streams,
-        Kind::Stream,
+        TableKind::Stream,
     ) {
         return false;
     }
-    heads_fit(maps, rows.maps, Kind::Map)
+    heads_fit(maps, rows.maps, TableKind::Map)
 }

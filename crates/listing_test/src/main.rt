@@ -1,5 +1,8 @@
 // Prints the listing of each file that its arguments name, each behind a line with the file's name.
 use libc::STDOUT_FILENO;
+use listing_io::INPUT;
+use listing_io::TEXT;
+use listing_io::list_input;
 
 // The name of a file, and its listing.
 fn list_file(path: &[u8]) {
@@ -11,7 +14,9 @@ fn list_file(path: &[u8]) {
         os::fail(path);
         return;
     }
-    listing_io::list_input(fd, path);
+    let mut input = [0; INPUT];
+    let mut text = [0; TEXT];
+    list_input(fd, path, &mut input, &mut text);
     libc::close(fd);
 }
 

@@ -5,7 +5,7 @@ ghost use Rattle.nearest.specs.Nearest.{distanceTo, noneYet, closerAt, c
 use queries::Found;
 
 // Farther than any time of 64 bits is from one that is asked for. A time after that one counts from 0, so that the distance of no time is this number.
-pub const FAR: u64 = 18446744073709551615;
+const FAR: u64 = 18446744073709551615;
 
 // How far a time is from the one asked for: before it or at it; or after it, where the very next is at 0. A time on the other side is far.
 fn distance(is_after: bool, at: u64, time: u64) -> u64
@@ -40,7 +40,7 @@ pub fn none_yet() -> Nearest
 }
 
 // The nearest so far, or row k at distance d where that is nearer.
-pub fn closer(so_far: Nearest, k: usize, d: u64) -> Nearest
+fn closer(so_far: Nearest, k: usize, d: u64) -> Nearest
     ensures { λ r. ⌜ r ≡ closerAt «so_far» k d ⌝ }
 {
     if d < so_far.distance {

@@ -1,9 +1,9 @@
 // Questions about the programs and their streams: the first in file order, and the next.
 ghost use mathlib.Core.Path.{_≡_};
 ghost use Rattle.format.specs.Questions.{ask, streamByPid, primaryVideoPid, programByPmtPid, nextVideoStream, nextAudioStream};
-ghost use Rattle.format.specs.Tables.{streamCells};
+ghost use Rattle.format.specs.Tables.{streamCells, stated};
 ghost use Rattle.queries.specs.Answers.{foundOf};
-ghost use Rattle.queries.specs.Asked.{stated, onlyPrograms, onlyStreams};
+ghost use Rattle.queries.specs.Asked.{onlyPrograms, onlyStreams};
 ghost use Rattle.table_rows.specs.OwnRows.{ownedOf, ownedRows};
 use cells::cell_at;
 use queries::Found;

@@ -1,12 +1,8 @@
 -- The tables that a question is lent: those that it looks at, and nothing else.
 use Prim.Native.Nat.{ℕ}
-use mathlib.Core.List.{List, []}
+use mathlib.Core.List.{[]}
 use Rattle.format.specs.ClipRecord.{Scalars}
-use Rattle.format.specs.Tables.{Table, ClipTables}
-
--- a table with the rows stated to be in it
-abbrev pub stated : List ℕ → ℕ → Table
-stated bytes rows = record { bytes = bytes; rows = rows }
+use Rattle.format.specs.Tables.{Table, stated, ClipTables}
 
 -- nothing
 abbrev pub noTable : Table

@@ -6,7 +6,7 @@ use Rattle.queries.specs.Answers.{foundOf, time45Of, time90Of}
 use Rattle.queries.specs.declared.Found.{Found}
 use Rattle.queries.specs.declared.Time45.{Time45}
 use Rattle.queries.specs.declared.Time90.{Time90}
-use Rattle.clip_info_queries.specs.Durations.{durationOf}
+use Rattle.clip_info_queries.specs.Durations.{transferOf}
 use Rattle.clip_info_queries.specs.declared.Duration.{Duration}
 use Rattle.table_rows.specs.OwnRows.{Owned, refusal, owns, ownedOf}
 use Rattle.table_rows.specs.declared.own.Own.{Own}
@@ -90,12 +90,12 @@ durationIn (seconds q) = Duration.Seconds q
 durationIn noRate = Duration.NoRate
 
 -- either comes back from its reading
-duration-returns : (x : Duration) → durationIn (durationOf x) ≡ x
+duration-returns : (x : Duration) → durationIn (transferOf x) ≡ x
 duration-returns (Duration.Seconds q) = refl
 duration-returns Duration.NoRate = refl
 
 -- so a duration is read without loss
-pub duration : Reading durationOf
+pub duration : Reading transferOf
 duration = record { back = durationIn; returns = duration-returns }
 
 -- a number alone

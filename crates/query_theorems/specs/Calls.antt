@@ -4,8 +4,7 @@ use mathlib.Core.Path.{_≡_}
 use mathlib.Core.List.{List}
 use denote.Ref.{RefT, now}
 use Rattle.format.specs.ClipRecord.{Row}
-use Rattle.format.specs.Tables.{Table, HoldsRows}
-use Rattle.queries.specs.Asked.{stated}
+use Rattle.format.specs.Tables.{Table, HoldsRows, stated}
 
 -- a call of a function, of which `Post` is what its own `ensures` claims: any lifetimes, arguments, result and values at exit of which the claim holds
 pub record Call {L : Type 0} {A R E : L → Type 0} (Post : (κs : L) → A κs → R κs → E κs → Type 0) : Type 0 where

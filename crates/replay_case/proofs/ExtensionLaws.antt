@@ -11,13 +11,12 @@ use lib.Dec.{lit<}
 use borrow.Author.Tests.{le-leb, lt-ltb, leb-true}
 use Rattle.format.specs.Bytes.{IsBytes, part}
 use Rattle.format.specs.ClipRecord.{Row}
-use Rattle.format.specs.Tables.{cellBytes, rowRoom, rowsOf, tableRows, extensionCells}
+use Rattle.format.specs.Tables.{cellBytes, rowRoom, rowsOf, tableRows, extensionCells, stated}
 use Rattle.format.specs.Extensions.{firstId, secondId, dataStart, dataLength, dataOf, extensionOf}
 use Rattle.format.specs.Refusals.{extensionRow, dataRefusal, dataAsked}
 use Rattle.format.proofs.Cell.{cell-of, cell-room}
 use Rattle.format.proofs.Loops.{flat-append}
 use Rattle.format.proofs.Rows.{rows-length}
-use Rattle.extension_entry.specs.Part.{tableOf}
 use Rattle.replay_bytes.specs.Parts.{noPlace, behind, behindPart}
 use Rattle.replay_case.specs.Expected.{extensionBytes}
 use Rattle.replay_case.specs.Places.{extensionsBytes, DataInside}
@@ -25,10 +24,10 @@ use Rattle.replay_bytes.proofs.PartLaws.{behind-append, stands, part-inside, ce
 
 -- ---- one row
 
-module _ (f t : List ℕ) (bytes : IsBytes t) (n k : ℕ) (holds : DataInside f (tableOf t n)) (row : k < n) where
+module _ (f t : List ℕ) (bytes : IsBytes t) (n k : ℕ) (holds : DataInside f (stated t n)) (row : k < n) where
   -- the row
   abbrev e : Row
-  e = extensionRow (tableOf t n) k
+  e = extensionRow (stated t n) k
 
   -- its cells lie inside the table
   room : (j : ℕ) → j < 4 → 16 * k + 4 * j + 4 ≤ length t
@@ -48,7 +47,7 @@ module _ (f t : List ℕ) (bytes : IsBytes t) (n k : ℕ) (holds : DataInside f 
       take-add 4 4 (drop (16 * k) t) ∙ rw (drop-drop 4 (16 * k) t, first, second)
 
   -- the data that is asked for is the row's
-  data-is : dataAsked f (tableOf t n) k ≡ dataOf f e
+  data-is : dataAsked f (stated t n) k ≡ dataOf f e
   unfolding dataAsked dataRefusal
   data-is = rw (le-leb n (rowRoom extensionCells t) (holds .stated), lt-ltb k n row, holds .inside k row)
 
@@ -60,7 +59,7 @@ module _ (f t : List ℕ) (bytes : IsBytes t) (n k : ℕ) (holds : DataInside f 
 
   -- what is passed is the extension
   pub one-extension : (a : List ℕ) (at : ℕ) {p q r : ℕ} {d : List ℕ} → length a < noPlace → p ≡ behindPart a at t (16 * k) 8
-      → q ≡ behindPart a p t (16 * k + 12) 4 → d ≡ dataAsked f (tableOf t n) k → r ≡ behindPart a q d 0 (length d)
+      → q ≡ behindPart a p t (16 * k + 12) 4 → d ≡ dataAsked f (stated t n) k → r ≡ behindPart a q d 0 (length d)
       → r ≡ behind a at (extensionBytes (extensionOf f e))
   one-extension a at {p} {q} {r} {d} small e1 e2 ed e3 =
       let both-ids = cellBytes (firstId e) ++ cellBytes (secondId e) in
@@ -82,7 +81,7 @@ module _ (f t : List ℕ) (bytes : IsBytes t) (n k : ℕ) (holds : DataInside f 
 module _ (a : List ℕ) (at : ℕ) (f t : List ℕ) (n : ℕ) where
   -- the rows
   abbrev rows : List Row
-  rows = rowsOf extensionCells (tableOf t n)
+  rows = rowsOf extensionCells (stated t n)
 
   -- there are so many
   count : length rows ≡ n
@@ -99,7 +98,7 @@ module _ (a : List ℕ) (at : ℕ) (f t : List ℕ) (n : ℕ) where
   none-passed h = record { turns = omega arith; place = sym (stands a at [] h refl ∙ add-zero at) }
 
   -- past one more
-  pub one-passed : {p k r : ℕ} → length a < noPlace → k < n → Passed p k → r ≡ behind a p (extensionBytes (extensionOf f (extensionRow (tableOf t n) k)))
+  pub one-passed : {p k r : ℕ} → length a < noPlace → k < n → Passed p k → r ≡ behind a p (extensionBytes (extensionOf f (extensionRow (stated t n) k)))
       → Passed r (k + 1)
   one-passed {p} {k} {r} small h s e =
       let x = extensionBytes (extensionOf f (getD rows k [])) in

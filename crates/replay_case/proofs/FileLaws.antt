@@ -15,7 +15,7 @@ use Rattle.format.specs.Programs.{programAt, nextStream, streamAt, streamsOf, n
 use Rattle.format.specs.Extensions.{Found, nothing, found, blockEnd, addressAt, dataLengthAt, nextExtension, extensionAt, isKept, keptAt, hasExtensions, extensionCount, extensionRows, extensionsFrom, extensionOf, dataIn, listData, listIn, listProgramsOf, listStreamsOf}
 use Rattle.format.specs.Reading.{clipOf, recordOf}
 use Rattle.format.specs.Refusals.{ReadAnswer, refused, tooShort, accepted, Stated, refusalOf, tablesOf, statedOf, tablesAnswer, readAnswer, readNumbers, tableBy, tablesAfter}
-use Rattle.format.specs.Tables.{Nine, rowBytes, tableBytes, overwritten, rowRoom, rowsOf, atcCells, stcCells, programCells, streamCells, mapCells, extensionCells}
+use Rattle.format.specs.Tables.{Nine, rowBytes, tableBytes, overwritten, rowRoom, rowsOf, atcCells, stcCells, programCells, streamCells, mapCells, extensionCells, stated}
 use Rattle.format.proofs.Tests.{both-true, picked, passed}
 use Rattle.format.proofs.Lists.{All, none, more, all-map, all-at}
 use Rattle.format.proofs.Rows.{rows-all, gather-all}
@@ -25,7 +25,6 @@ use Rattle.format.proofs.Tables.{Cells, table-back, table-room}
 use Rattle.format.proofs.ClipTables.{Shaped, shaped}
 use Rattle.format.proofs.Read.{good-clip}
 use Rattle.format.proofs.Listing.{accepted-is}
-use Rattle.extension_entry.specs.Part.{tableOf}
 use Rattle.clpi_reading.specs.declared.ClpiReading.{ClpiReading}
 use Rattle.clpi_reading.specs.Numbers.{readingNumbers}
 use Rattle.replay_bytes.specs.Parts.{startsWith, sameBytes, noPlace, behind}
@@ -267,13 +266,13 @@ module _ (f : List ℕ) (bytes : IsBytes f) (r : ClpiReading) (t : Nine (List �
   extensions-count = number-is 17
 
   -- so it holds its rows
-  extensions-back : rowsOf extensionCells (tableOf (t .extensions) (r .extensions)) ≡ rows .extensions
+  extensions-back : rowsOf extensionCells (stated (t .extensions) (r .extensions)) ≡ rows .extensions
   extensions-back =
       let new = tableBytes (rows .extensions) in
       rw (extensions-are, extensions-count) (table-back extensionCells (all-map (λ row k. k .cells) kept) (drop (length new) (sampleTables .extensions)))
 
   -- so the data of each can be had
-  pub extensions-held : DataInside f (tableOf (t .extensions) (r .extensions))
+  pub extensions-held : DataInside f (stated (t .extensions) (r .extensions))
   extensions-held =
       let new = tableBytes (rows .extensions) in
       record {
@@ -284,7 +283,7 @@ module _ (f : List ℕ) (bytes : IsBytes f) (r : ClpiReading) (t : Nine (List �
       }
 
   -- the bytes of the record's extensions
-  extensions-bytes : extensionsBytes f (rowsOf extensionCells (tableOf (t .extensions) (r .extensions))) ≡ flat extensionBytes (recordOf f .extensions)
+  extensions-bytes : extensionsBytes f (rowsOf extensionCells (stated (t .extensions) (r .extensions))) ≡ flat extensionBytes (recordOf f .extensions)
   unfolding tablesOf recordOf extensionsFrom
   extensions-bytes = rw extensions-back (flat-map extensionBytes (extensionOf f) (extensionRows f (extensionsStart f)))
 
@@ -359,7 +358,7 @@ module _ (f : List ℕ) (bytes : IsBytes f) (r : ClpiReading) (t : Nine (List �
     -- the place where the passing ends tells whether the answer is the whole
     pub file-same : {p q z : ℕ} → p ≡ behindStreams a r (t .atcs) (t .stcs) (t .programs) (t .streams)
         → q ≡ behindLists a p r (t .maps) (t .entries) (t .listPrograms) (t .listStreams)
-        → z ≡ behind a q (extensionsBytes f (rowsOf extensionCells (tableOf (t .extensions) (r .extensions))))
+        → z ≡ behind a q (extensionsBytes f (rowsOf extensionCells (stated (t .extensions) (r .extensions))))
         → eqb z (length a) ≡ sameBytes (expected f) a
     file-same {p} {q} {z} e1 e2 e3 =
         let first : p ≡ p4 = e1 ∙ rw (atcs-behind a p0, stcs-behind a p1, programs-behind a p2, streams-behind a p3) in

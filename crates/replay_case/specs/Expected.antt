@@ -3,9 +3,9 @@ use Prim.Native.Nat.{ℕ, _*_}
 use mathlib.Core.List.{List, [], _∷_, _++_}
 use lib.ListN.{length, replicate}
 use Rattle.format.specs.Bytes.{flat}
-use Rattle.format.specs.ClipRecord.{Extension, Record, entryCells}
+use Rattle.format.specs.ClipRecord.{Extension, Record}
 use Rattle.format.specs.Reading.{recordOf}
-use Rattle.format.specs.Tables.{Nine, rowBytes, tableBytes, atcCells, stcCells, programCells, streamCells, mapCells, extensionCells}
+use Rattle.format.specs.Tables.{Nine, mapNine, nineCells, rowBytes, tableBytes}
 use Rattle.format.specs.Refusals.{ReadAnswer, refused, tooShort, accepted, readAnswer, readNumbers}
 
 -- ---- the tables that a sample's files are read into
@@ -16,17 +16,7 @@ rows256 cells = replicate (256 * (4 * cells)) 0
 
 -- all nine
 unfoldable pub sampleTables : Nine (List ℕ)
-sampleTables = record {
-  atcs = rows256 atcCells;
-  stcs = rows256 stcCells;
-  programs = rows256 programCells;
-  streams = rows256 streamCells;
-  maps = rows256 mapCells;
-  entries = rows256 entryCells;
-  extensions = rows256 extensionCells;
-  listPrograms = rows256 programCells;
-  listStreams = rows256 streamCells;
-}
+sampleTables = mapNine rows256 nineCells
 
 -- ---- the answer
 

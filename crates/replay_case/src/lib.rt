@@ -4,8 +4,7 @@ ghost use Prim.Native.Nat.{_<_};
 ghost use Rattle.format.specs.Extensions.{extensionOf};
 ghost use Rattle.format.specs.Refusals.{extensionRow};
 ghost use Rattle.format.specs.ClipRecord.{entryCells};
-ghost use Rattle.format.specs.Tables.{rowBytes, rowsOf, extensionCells};
-ghost use Rattle.extension_entry.specs.Part.{tableOf};
+ghost use Rattle.format.specs.Tables.{rowBytes, rowsOf, extensionCells, stated};
 ghost use Rattle.clpi_reading.specs.Numbers.{readingNumbers};
 ghost use Rattle.replay_bytes.specs.Parts.{sameBytes, behind};
 ghost use Rattle.replay_case.specs.Expected.{extensionBytes, expected};
@@ -49,8 +48,8 @@ fn pass_reading(answer: &[u8], r: ClpiReading) -> usize
 
 // The place behind one extension: its ids, its length and its data.
 fn pass_extension(answer: &[u8], at: usize, file: &[u8], table: &[u8], rows: u32, row: u32) -> usize
-    requires { ⌜ (DataInside (now file) (tableOf (now table) rows)) × (row < rows) ⌝ }
-    ensures { λ r. ⌜ r ≡ behind (now (answer .entry)) at (extensionBytes (extensionOf (now (file .entry)) (extensionRow (tableOf (now (table .entry)) rows) row))) ⌝ }
+    requires { ⌜ (DataInside (now file) (stated (now table) rows)) × (row < rows) ⌝ }
+    ensures { λ r. ⌜ r ≡ behind (now (answer .entry)) at (extensionBytes (extensionOf (now (file .entry)) (extensionRow (stated (now (table .entry)) rows) row))) ⌝ }
 {
     let from = 16 * (row as usize);
     let ids = pass(answer, at, table, from, 8);
@@ -61,8 +60,8 @@ fn pass_extension(answer: &[u8], at: usize, file: &[u8], table: &[u8], rows: u32
 
 // The place behind all extensions.
 fn pass_extensions(answer: &[u8], at: usize, file: &[u8], table: &[u8], rows: u32) -> usize
-    requires { ⌜ DataInside (now file) (tableOf (now table) rows) ⌝ }
-    ensures { λ r. ⌜ r ≡ behind (now (answer .entry)) at (extensionsBytes (now (file .entry)) (rowsOf extensionCells (tableOf (now (table .entry)) rows))) ⌝ }
+    requires { ⌜ DataInside (now file) (stated (now table) rows) ⌝ }
+    ensures { λ r. ⌜ r ≡ behind (now (answer .entry)) at (extensionsBytes (now (file .entry)) (rowsOf extensionCells (stated (now (table .entry)) rows))) ⌝ }
 {
     if at > answer.len() {
         return DIFFERENT;

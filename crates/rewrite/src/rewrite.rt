@@ -5,7 +5,7 @@ ghost use lib.Seq.{sets};
 ghost use Rattle.format.specs.Refusals.{outputBy};
 ghost use Rattle.format.specs.Reading.{clipOf};
 ghost use Rattle.format.specs.Rewriting.{encode};
-ghost use Rattle.encode.specs.Writing.{answerOf};
+ghost use Rattle.encode.specs.Writing.{writeAnswerOf};
 ghost use Rattle.rewrite.specs.Rewrite.{Ready, rewriteAnswer, lengthAnswer, lengthOf};
 use crate::measure::Planned;
 use crate::measure::plan;
@@ -80,8 +80,8 @@ fn put_sections(
 
 // Rewrites a file into the output; a refusal leaves it as it was.
 pub fn rewrite(file: &[u8], out: &mut [u8]) -> Answer
-    ensures { λ r. ⌜ answerOf r ≡ rewriteAnswer (now (file .entry)) (now (out .entry)) ⌝ }
-    ensures { λ r. ⌜ now (out .exit) ≡ outputBy (answerOf r) (encode (clipOf (now (file .entry)))) (now (out .entry)) ⌝ }
+    ensures { λ r. ⌜ writeAnswerOf r ≡ rewriteAnswer (now (file .entry)) (now (out .entry)) ⌝ }
+    ensures { λ r. ⌜ now (out .exit) ≡ outputBy (writeAnswerOf r) (encode (clipOf (now (file .entry)))) (now (out .entry)) ⌝ }
 {
     match plan(file) {
         Planned::Refused(n) => Answer::Refused(n),

@@ -42,14 +42,14 @@ none-size (m ∷ ms) es z = absurd (omega arith)
 
 module _ (f : List ℕ) (c count : ℕ) where
   -- no map before map k has too many runs, and they are measured
-  pub record Measured (len k : ℕ) : Type 0 where
+  pub record MeasuredBefore (len k : ℕ) : Type 0 where
     pub left : Left f c count k
     pub small : len ≤ 8 + 12 * count + 1572856 * k
     pub fits : everyMap fewRuns (mapsLeft f c count k) (entriesLeft f c count k) ≡ everyMap fewRuns (mapsFrom f c) (entriesFrom f c)
     pub rest : len + length (bodies (mapsLeft f c count k) (entriesLeft f c count k)) ≡ 8 + 12 * count + length (bodies (mapsFrom f c) (entriesFrom f c))
 
   -- before the first turn
-  pub measured-first : CpiSection f c count → Measured (8 + 12 * count) 0
+  pub measured-first : CpiSection f c count → MeasuredBefore (8 + 12 * count) 0
   measured-first s = record {
     left = left-first f c count s;
     small = omega arith;
@@ -57,13 +57,13 @@ module _ (f : List ℕ) (c count : ℕ) where
     rest = rw (maps-all f c count (s .counted), entries-all f c count (s .counted));
   }
 
-  module _ (len k : ℕ) (i : Measured len k) (h : k < count) {r : ℕ} (m : MapBody) (e : m ≡ bodyOf f c (headAt f c count k)) (is : r ≡ runs (entriesIn f m)) where
+  module _ (len k : ℕ) (i : MeasuredBefore len k) (h : k < count) {r : ℕ} (m : MapBody) (e : m ≡ bodyOf f c (headAt f c count k)) (is : r ≡ runs (entriesIn f m)) where
     -- its runs
     runs-are : r ≡ runs (entriesOf f c (headAt f c count k))
     runs-are = own-runs f c (headAt f c count k) m e is
 
     -- the map has not too many runs
-    pub measured-turn : r ≤ 65535 → Measured (len + (4 + 8 * r + 4 * m .«num_fine»)) (k + 1)
+    pub measured-turn : r ≤ 65535 → MeasuredBefore (len + (4 + 8 * r + 4 * m .«num_fine»)) (k + 1)
     measured-turn few =
         let own = entriesOf f c (headAt f c count k) in
         let later = bodies (mapsLeft f c count (k + 1)) (entriesLeft f c count (k + 1)) in
@@ -84,7 +84,7 @@ module _ (f : List ℕ) (c count : ℕ) where
         rw (← i .fits, every-turn f c count k h fewRuns, fails)
 
   -- all are measured
-  pub measured-done : (len k : ℕ) → CpiSection f c count → Measured len k → count ≤ k → (count ≡ 0 → ⊥) → Length.Bytes len ≡ cpiLengthOf (mapsFrom f c) (entriesFrom f c)
+  pub measured-done : (len k : ℕ) → CpiSection f c count → MeasuredBefore len k → count ≤ k → (count ≡ 0 → ⊥) → Length.Bytes len ≡ cpiLengthOf (mapsFrom f c) (entriesFrom f c)
   unfolding cpiLengthOf
   measured-done len k s i h some =
       let passes : everyMap fewRuns (mapsFrom f c) (entriesFrom f c) ≡ true = sym (i .fits) ∙ rw (maps-done f c count k h) in

@@ -11,8 +11,8 @@ use numbers::u8_at;
 use numbers::u16_at;
 use numbers::u32_at;
 use row_bytes::put_row;
-use row_values::Kind;
 use row_values::Row;
+use row_values::RowKind;
 use row_values::row_length;
 use stream_coding_info::stream_at;
 
@@ -54,7 +54,7 @@ fn measure_streams(file: &[u8], p: usize, n: usize, at: usize) -> Places
     let mut to = at;
     let mut k: usize = 0;
     while k < n {
-        to += row_length(Kind::Stream, stream_row(file, q));
+        to += row_length(RowKind::Stream, stream_row(file, q));
         q = next_stream(file, q);
         k += 1;
     }
@@ -94,7 +94,7 @@ fn put_streams(file: &[u8], p: usize, n: usize, out: &mut [u8], at: usize) -> Pl
     let mut to = at;
     let mut k: usize = 0;
     while k < n {
-        to = put_row(Kind::Stream, stream_row(file, q), out, to);
+        to = put_row(RowKind::Stream, stream_row(file, q), out, to);
         q = next_stream(file, q);
         k += 1;
     }
@@ -108,7 +108,7 @@ pub fn put_program(file: &[u8], p: usize, out: &mut [u8], at: usize) -> Places
     ensures { λ _. ⌜ now (out .exit) ≡ sets (now (out .entry)) at (newProgram (now (file .entry)) p) ⌝ }
 {
     let row = program_row(file, p);
-    let to = put_row(Kind::Program, row, out, at);
+    let to = put_row(RowKind::Program, row, out, at);
     let num_streams = u8_at(file, p + 6) as usize;
     put_streams(file, p + 8, num_streams, out, to)
 }

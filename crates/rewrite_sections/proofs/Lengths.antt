@@ -10,7 +10,7 @@ use Rattle.format.specs.Programs.{isVideo, codingAt, formatAt, aspectAt, langua
 use Rattle.format.specs.Rewriting.{programBytes, streamBytes}
 use Rattle.format.proofs.Counts.{gather-few, byte-few}
 use Rattle.format.proofs.Rows.{rows-length}
-use Rattle.row_values.specs.declared.Kind.{Kind}
+use Rattle.row_values.specs.declared.RowKind.{RowKind}
 use Rattle.row_values.specs.declared.Row as value
 use Rattle.row_values.proofs.Lengths.{program-length, row-short}
 use Rattle.section_heads.proofs.Stored.{sectionHead, section-head}
@@ -45,7 +45,7 @@ module _ (f : List ℕ) (bytes : IsBytes f) where
       let coding = codingAt f (q + 3) size in
       let v = isVideo coding in
       let row : value.Row = record { cell0 = beAt f q 2; cell1 = coding; cell2 = formatAt f (q + 3) size; cell3 = aspectAt v f (q + 3) size; cell4 = languageAt v f (q + 3) size } in
-      row-short Kind.Stream row
+      row-short RowKind.Stream row
 
   -- a program with its streams
   program-few : (q : ℕ) → length (newProgram f q) ≤ 3578

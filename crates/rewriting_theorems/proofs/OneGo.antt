@@ -15,7 +15,7 @@ use Rattle.format.specs.Refusals.{refusalOf, statedOf, tablesOf, tablesAfter, W
 use Rattle.format.proofs.ClipTables.{Shaped, shaped, clip-held, all-stated}
 use Rattle.theorems.specs.Rewriting.{Rewritable, rewritten, handOver, handedOver}
 use Rattle.theorems.proofs.Rewriting.{good-of, from-file, reading-holds, rewriting-keeps}
-use Rattle.encode.specs.Writing.{bytesIn, answerOf as writeAnswerOf}
+use Rattle.encode.specs.Writing.{bytesIn, writeAnswerOf}
 use Rattle.encode.proofs.write.write.Reads as write
 use Rattle.rewrite.specs.Rewrite.{rewriteRefusal, rewriteAnswer, LengthAnswer, lengthAnswer, lengthOf, lengthIn}
 use Rattle.query_theorems.specs.Calls.{Call}

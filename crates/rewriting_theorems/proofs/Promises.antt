@@ -1,9 +1,9 @@
 -- What the contracts of `read` and `write` claim, in the words of the promise.
 use mathlib.Core.Path.{_≡_}
 use Rattle.format.specs.Refusals.{readAnswer, tablesAfter, writeAnswer, outputAfter}
-use Rattle.clip_information.specs.Read.{answerOf as readAnswerOf}
+use Rattle.clip_information.specs.Read.{readAnswerOf}
 use Rattle.clip_information.proofs.read.read.Reads as read
-use Rattle.encode.specs.Writing.{answerOf as writeAnswerOf}
+use Rattle.encode.specs.Writing.{writeAnswerOf}
 use Rattle.encode.proofs.write.write.Reads as write
 use Rattle.query_theorems.specs.Calls.{Call}
 use Rattle.rewriting_theorems.specs.Rewriting.{fileOf, tablesGiven, tablesLeft, givenTo, outputGiven, outputLeft}

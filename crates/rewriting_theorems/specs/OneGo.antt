@@ -10,7 +10,7 @@ use denote.Ref.{now}
 use Rattle.format.specs.Reading.{recordOf}
 use Rattle.format.specs.Refusals.{refusalOf, statedOf, tablesOf, WriteAnswer, written, writtenIn}
 use Rattle.format.specs.Tables.{Nine, Room}
-use Rattle.encode.specs.Writing.{bytesIn, answerOf as writeAnswerOf}
+use Rattle.encode.specs.Writing.{bytesIn, writeAnswerOf}
 use Rattle.encode.proofs.write.write.Reads as write
 use Rattle.rewrite.specs.Rewrite.{LengthAnswer, lengthOf}
 use Rattle.rewrite.proofs.rewrite.rewrite.Reads as rewriting

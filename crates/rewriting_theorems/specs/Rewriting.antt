@@ -12,9 +12,9 @@ use Rattle.format.specs.Tables.{Nine, ClipTables, HoldsClip, Room}
 use Rattle.format.specs.Refusals.{Stated, statedOf, tablesOf, tablesAfter, accepted, written}
 use Rattle.format.proofs.Counts.{AtMost}
 use Rattle.limits.specs.Stated.{statedTables}
-use Rattle.clip_information.specs.Read.{scalarsBy, nineTables, answerOf as readAnswerOf}
+use Rattle.clip_information.specs.Read.{scalarsBy, nineTables, readAnswerOf}
 use Rattle.clip_information.proofs.read.read.Reads as read
-use Rattle.encode.specs.Writing.{bytesIn, answerOf as writeAnswerOf}
+use Rattle.encode.specs.Writing.{bytesIn, writeAnswerOf}
 use Rattle.encode.proofs.write.write.Reads as write
 use Rattle.theorems.specs.Rewriting.{Rewritable, rewritten, handOver}
 use Rattle.query_theorems.specs.Calls.{Call}

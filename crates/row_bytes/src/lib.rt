@@ -10,8 +10,8 @@ ghost use Rattle.row_values.specs.Kinds.{rowOf, bytesBy, row3, row4, row5};
 use numbers::put_u8;
 use numbers::put_u16;
 use numbers::put_u32;
-use row_values::Kind;
 use row_values::Row;
+use row_values::RowKind;
 use stream_coding::is_video;
 
 // Stores an ATC: packet, STC count, offset id.
@@ -85,15 +85,15 @@ fn put_stream(row: Row, out: &mut [u8], at: usize) -> usize
 }
 
 // Stores a row from `at` on; answers the place behind it.
-pub fn put_row(kind: Kind, row: Row, out: &mut [u8], at: usize) -> usize
+pub fn put_row(kind: RowKind, row: Row, out: &mut [u8], at: usize) -> usize
     requires { ⌜ at + length (bytesBy kind (rowOf kind row)) ≤ length (now out) ⌝ }
     ensures { λ r. ⌜ r ≡ at + length (bytesBy kind (rowOf kind row)) ⌝ }
     ensures { λ _. ⌜ now (out .exit) ≡ sets (now (out .entry)) at (bytesBy kind (rowOf kind row)) ⌝ }
 {
     match kind {
-        Kind::Atc => put_atc(row, out, at),
-        Kind::Stc => put_stc(row, out, at),
-        Kind::Program => put_program(row, out, at),
-        Kind::Stream => put_stream(row, out, at),
+        RowKind::Atc => put_atc(row, out, at),
+        RowKind::Stc => put_stc(row, out, at),
+        RowKind::Program => put_program(row, out, at),
+        RowKind::Stream => put_stream(row, out, at),
     }
 }

@@ -8,7 +8,7 @@ ghost use Rattle.format.specs.Bytes.{both};
 ghost use Rattle.format.specs.ClipRecord.{entryRow, entryCells, entrySize};
 ghost use Rattle.format.specs.Refusals.{atcFits, stcFits, programFits, streamFits, mapFits, entryFits};
 ghost use Rattle.format.specs.Tables.{cellsAt, atcCells, stcCells, programCells, streamCells, mapCells};
-ghost use Rattle.row_limits.specs.Kinds.{cellsOf, fitsBy};
+ghost use Rattle.row_limits.specs.Kinds.{tableCells, fitsBy};
 use cells::cell_at;
 use entry_rows::SIZE;
 use entry_rows::angle_at;
@@ -19,7 +19,7 @@ use entry_rows::type_at;
 use stream_coding::is_video;
 
 // Which table a row is of; an entry with the type of its map.
-pub enum Kind {
+pub enum TableKind {
     Atc,
     Stc,
     Program,
@@ -29,16 +29,16 @@ pub enum Kind {
 }
 
 // The bytes of a row.
-pub fn row_bytes(kind: Kind) -> usize
-    ensures { λ r. ⌜ r ≡ 4 * cellsOf kind ⌝ }
+pub fn row_bytes(kind: TableKind) -> usize
+    ensures { λ r. ⌜ r ≡ 4 * tableCells kind ⌝ }
 {
     match kind {
-        Kind::Atc => 12,
-        Kind::Stc => 16,
-        Kind::Program => 12,
-        Kind::Stream => 20,
-        Kind::Map => 12,
-        Kind::Entry(_) => SIZE,
+        TableKind::Atc => 12,
+        TableKind::Stc => 16,
+        TableKind::Program => 12,
+        TableKind::Stream => 20,
+        TableKind::Map => 12,
+        TableKind::Entry(_) => SIZE,
     }
 }
 
@@ -178,16 +178,16 @@ fn entry_row_fits(t: &[u8], p: usize, map_type: u32) -> bool
 }
 
 // Whether the row at a place fits.
-pub fn row_fits(t: &[u8], p: usize, kind: Kind) -> bool
-    requires { ⌜ p + 4 * cellsOf kind ≤ length (now t) ⌝ }
-    ensures { λ r. ⌜ r ≡ fitsBy kind (cellsAt (now (t .entry)) (cellsOf kind) p) ⌝ }
+pub fn row_fits(t: &[u8], p: usize, kind: TableKind) -> bool
+    requires { ⌜ p + 4 * tableCells kind ≤ length (now t) ⌝ }
+    ensures { λ r. ⌜ r ≡ fitsBy kind (cellsAt (now (t .entry)) (tableCells kind) p) ⌝ }
 {
     match kind {
-        Kind::Atc => atc_fits(t, p),
-        Kind::Stc => stc_fits(t, p),
-        Kind::Program => program_fits(t, p),
-        Kind::Stream => stream_row_fits(t, p),
-        Kind::Map => map_fits(t, p),
-        Kind::Entry(map_type) => entry_row_fits(t, p, map_type),
+        TableKind::Atc => atc_fits(t, p),
+        TableKind::Stc => stc_fits(t, p),
+        TableKind::Program => program_fits(t, p),
+        TableKind::Stream => stream_row_fits(t, p),
+        TableKind::Map => map_fits(t, p),
+        TableKind::Entry(map_type) => entry_row_fits(t, p, map_type),
     }
 }

@@ -10,10 +10,9 @@ use lib.ListN.{drop}
 use Rattle.format.specs.Bytes.{both, pick}
 use Rattle.format.specs.ClipRecord.{Row}
 use Rattle.format.specs.Questions.{Question, Part, partsOf, partStated, Answer, refused, none, number, firstWhere, nextWhere, unless22, ofRow, answer, ask}
-use Rattle.format.specs.Tables.{Table, ClipTables, isStated, rowsOf, cellsAt, tableRows, clipIn}
+use Rattle.format.specs.Tables.{Table, ClipTables, isStated, rowsOf, cellsAt, tableRows, clipIn, stated}
 use Rattle.format.proofs.Cell.{row-cell, cell-of}
 use Rattle.cells.specs.Reads.{CellIs}
-use Rattle.queries.specs.Asked.{stated}
 use Rattle.table_rows.specs.OwnRows.{cellIn}
 use Rattle.row_search.specs.FirstRow.{testOf, askRow}
 use Rattle.row_search.specs.declared.Test.{Test}

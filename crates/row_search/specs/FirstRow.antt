@@ -12,7 +12,7 @@ use Rattle.row_search.specs.declared.Test.{Test}
 -- what each test asks of a number
 abbrev pub testOf : Test → ℕ → Bool
 testOf (Test.Is wanted) y = eqb y wanted
-testOf (Test.Kind kind) y = eqb (y % 16) kind
+testOf (Test.MapKind kind) y = eqb (y % 16) kind
 testOf Test.VideoMap y = isVideoMap (y % 16)
 testOf Test.VideoStream y = isVideo y
 testOf Test.AudioStream y = isAudio y

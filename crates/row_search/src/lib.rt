@@ -1,8 +1,8 @@
 // The first row of a table that passes a test of one of its numbers.
 ghost use mathlib.Core.Path.{_≡_};
 ghost use Prim.Native.Nat.{_≤_, _<_};
+ghost use Rattle.format.specs.Tables.{stated};
 ghost use Rattle.queries.specs.Answers.{foundOf};
-ghost use Rattle.queries.specs.Asked.{stated};
 ghost use Rattle.row_search.specs.FirstRow.{testOf, askRow};
 use cells::cell_at;
 use queries::Found;
@@ -14,7 +14,7 @@ use table_rows::own::is_stated;
 // What is asked of a number: that it is the one given, that its low four bits are, that they are those of a video map, or that it is the coding type of a video or an audio stream.
 pub enum Test {
     Is(u32),
-    Kind(u32),
+    MapKind(u32),
     VideoMap,
     VideoStream,
     AudioStream,
@@ -26,7 +26,7 @@ fn passes(test: Test, value: u32) -> bool
 {
     match test {
         Test::Is(wanted) => value == wanted,
-        Test::Kind(kind) => value % 16 == kind,
+        Test::MapKind(kind) => value % 16 == kind,
         Test::VideoMap => is_video_map(value % 16),
         Test::VideoStream => is_video(value),
         Test::AudioStream => is_audio(value),

@@ -11,7 +11,7 @@ use Rattle.format.specs.ClipRecord.{Row}
 use Rattle.format.specs.Programs.{isVideo}
 use Rattle.format.specs.Rewriting.{atcBytes, stcBytes, programBytes, streamBytesBy, streamBytes}
 use Rattle.format.proofs.Numbers.{bytes-length}
-use Rattle.row_values.specs.declared.Kind.{Kind}
+use Rattle.row_values.specs.declared.RowKind.{RowKind}
 use Rattle.row_values.specs.declared.Row as value
 use Rattle.row_values.specs.Kinds.{row5, rowOf, bytesBy}
 
@@ -53,8 +53,8 @@ stream-short false true row = simp (length-append, bytes-length) (omega arith)
 stream-short false false row = simp (length-append, bytes-length) (omega arith)
 
 -- a row of any kind, by value
-pub row-short : (kind : Kind) (r : value.Row) → length (bytesBy kind (rowOf kind r)) ≤ 14
-row-short Kind.Atc r = rw (atc-length (r .cell0) (r .cell1) (r .cell2)) (omega arith)
-row-short Kind.Stc r = rw (stc-length (r .cell0) (r .cell1) (r .cell2) (r .cell3)) (omega arith)
-row-short Kind.Program r = rw (program-length (r .cell0) (r .cell1) (r .cell2)) (omega arith)
-row-short Kind.Stream r = stream-short (isVideo (r .cell1)) (eqb (r .cell4) 0) (row5 r)
+pub row-short : (kind : RowKind) (r : value.Row) → length (bytesBy kind (rowOf kind r)) ≤ 14
+row-short RowKind.Atc r = rw (atc-length (r .cell0) (r .cell1) (r .cell2)) (omega arith)
+row-short RowKind.Stc r = rw (stc-length (r .cell0) (r .cell1) (r .cell2) (r .cell3)) (omega arith)
+row-short RowKind.Program r = rw (program-length (r .cell0) (r .cell1) (r .cell2)) (omega arith)
+row-short RowKind.Stream r = stream-short (isVideo (r .cell1)) (eqb (r .cell4) 0) (row5 r)

@@ -9,7 +9,7 @@ use cells::cell_at;
 use stream_coding::is_video;
 
 // Which table a row is of.
-pub enum Kind {
+pub enum RowKind {
     Atc,
     Stc,
     Program,
@@ -26,14 +26,14 @@ pub struct Row {
 }
 
 // How many cells a row has.
-pub fn cells_of(kind: Kind) -> usize
+pub fn cells_of(kind: RowKind) -> usize
     ensures { λ r. ⌜ r ≡ cellsOf kind ⌝ }
 {
     match kind {
-        Kind::Atc => 3,
-        Kind::Stc => 4,
-        Kind::Program => 3,
-        Kind::Stream => 5,
+        RowKind::Atc => 3,
+        RowKind::Stc => 4,
+        RowKind::Program => 3,
+        RowKind::Stream => 5,
     }
 }
 
@@ -80,15 +80,15 @@ fn row_of_5(t: &[u8], p: usize) -> Row
 }
 
 // The row of a table at byte p.
-pub fn table_row(kind: Kind, t: &[u8], p: usize) -> Row
+pub fn table_row(kind: RowKind, t: &[u8], p: usize) -> Row
     requires { ⌜ p + 4 * cellsOf kind ≤ length (now t) ⌝ }
     ensures { λ r. ⌜ rowOf kind r ≡ cellsAt (now (t .entry)) (cellsOf kind) p ⌝ }
 {
     match kind {
-        Kind::Atc => row_of_3(t, p),
-        Kind::Stc => row_of_4(t, p),
-        Kind::Program => row_of_3(t, p),
-        Kind::Stream => row_of_5(t, p),
+        RowKind::Atc => row_of_3(t, p),
+        RowKind::Stc => row_of_4(t, p),
+        RowKind::Program => row_of_3(t, p),
+        RowKind::Stream => row_of_5(t, p),
     }
 }
 
@@ -106,13 +106,13 @@ fn stream_length(row: Row) -> usize
 }
 
 // How many bytes a row has in a file.
-pub fn row_length(kind: Kind, row: Row) -> usize
+pub fn row_length(kind: RowKind, row: Row) -> usize
     ensures { λ r. ⌜ r ≡ length (bytesBy kind (rowOf kind row)) ⌝ }
 {
     match kind {
-        Kind::Atc => 6,
-        Kind::Stc => 14,
-        Kind::Program => 8,
-        Kind::Stream => stream_length(row),
+        RowKind::Atc => 6,
+        RowKind::Stc => 14,
+        RowKind::Program => 8,
+        RowKind::Stream => stream_length(row),
     }
 }

@@ -10,54 +10,57 @@ use borrow.Author.Tests.{lt-ltb, le-ltb}
 use Rattle.format.specs.ClipRecord.{Row, stcStart}
 use Rattle.format.specs.Ticks.{Ticks45, Ticks90, doubled, less45, less90, minutes}
 use Rattle.format.specs.Questions.{Question, firstStcSequence, minutesRemaining, presentationSpan90k, Answer, refused, none, number, ticks90, stcs, partsOf, latestEnd, leastStart, presentationSpan, minutesLeft, durationOf, ofStc, answer, ask}
-use Rattle.format.specs.Tables.{cellsAt, tableRows, stcCells, isStated, clipIn}
+use Rattle.format.specs.Tables.{cellsAt, tableRows, stcCells, isStated, clipIn, stated}
 use Rattle.format.proofs.Cell.{row-cell, cell-of}
 use Rattle.format.proofs.Rows.{rows-length}
 use Rattle.cells.specs.Reads.{CellIs}
-use Rattle.queries.specs.Asked.{stated, onlyStcs}
+use Rattle.queries.specs.Asked.{onlyStcs}
 use Rattle.queries.proofs.Asking.{answered}
 use Rattle.table_rows.proofs.Scans.{rowsLeft, left-all, left-turn, left-done}
 
 module _ (t : List ℕ) (n : ℕ) where
   -- the latest of the ends seen and those left is that of all
-  abbrev pub Latest : ℕ → ℕ → Type 0
-  Latest k latest = max latest (latestEnd (rowsLeft stcCells t n k) .ticks) ≡ latestEnd (tableRows stcCells t n) .ticks
+  abbrev pub Latest : ℕ → Ticks45 → Type 0
+  Latest k latest = max (latest .ticks) (latestEnd (rowsLeft stcCells t n k) .ticks) ≡ latestEnd (tableRows stcCells t n) .ticks
 
   -- before the first turn none is seen, and 0 stands for their latest end
-  pub latest-first : Latest 0 0
+  pub latest-first : Latest 0 (record { ticks = 0 })
   latest-first = rw (left-all stcCells t n) (omega arith)
 
   -- a turn takes the end of STC k, which stands in its fourth cell
-  pub latest-turn : (k latest : ℕ) {at v r : ℕ} → k < n → at ≡ 16 * k + 12 → CellIs t at v → r ≡ max latest v → Latest k latest → Latest (k + 1) r
+  pub latest-turn : (k : ℕ) (latest : Ticks45) {at v : ℕ} {r : Ticks45} → k < n → at ≡ 16 * k + 12 → CellIs t at v
+      → r .ticks ≡ max (latest .ticks) v → Latest k latest → Latest (k + 1) r
   latest-turn k latest {v = v} h e c m i =
       let end = row-cell t stcCells (4 * stcCells * k) 3 (lit< tt) e (c .same) in
       let i′ = rw (left-turn stcCells t n k h) at i in
       omega (arith, end, m, i′)
 
   -- behind the last STC the latest end seen is that of all
-  pub latest-done : (k latest : ℕ) → n ≤ k → Latest k latest → record { ticks = latest } ≡ latestEnd (tableRows stcCells t n)
+  pub latest-done : (k : ℕ) (latest : Ticks45) → n ≤ k → Latest k latest → latest ≡ latestEnd (tableRows stcCells t n)
   latest-done k latest h i =
       let i′ = rw (left-done stcCells t n k h) at i in
-      let e : latest ≡ latestEnd (tableRows stcCells t n) .ticks = omega (arith, i′) in
+      let e : latest .ticks ≡ latestEnd (tableRows stcCells t n) .ticks = omega (arith, i′) in
       ap (λ (x : ℕ). record { ticks = x }) e
 
   -- the least of a start and those left is that of all
-  abbrev pub Least : Ticks45 → ℕ → ℕ → Type 0
-  Least whole k least = leastStart (record { ticks = least }) (rowsLeft stcCells t n k) ≡ whole
+  abbrev pub Least : Ticks45 → ℕ → Ticks45 → Type 0
+  Least whole k least = leastStart least (rowsLeft stcCells t n k) ≡ whole
 
   -- before the first turn only the start that the loop begins with is seen
-  pub least-first : (first : ℕ) → Least (leastStart (record { ticks = first }) (tableRows stcCells t n)) 0 first
+  pub least-first : (first : Ticks45) → Least (leastStart first (tableRows stcCells t n)) 0 first
   least-first first = rw (left-all stcCells t n)
 
   -- a turn takes the start of STC k, which stands in its third cell
-  pub least-turn : {whole : Ticks45} (k least : ℕ) {at v r : ℕ} → k < n → at ≡ 16 * k + 8 → CellIs t at v → r ≡ min least v → Least whole k least → Least whole (k + 1) r
-  least-turn k least h e c m i =
+  pub least-turn : {whole : Ticks45} (k : ℕ) (least : Ticks45) {at v : ℕ} {r : Ticks45} → k < n → at ≡ 16 * k + 8 → CellIs t at v
+      → r .ticks ≡ min (least .ticks) v → Least whole k least → Least whole (k + 1) r
+  least-turn k least {r = r} h e c m i =
       let start = row-cell t stcCells (4 * stcCells * k) 2 (lit< tt) e (c .same) in
       let i′ = rw (left-turn stcCells t n k h) at i in
-      rw (m, start) i′
+      let lesser : r ≡ record { ticks = min (least .ticks) _ } = ap (λ (x : ℕ). record { ticks = x }) m in
+      rw (lesser, start) i′
 
   -- behind the last STC the least start seen is that of all
-  pub least-done : {whole : Ticks45} (k least : ℕ) → n ≤ k → Least whole k least → record { ticks = least } ≡ whole
+  pub least-done : {whole : Ticks45} (k : ℕ) (least : Ticks45) → n ≤ k → Least whole k least → least ≡ whole
   least-done k least h i = rw (left-done stcCells t n k h) at i
 
 -- ---- the answers

@@ -4,10 +4,10 @@ ghost use mathlib.Core.List.{[]};
 ghost use lib.ListN.{getD};
 ghost use Prim.Native.Nat.{_≤_, _<_, max, min};
 ghost use Rattle.format.specs.Questions.{ask, firstStcSequence, duration45k, duration90k, presentationSpan90k, minutesRemaining, latestEnd, leastStart, durationOf};
-ghost use Rattle.format.specs.Tables.{tableRows, rowRoom, stcCells};
+ghost use Rattle.format.specs.Tables.{tableRows, rowRoom, stcCells, stated};
 ghost use Rattle.ticks.specs.Times.{as45, as90};
 ghost use Rattle.queries.specs.Answers.{foundOf, time45Of, time90Of};
-ghost use Rattle.queries.specs.Asked.{stated, onlyStcs};
+ghost use Rattle.queries.specs.Asked.{onlyStcs};
 use cells::cell_at;
 use queries::Found;
 use queries::Time45;
@@ -27,17 +27,17 @@ const START: usize = 8;
 const END: usize = 12;
 
 // The later of two times.
-fn later(a: u32, b: u32) -> u32
-    ensures { λ r. ⌜ r ≡ max a b ⌝ }
+fn later(a: Ticks45, b: Ticks45) -> Ticks45
+    ensures { λ r. ⌜ as45 r .ticks ≡ max (as45 a .ticks) (as45 b .ticks) ⌝ }
 {
-    if a < b { b } else { a }
+    if a.0 < b.0 { b } else { a }
 }
 
 // The earlier of two times.
-fn earlier(a: u32, b: u32) -> u32
-    ensures { λ r. ⌜ r ≡ min a b ⌝ }
+fn earlier(a: Ticks45, b: Ticks45) -> Ticks45
+    ensures { λ r. ⌜ as45 r .ticks ≡ min (as45 a .ticks) (as45 b .ticks) ⌝ }
 {
-    if b < a { b } else { a }
+    if b.0 < a.0 { b } else { a }
 }
 
 // The latest end of the STCs, 0 without any.
@@ -45,27 +45,29 @@ fn latest_end(stcs: &[u8], rows: u32) -> Ticks45
     requires { ⌜ rows ≤ rowRoom stcCells (now stcs) ⌝ }
     ensures { λ r. ⌜ as45 r ≡ latestEnd (tableRows stcCells (now (stcs .entry)) rows) ⌝ }
 {
-    let mut latest: u32 = 0;
+    let mut latest = Ticks45(0);
     let mut k: u32 = 0;
     while k < rows {
-        latest = later(latest, cell_at(stcs, ROW * (k as usize) + END));
+        let end = Ticks45(cell_at(stcs, ROW * (k as usize) + END));
+        latest = later(latest, end);
         k += 1;
     }
-    Ticks45(latest)
+    latest
 }
 
 // The least of a start and those of the STCs.
-fn least_start(stcs: &[u8], rows: u32, first: u32) -> Ticks45
+fn least_start(stcs: &[u8], rows: u32, first: Ticks45) -> Ticks45
     requires { ⌜ rows ≤ rowRoom stcCells (now stcs) ⌝ }
-    ensures { λ r. ⌜ as45 r ≡ leastStart (record { ticks = first }) (tableRows stcCells (now (stcs .entry)) rows) ⌝ }
+    ensures { λ r. ⌜ as45 r ≡ leastStart (as45 first) (tableRows stcCells (now (stcs .entry)) rows) ⌝ }
 {
     let mut least = first;
     let mut k: u32 = 0;
     while k < rows {
-        least = earlier(least, cell_at(stcs, ROW * (k as usize) + START));
+        let start = Ticks45(cell_at(stcs, ROW * (k as usize) + START));
+        least = earlier(least, start);
         k += 1;
     }
-    Ticks45(least)
+    least
 }
 
 // Minutes remaining at a time: twice the latest end less the time, not below 0, in whole minutes.
@@ -89,7 +91,8 @@ pub fn presentation_span_90k(stcs: &[u8], rows: u32) -> Time90
         return Time90::Ticks(Ticks90(0));
     }
     let latest = latest_end(stcs, rows).doubled();
-    let least = least_start(stcs, rows, cell_at(stcs, START)).doubled();
+    let first = Ticks45(cell_at(stcs, START));
+    let least = least_start(stcs, rows, first).doubled();
     Time90::Ticks(latest.less(least))
 }
 

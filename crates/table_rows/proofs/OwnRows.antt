@@ -11,13 +11,12 @@ use borrow.Author.Tests.{leb-true, ltb-true, eqb-true, lt-ltb, le-ltb, not-true,
 use Rattle.format.specs.Bytes.{both, pick, total, rowsAt}
 use Rattle.format.specs.ClipRecord.{Row}
 use Rattle.format.specs.Questions.{Answer, refused, unless22, firstRow, ownRows}
-use Rattle.format.specs.Tables.{Table, isStated, addUp, isRow, rowsOf, cellsAt, tableRows, rowRoom}
+use Rattle.format.specs.Tables.{Table, isStated, addUp, isRow, rowsOf, cellsAt, tableRows, rowRoom, stated}
 use Rattle.format.proofs.Cell.{row-cell, cell-of}
 use Rattle.format.proofs.Rows.{take-rows, drop-rows}
 use Rattle.format.proofs.Tables.{rows-stated}
 use Rattle.format.proofs.Tests.{both-true}
 use Rattle.cells.specs.Reads.{CellIs}
-use Rattle.queries.specs.Asked.{stated}
 use Rattle.table_rows.specs.OwnRows.{headCells, cellIn, isCounted, mayAsk, refusal, owns, ownedRows, rowsFrom}
 use Rattle.table_rows.proofs.Scans.{rowsLeft, left-all, left-turn, left-done}
 

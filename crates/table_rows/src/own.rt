@@ -3,8 +3,7 @@ ghost use mathlib.Core.Path.{_≡_};
 ghost use Prim.Native.Nat.{_≤_, _<_};
 ghost use Rattle.format.specs.Bytes.{total};
 ghost use Rattle.format.specs.ClipRecord.{entryCells};
-ghost use Rattle.format.specs.Tables.{isStated, tableRows, rowRoom};
-ghost use Rattle.queries.specs.Asked.{stated};
+ghost use Rattle.format.specs.Tables.{isStated, tableRows, rowRoom, stated};
 ghost use Rattle.table_rows.specs.OwnRows.{headCells, cellIn, isCounted, ownedOf, ownedRows};
 use cells::cell_at;
 

@@ -8,7 +8,7 @@ use Rattle.format.specs.Bytes.{IsBytes, unless}
 use Rattle.format.specs.ClipRecord.{Clip, Record}
 use Rattle.format.specs.Programs.{loweredClip}
 use Rattle.format.specs.Reading.{recordOf}
-use Rattle.format.specs.Tables.{Nine, Table, ClipTables, HoldsClip, Room}
+use Rattle.format.specs.Tables.{Nine, stated, ClipTables, HoldsClip, Room}
 use Rattle.format.specs.Questions.{Question, partsOf, ask, HoldsPart}
 use Rattle.format.specs.Rewriting.{encode}
 use Rattle.format.specs.Refusals.{refusalOf, accepted, readAnswer, Stated, statedOf, tablesOf, tablesAfter, countsAdd, cellsFit, runsFit, writeRefusal, written, writeAnswer, outputAfter}
@@ -32,10 +32,6 @@ withoutExtensions r =
     record { clip = r .clip; marks = 0; extensions = []; hasList = false; listPrograms = []; listStreams = [] }
 
 -- ---- rewriting through lent tables
-
--- a table as reading left it, with the rows that reading stated
-abbrev pub stated : List ℕ → ℕ → Table
-stated bytes rows = record { bytes = bytes; rows = rows }
 
 -- the very tables that reading filled, handed over for writing with what reading stated
 abbrev pub handOver : Stated → Nine (List ℕ) → ClipTables

@@ -2,8 +2,7 @@
 use mathlib.Core.Path.{_∙_}
 use denote.Ref.{now}
 use Rattle.format.specs.Questions.{stcById}
-use Rattle.format.specs.Tables.{rowsOf, atcCells, stcCells}
-use Rattle.queries.specs.Asked.{stated}
+use Rattle.format.specs.Tables.{rowsOf, atcCells, stcCells, stated}
 use Rattle.table_rows.proofs.OwnRows.{heads-there, count-fails, count-passes}
 use Rattle.atc_queries.proofs.Atcs.{id-asked}
 use borrow.Author.Needs.{needs}

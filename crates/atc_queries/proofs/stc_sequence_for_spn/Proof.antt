@@ -1,8 +1,7 @@
 -- A refusal stands in front of the ATC's own STCs; of these the last that is reached answers.
 use mathlib.Core.Path.{_≡_, sym, ap, _∙_}
 use denote.Ref.{now}
-use Rattle.format.specs.Tables.{stcCells}
-use Rattle.queries.specs.Asked.{stated}
+use Rattle.format.specs.Tables.{stcCells, stated}
 use Rattle.table_rows.specs.OwnRows.{owns, ownedOf, ownedRows}
 use Rattle.atc_queries.proofs.Atcs.{spn-refused, stcs-inside, spn-answered}
 use borrow.Author.Needs.{needs}

@@ -8,7 +8,7 @@ use Rattle.format.specs.ClipRecord.{entryCells}
 use Rattle.format.specs.Tables.{mapCells}
 use Rattle.format.specs.Refusals.{readAnswer}
 use Rattle.format.specs.Listing.{rows4096, listingTables}
-use Rattle.clip_information.specs.Read.{answerOf}
+use Rattle.clip_information.specs.Read.{readAnswerOf}
 use Rattle.listing.proofs.Laws.{shows-as}
 use Rattle.clip_listing.proofs.Laws.{tellable, told, listing-within, listing-over}
 use borrow.Author.Needs.{needs}
@@ -68,7 +68,7 @@ module _ (r : tie.After-read) where
   bytes : IsBytes F
   bytes i = r .before .before .before .before .before .before .before .before .before .before .before .before .shared-slice-known .given i .fits
 
-  answered : answerOf (r .read .result) ≡ readAnswer F listingTables
+  answered : readAnswerOf (r .read .result) ≡ readAnswer F listingTables
   unfolding listingTables
   answered = r .read .ensures .0
 

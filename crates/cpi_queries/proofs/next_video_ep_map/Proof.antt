@@ -1,7 +1,7 @@
 -- The search of the table answers the question.
 use mathlib.Core.Path.{_∙_}
 use denote.Ref.{now}
-use Rattle.queries.specs.Asked.{stated}
+use Rattle.format.specs.Tables.{stated}
 use Rattle.cpi_queries.proofs.Choice.{video-asked}
 use borrow.Author.Needs.{needs}
 use Rattle.cpi_queries.proofs.next_video_ep_map.Statement.{statement}

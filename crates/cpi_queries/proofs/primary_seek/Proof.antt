@@ -4,8 +4,9 @@ use mathlib.Core.Path.{_≡_, sym, ap, _∙_}
 use native.Mathlib.Omega.{arith}
 use denote.Ref.{now}
 use Rattle.format.specs.Questions.{primaryVideoEpMap, none, number, ask}
+use Rattle.format.specs.Tables.{stated}
 use Rattle.queries.specs.Answers.{foundOf}
-use Rattle.queries.specs.Asked.{stated, onlyMaps}
+use Rattle.queries.specs.Asked.{onlyMaps}
 use Rattle.cpi_queries.proofs.Choice.{not-there, no-maps-refused, no-maps-none, map-below, sought}
 use borrow.Author.Needs.{needs}
 use Rattle.cpi_queries.proofs.primary_seek.Statement.{statement}

@@ -1,8 +1,8 @@
 -- A map of type 8 that is found answers, else the later choices.
 use mathlib.Core.Path.{sym, ap, _∙_}
 use denote.Ref.{now}
+use Rattle.format.specs.Tables.{stated}
 use Rattle.queries.specs.Answers.{foundOf}
-use Rattle.queries.specs.Asked.{stated}
 use Rattle.cpi_queries.specs.PrimaryMap.{videoOrLeast}
 use Rattle.cpi_queries.proofs.Choice.{else-refused, else-found, else-later, choice, maps-there}
 use borrow.Author.Needs.{needs}

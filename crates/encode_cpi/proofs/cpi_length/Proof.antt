@@ -5,13 +5,13 @@ use denote.Ref.{now}
 use lib.ListN.{length}
 use Rattle.format.specs.ClipRecord.{entrySize}
 use Rattle.encode_cpi.proofs.Maps.{maps-few, map-room, entries-room, count-few, own-within}
-use Rattle.encode_cpi.proofs.Lengths.{Measured, measured-first, measured-unfit, runs-within-count, measured-turn, measured-many, measured-done, measured-none}
+use Rattle.encode_cpi.proofs.Lengths.{MeasuredTo, measured-first, measured-unfit, runs-within-count, measured-turn, measured-many, measured-done, measured-none}
 use borrow.Author.Needs.{needs}
 use Rattle.encode_cpi.proofs.cpi_length.Statement.{statement}
 use Rattle.encode_cpi.proofs.cpi_length.Tie as tie
 
 abbrev Inv-loop : tie.InvT-loop
-Inv-loop maps n entries m len₀ few₀ row₀ k₀ len few row k = Measured maps n entries m len few row k
+Inv-loop maps n entries m len₀ few₀ row₀ k₀ len few row k = MeasuredTo maps n entries m len few row k
 
 abbrev μ-loop : tie.MeasureT-loop
 μ-loop maps n entries m len₀ few₀ row₀ k₀ len few row k = n - k

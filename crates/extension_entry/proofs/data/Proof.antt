@@ -6,7 +6,7 @@ use native.Mathlib.Omega.{arith}
 use lib.ListN.{length}
 use denote.Ref.{now}
 use borrow.Author.Needs.{needs}
-use Rattle.extension_entry.specs.Part.{tableOf}
+use Rattle.format.specs.Tables.{stated}
 use Rattle.extension_entry.proofs.Laws.{given, not-given}
 use Rattle.extension_entry.proofs.data.Statement.{statement}
 use Rattle.extension_entry.proofs.data.Tie as tie
@@ -36,7 +36,7 @@ part-result-end c = search needs
 returns : tie.Need-returns
 returns c =
     let a = c .before .before .before .before .before .before .args in
-    not-given (now (a .file)) (tableOf (now (a .table)) (a .rows)) (a .row) (sym (c .before .enum-told .given .1) ∙ c .before .before .before .data-place .ensures .same) .1
+    not-given (now (a .file)) (stated (now (a .table)) (a .rows)) (a .row) (sym (c .before .enum-told .given .1) ∙ c .before .before .before .data-place .ensures .same) .1
 
 add-end : tie.Need-add-end
 add-end c = omega (arith, inside c)
@@ -53,7 +53,7 @@ part-result-end-2 c = omega (arith, inside c)
 returns-2 : tie.Need-returns-2
 returns-2 c =
     let a = c .before .before .before .before .before .before .before .args in
-    rw (add-sub-cancel-left (c .before .before .start .given .0 .0) (c .before .before .start .given .0 .1 .0)) (given (now (a .file)) (tableOf (now (a .table)) (a .rows)) (a .row) (sym (c .before .before .start .given .1) ∙ c .before .before .before .before .data-place .ensures .same) .1)
+    rw (add-sub-cancel-left (c .before .before .start .given .0 .0) (c .before .before .start .given .0 .1 .0)) (given (now (a .file)) (stated (now (a .table)) (a .rows)) (a .row) (sym (c .before .before .start .given .1) ∙ c .before .before .before .before .data-place .ensures .same) .1)
 
 pub data-spec : {M : Type 1} → statement M
 data-spec =

@@ -2,7 +2,7 @@
 use mathlib.Core.Path.{sym, _∙_}
 use denote.Ref.{now}
 use borrow.Author.Needs.{needs}
-use Rattle.extension_entry.specs.Part.{tableOf}
+use Rattle.format.specs.Tables.{stated}
 use Rattle.extension_entry.proofs.Laws.{given, not-given}
 use Rattle.extension_entry.proofs.data_refusal.Statement.{statement}
 use Rattle.extension_entry.proofs.data_refusal.Tie as tie
@@ -16,7 +16,7 @@ enum-told c = search needs
 returns : tie.Need-returns
 returns c =
     let a = c .before .before .before .before .before .args in
-    not-given (now (a .file)) (tableOf (now (a .table)) (a .rows)) (a .row) (sym (c .enum-told .given .1) ∙ c .before .before .data-place .ensures .same) .0
+    not-given (now (a .file)) (stated (now (a .table)) (a .rows)) (a .row) (sym (c .enum-told .given .1) ∙ c .before .before .data-place .ensures .same) .0
 
 enum-told-2 : tie.Need-enum-told-2
 enum-told-2 c = search needs
@@ -24,7 +24,7 @@ enum-told-2 c = search needs
 returns-2 : tie.Need-returns-2
 returns-2 c =
     let a = c .before .before .before .before .before .args in
-    given (now (a .file)) (tableOf (now (a .table)) (a .rows)) (a .row) (sym (c .enum-told2 .given .1) ∙ c .before .before .data-place .ensures .same) .0
+    given (now (a .file)) (stated (now (a .table)) (a .rows)) (a .row) (sym (c .enum-told2 .given .1) ∙ c .before .before .data-place .ensures .same) .0
 
 pub data-refusal-spec : {M : Type 1} → statement M
 data-refusal-spec =

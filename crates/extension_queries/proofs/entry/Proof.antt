@@ -2,8 +2,7 @@
 use Prim.Native.Nat.{_-_, _≤_}
 use native.Mathlib.Omega.{arith}
 use denote.Ref.{now}
-use Rattle.format.specs.Tables.{rowRoom, extensionCells}
-use Rattle.queries.specs.Asked.{stated}
+use Rattle.format.specs.Tables.{rowRoom, extensionCells, stated}
 use Rattle.queries.proofs.Asking.{room}
 use Rattle.extension_queries.proofs.Search.{Searched, searched-all, not-stated, row-fails, row-is, no-row}
 use borrow.Author.Needs.{needs}

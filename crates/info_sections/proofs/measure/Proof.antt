@@ -10,15 +10,15 @@ use lib.ListN.{length}
 use Rattle.format.proofs.Sweep.{Along, along-first, along-turn, Counted, counted-first, counted-turn, section-done, section-past, section-short}
 use Rattle.common.proofs.Laws.{Got, got, not-got, went, stayed}
 use Rattle.section_heads.specs.declared.Section.{Section}
-use Rattle.info_sections.specs.Sections.{headAt, ownRows, nextHead}
-use Rattle.info_sections.specs.declared.Measured.{Measured}
+use Rattle.info_sections.specs.Sections.{headAt, groupRows, nextHead}
+use Rattle.info_sections.specs.declared.SectionCounts.{SectionCounts}
 use Rattle.info_sections.proofs.Sections.{own-length, count-before, up-head, measured-as}
 use Rattle.info_sections.proofs.measure.Statement.{statement}
 use Rattle.info_sections.proofs.measure.Tie as tie
 
 abbrev Inv-loop : tie.InvT-loop
 Inv-loop section file start count heads pos₀ rows₀ k₀ pos rows k =
-    Along (nextHead section file) (length file) pos₀ heads pos k × Counted (ownRows section file) (nextHead section file) pos₀ heads pos k rows
+    Along (nextHead section file) (length file) pos₀ heads pos k × Counted (groupRows section file) (nextHead section file) pos₀ heads pos k rows
 
 abbrev μ-loop : tie.MeasureT-loop
 μ-loop section file start count heads pos₀ rows₀ k₀ pos rows k = heads - k
@@ -84,13 +84,13 @@ returns c =
     let s = a .section in
     let f = now (a .file) in
     let cut = not-got f (a .start + 5) 1 (sym (c .enum-told .given .1) ∙ read-count .read-count .ensures .same) in
-    section-short Measured.Counts Measured.PastEnd (headAt s f) (ownRows s f) (nextHead s f) f (a .start) (up-head s f) (omega arith) ∙ measured-as s f (a .start)
+    section-short SectionCounts.Counts SectionCounts.PastEnd (headAt s f) (groupRows s f) (nextHead s f) f (a .start) (up-head s f) (omega arith) ∙ measured-as s f (a .start)
 
 loop-holds : tie.Need-loop-holds Inv-loop μ-loop
 loop-holds c =
     let k : tie.After-count Inv-loop μ-loop = search in
     let g = front k in
-    (along-first (nextHead (kind k) (bytes k)) (omega (arith, g .inside, g .behind)), counted-first (ownRows (kind k) (bytes k)) (nextHead (kind k) (bytes k)))
+    (along-first (nextHead (kind k) (bytes k)) (omega (arith, g .inside, g .behind)), counted-first (groupRows (kind k) (bytes k)) (nextHead (kind k) (bytes k)))
 
 returns-2 : tie.Need-returns-2 Inv-loop μ-loop
 returns-2 c =
@@ -103,7 +103,7 @@ returns-2 c =
     let f = bytes k in
     let at = S k .args .start in
     let g = front k in
-    section-past Measured.Counts Measured.PastEnd (headAt s f) (ownRows s f) (nextHead s f) f at (g .value) (omega (arith, g .behind)) (l .inv .0) (up-head s f)
+    section-past SectionCounts.Counts SectionCounts.PastEnd (headAt s f) (groupRows s f) (nextHead s f) f at (g .value) (omega (arith, g .behind)) (l .inv .0) (up-head s f)
     (t .loop-test .taken) (stayed f (nextHead s f (l .pos)) (sym (c .enum-told2 .given .1) ∙ group .skip-group .ensures))
     ∙ measured-as s f at
 
@@ -136,7 +136,7 @@ returns-3 c =
     let f = bytes k in
     let at = S k .args .start in
     let g = front k in
-    section-done Measured.Counts Measured.PastEnd (headAt s f) (ownRows s f) (nextHead s f) f at (g .value) (omega (arith, g .behind)) (l .inv .0) (l .inv .1) (c .loop-test .left)
+    section-done SectionCounts.Counts SectionCounts.PastEnd (headAt s f) (groupRows s f) (nextHead s f) f at (g .value) (omega (arith, g .behind)) (l .inv .0) (l .inv .1) (c .loop-test .left)
     ∙ measured-as s f at
 
 pub measure-spec : {M : Type 1} → statement M

@@ -1,7 +1,7 @@
 -- The search of the table answers the question.
 use mathlib.Core.Path.{_∙_}
 use denote.Ref.{now}
-use Rattle.queries.specs.Asked.{stated}
+use Rattle.format.specs.Tables.{stated}
 use Rattle.program_queries.proofs.Laws.{video-asked}
 use borrow.Author.Needs.{needs}
 use Rattle.program_queries.proofs.next_video_stream.Statement.{statement}

@@ -5,9 +5,9 @@ use lib.Dec.{lit<}
 use denote.Ref.{now}
 use Rattle.format.specs.ClipRecord.{streamPid}
 use Rattle.format.specs.Questions.{number, nextVideoStream, ofRow, ask}
-use Rattle.format.specs.Tables.{rowsOf, streamCells}
+use Rattle.format.specs.Tables.{rowsOf, streamCells, stated}
 use Rattle.queries.specs.Answers.{foundOf}
-use Rattle.queries.specs.Asked.{stated, onlyStreams}
+use Rattle.queries.specs.Asked.{onlyStreams}
 use Rattle.row_search.proofs.FirstRow.{of-row}
 use Rattle.program_queries.proofs.Laws.{pid-of, row-there}
 use borrow.Author.Needs.{needs}

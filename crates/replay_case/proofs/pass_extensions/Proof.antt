@@ -3,8 +3,7 @@ use Prim.Native.Nat.{_-_}
 use mathlib.Core.Path.{sym}
 use denote.Ref.{now}
 use borrow.Author.Needs.{needs}
-use Rattle.format.specs.Tables.{rowsOf, extensionCells}
-use Rattle.extension_entry.specs.Part.{tableOf}
+use Rattle.format.specs.Tables.{rowsOf, extensionCells, stated}
 use Rattle.replay_case.specs.Places.{extensionsBytes}
 use Rattle.replay_bytes.proofs.PartLaws.{no-place}
 use Rattle.replay_case.proofs.ExtensionLaws.{Passed, none-passed, one-passed, all-passed}
@@ -20,7 +19,7 @@ abbrev μ-loop : tie.MeasureT-loop
 returns : tie.Need-returns Inv-loop μ-loop
 returns c =
     let a = c .before .before .before .before .args in
-    sym (no-place (now (a .answer)) (a .at) (extensionsBytes (now (a .file)) (rowsOf extensionCells (tableOf (now (a .table)) (a .rows)))) (c .if1 .taken))
+    sym (no-place (now (a .answer)) (a .at) (extensionsBytes (now (a .file)) (rowsOf extensionCells (stated (now (a .table)) (a .rows)))) (c .if1 .taken))
 
 loop-holds : tie.Need-loop-holds Inv-loop μ-loop
 loop-holds c =

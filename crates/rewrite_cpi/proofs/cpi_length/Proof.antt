@@ -4,12 +4,12 @@ use native.Mathlib.Omega.{arith}
 use denote.Ref.{now}
 use Rattle.ep_entries.specs.Body.{RowsIn}
 use Rattle.ep_entries.proofs.Bodies.{rows-in, there, left-map}
-use Rattle.rewrite_cpi.proofs.Lengths.{Measured, measured-first, measured-turn, measured-refused, measured-done, measured-none}
+use Rattle.rewrite_cpi.proofs.Lengths.{MeasuredBefore, measured-first, measured-turn, measured-refused, measured-done, measured-none}
 use Rattle.rewrite_cpi.proofs.cpi_length.Statement.{statement}
 use Rattle.rewrite_cpi.proofs.cpi_length.Tie as tie
 
 abbrev Inv-loop : tie.InvT-loop
-Inv-loop file start count len₀ k₀ len k = Measured file start count len k
+Inv-loop file start count len₀ k₀ len k = MeasuredBefore file start count len k
 
 abbrev μ-loop : tie.MeasureT-loop
 μ-loop file start count len₀ k₀ len k = count - k

@@ -4,9 +4,8 @@ use native.Mathlib.Nat.{mul-le-mul-right}
 use native.Mathlib.Omega.{arith}
 use lib.ListN.{length}
 use denote.Ref.{now}
-use Rattle.format.specs.Tables.{rowRoom}
+use Rattle.format.specs.Tables.{rowRoom, stated}
 use Rattle.format.proofs.Cell.{cell-room}
-use Rattle.queries.specs.Asked.{stated}
 use Rattle.table_rows.specs.OwnRows.{cellIn}
 use Rattle.row_search.specs.FirstRow.{testOf}
 use Rattle.queries.proofs.Asking.{room}

@@ -4,8 +4,8 @@ use mathlib.Core.Path.{_≡_, refl, ap, _∙_}
 use mathlib.Core.List.{List}
 use denote.Ref.{now}
 use Rattle.format.specs.Questions.{stcs, duration45k, ticks45, durationOf, ofStc, answer}
-use Rattle.format.specs.Tables.{tableRows, stcCells, clipIn}
-use Rattle.queries.specs.Asked.{stated, onlyStcs}
+use Rattle.format.specs.Tables.{tableRows, stcCells, clipIn, stated}
+use Rattle.queries.specs.Asked.{onlyStcs}
 use Rattle.queries.proofs.Asking.{unstated, room}
 use Rattle.sequence_queries.proofs.Laws.{no-row, row-answers}
 use borrow.Author.Needs.{needs}

@@ -5,8 +5,8 @@ use mathlib.Core.List.{List}
 use denote.Ref.{now}
 use Rattle.format.specs.Ticks.{doubled}
 use Rattle.format.specs.Questions.{stcs, duration90k, ticks90, durationOf, ofStc, answer}
-use Rattle.format.specs.Tables.{tableRows, stcCells, clipIn}
-use Rattle.queries.specs.Asked.{stated, onlyStcs}
+use Rattle.format.specs.Tables.{tableRows, stcCells, clipIn, stated}
+use Rattle.queries.specs.Asked.{onlyStcs}
 use Rattle.queries.proofs.Asking.{unstated, room}
 use Rattle.sequence_queries.proofs.Laws.{no-row, row-answers}
 use borrow.Author.Needs.{needs}

@@ -2,7 +2,8 @@
 use mathlib.Core.Path.{refl, _∙_}
 use denote.Ref.{now}
 use Rattle.format.specs.Questions.{stcs, firstStcSequence}
-use Rattle.queries.specs.Asked.{stated, onlyStcs}
+use Rattle.format.specs.Tables.{stated}
+use Rattle.queries.specs.Asked.{onlyStcs}
 use Rattle.queries.proofs.Asking.{unstated, answered}
 use Rattle.sequence_queries.proofs.Laws.{no-first, a-first}
 use borrow.Author.Needs.{needs}

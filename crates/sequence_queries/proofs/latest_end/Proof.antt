@@ -3,13 +3,14 @@ use Prim.Native.Nat.{_-_, _≤_}
 use native.Mathlib.Omega.{arith}
 use mathlib.Core.Path.{refl}
 use denote.Ref.{now}
+use Rattle.ticks.specs.Times.{as45}
 use Rattle.sequence_queries.proofs.Laws.{Latest, latest-first, latest-turn, latest-done}
 use borrow.Author.Needs.{needs}
 use Rattle.sequence_queries.proofs.latest_end.Statement.{statement}
 use Rattle.sequence_queries.proofs.latest_end.Tie as tie
 
 abbrev Inv-loop : tie.InvT-loop
-Inv-loop stcs rows latest₀ k₀ latest k = (k ≤ rows) × Latest stcs rows k latest
+Inv-loop stcs rows latest₀ k₀ latest k = (k ≤ rows) × Latest stcs rows k (as45 latest)
 
 abbrev μ-loop : tie.MeasureT-loop
 μ-loop stcs rows latest₀ k₀ latest k = rows - k
@@ -42,13 +43,13 @@ loop-again : tie.Need-loop-again Inv-loop μ-loop
 loop-again c =
     let a = c .before .before .before .before .before .args in
     let l = c .before .before .before .loop in
-    (omega arith, latest-turn (now (a .stcs)) (a .rows) (l .k) (l .latest) (omega arith) refl (c .before .cell-at .ensures) (c .later .ensures) (l .inv .1))
+    (omega arith, latest-turn (now (a .stcs)) (a .rows) (l .k) (as45 (l .latest)) (omega arith) refl (c .before .cell-at .ensures) (c .later .ensures) (l .inv .1))
 
 returns : tie.Need-returns Inv-loop μ-loop
 returns c =
     let a = c .before .before .before .args in
     let l = c .before .loop in
-    latest-done (now (a .stcs)) (a .rows) (l .k) (l .latest) (c .loop-test .left) (l .inv .1)
+    latest-done (now (a .stcs)) (a .rows) (l .k) (as45 (l .latest)) (c .loop-test .left) (l .inv .1)
 
 pub latest-end-spec : {M : Type 1} → statement M
 latest-end-spec =

@@ -3,6 +3,7 @@ use Prim.Native.Nat.{_-_, _≤_}
 use native.Mathlib.Omega.{arith}
 use mathlib.Core.Path.{refl}
 use denote.Ref.{now}
+use Rattle.ticks.specs.Times.{as45}
 use Rattle.format.specs.Questions.{leastStart}
 use Rattle.format.specs.Tables.{tableRows, stcCells}
 use Rattle.sequence_queries.proofs.Laws.{Least, least-first, least-turn, least-done}
@@ -11,13 +12,13 @@ use Rattle.sequence_queries.proofs.least_start.Statement.{statement}
 use Rattle.sequence_queries.proofs.least_start.Tie as tie
 
 abbrev Inv-loop : tie.InvT-loop
-Inv-loop stcs rows first least₀ k₀ least k = (k ≤ rows) × Least stcs rows (leastStart (record { ticks = first }) (tableRows stcCells stcs rows)) k least
+Inv-loop stcs rows least₀ k₀ least k = (k ≤ rows) × Least stcs rows (leastStart (as45 least₀) (tableRows stcCells stcs rows)) k (as45 least)
 
 abbrev μ-loop : tie.MeasureT-loop
-μ-loop stcs rows first least₀ k₀ least k = rows - k
+μ-loop stcs rows least₀ k₀ least k = rows - k
 
 loop-holds : tie.Need-loop-holds Inv-loop μ-loop
-loop-holds c = let a = c .before .args in (omega arith, least-first (now (a .stcs)) (a .rows) (a .first))
+loop-holds c = let a = c .before .args in (omega arith, least-first (now (a .stcs)) (a .rows) (as45 (a .first)))
 
 cast-cell-at : tie.Need-cast-cell-at Inv-loop μ-loop
 cast-cell-at c = search needs
@@ -44,13 +45,13 @@ loop-again : tie.Need-loop-again Inv-loop μ-loop
 loop-again c =
     let a = c .before .before .before .before .before .args in
     let l = c .before .before .before .loop in
-    (omega arith, least-turn (now (a .stcs)) (a .rows) (l .k) (l .least) (omega arith) refl (c .before .cell-at .ensures) (c .earlier .ensures) (l .inv .1))
+    (omega arith, least-turn (now (a .stcs)) (a .rows) (l .k) (as45 (l .least)) (omega arith) refl (c .before .cell-at .ensures) (c .earlier .ensures) (l .inv .1))
 
 returns : tie.Need-returns Inv-loop μ-loop
 returns c =
     let a = c .before .before .before .args in
     let l = c .before .loop in
-    least-done (now (a .stcs)) (a .rows) (l .k) (l .least) (c .loop-test .left) (l .inv .1)
+    least-done (now (a .stcs)) (a .rows) (l .k) (as45 (l .least)) (c .loop-test .left) (l .inv .1)
 
 pub least-start-spec : {M : Type 1} → statement M
 least-start-spec =

@@ -3,8 +3,8 @@ use mathlib.Core.Path.{refl, _∙_}
 use denote.Ref.{now}
 use Rattle.format.specs.Questions.{stcs, minutesRemaining}
 use Rattle.ticks.specs.Times.{as90}
-use Rattle.format.specs.Tables.{stcCells}
-use Rattle.queries.specs.Asked.{stated, onlyStcs}
+use Rattle.format.specs.Tables.{stcCells, stated}
+use Rattle.queries.specs.Asked.{onlyStcs}
 use Rattle.queries.proofs.Asking.{unstated, answered, room}
 use Rattle.sequence_queries.proofs.Laws.{minutes-are}
 use borrow.Author.Needs.{needs}

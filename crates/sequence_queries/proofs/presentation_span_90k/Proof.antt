@@ -4,8 +4,8 @@ use mathlib.Core.Path.{refl, _∙_}
 use native.Mathlib.Omega.{arith}
 use denote.Ref.{now}
 use Rattle.format.specs.Questions.{stcs, presentationSpan90k}
-use Rattle.format.specs.Tables.{rowRoom, stcCells}
-use Rattle.queries.specs.Asked.{stated, onlyStcs}
+use Rattle.format.specs.Tables.{rowRoom, stcCells, stated}
+use Rattle.queries.specs.Asked.{onlyStcs}
 use Rattle.queries.proofs.Asking.{unstated, answered, room}
 use Rattle.sequence_queries.proofs.Laws.{no-span, span-is}
 use borrow.Author.Needs.{needs}

@@ -11,9 +11,9 @@ use borrow.Author.Tests.{le-leb}
 use Rattle.format.specs.ClipRecord.{sequencesStart, programsStart, cpiStart, marksStart, sequencesEnd, marksIn}
 use Rattle.format.specs.Programs.{programsEnd}
 use Rattle.section_heads.specs.declared.Section.{Section}
-use Rattle.info_sections.specs.Sections.{measured}
+use Rattle.info_sections.specs.Sections.{sectionMeasured}
 use Rattle.info_sections.proofs.Sections.{CountsAre, counts-are, past-end}
-use Rattle.cpi.specs.Maps.{measured as cpiMeasured}
+use Rattle.cpi.specs.Maps.{cpiMeasured}
 use Rattle.clip_sections.specs.Clips.{frontOf}
 use Rattle.clip_sections.proofs.Laws.{front-facts, front-refused, sequences-refused, programs-refused, cpi-refused, maps-refused, marks-refused, all-counted, cpi-past, map-past, cpi-counts}
 use borrow.Author.Needs.{needs}
@@ -48,8 +48,8 @@ module _ (m : tie.After-measure) where
   abbrev K1 : tie.Else1
   K1 = search
 
-  sequences : measured Section.Sequences (F K1) (sequencesStart (F K1)) ≡ m .measure .result
-  sequences = let r : tie.After-read = search in sym (ap (measured Section.Sequences (F K1)) (r .read .ensures .sequences)) ∙ sym (m .measure .ensures)
+  sequences : sectionMeasured Section.Sequences (F K1) (sequencesStart (F K1)) ≡ m .measure .result
+  sequences = let r : tie.After-read = search in sym (ap (sectionMeasured Section.Sequences (F K1)) (r .read .ensures .sequences)) ∙ sym (m .measure .ensures)
 
 returns-2 : tie.Need-returns-2
 returns-2 c =
@@ -73,8 +73,8 @@ module _ (m : tie.After-measure2) where
   abbrev K3 : tie.Else1
   K3 = search
 
-  programs : measured Section.Programs (F K3) (programsStart (F K3)) ≡ m .measure2 .result
-  programs = let r : tie.After-read = search in sym (ap (measured Section.Programs (F K3)) (r .read .ensures .programs)) ∙ sym (m .measure2 .ensures)
+  programs : sectionMeasured Section.Programs (F K3) (programsStart (F K3)) ≡ m .measure2 .result
+  programs = let r : tie.After-read = search in sym (ap (sectionMeasured Section.Programs (F K3)) (r .read .ensures .programs)) ∙ sym (m .measure2 .ensures)
 
 returns-3 : tie.Need-returns-3
 returns-3 c =

@@ -3,9 +3,9 @@ use mathlib.Core.Path.{ap, _∙_}
 use denote.Ref.{now}
 use Rattle.format.specs.Refusals.{writeNumbers, outputBy, outputAfter}
 use Rattle.format.specs.Rewriting.{encode}
-use Rattle.format.specs.Tables.{ClipTables, clipIn}
+use Rattle.format.specs.Tables.{ClipTables, clipIn, stated}
 use Rattle.clip_information.specs.Read.{scalarsBy}
-use Rattle.queries.specs.Asked.{stated, tablesWith}
+use Rattle.queries.specs.Asked.{tablesWith}
 use Rattle.encode.proofs.Answers.{narrow-by-answer}
 use borrow.Author.Needs.{needs}
 use Rattle.clpi.proofs.writing.clpi_write.Statement.{statement}

@@ -5,7 +5,7 @@ use mathlib.Core.Logic.{⊎-elim}
 use native.Mathlib.Omega.{arith}
 use denote.Ref.{now}
 use Rattle.ep_entries.proofs.Walks.{steps-on, walking-less}
-use Rattle.ep_entries.proofs.Joined.{Filled, filled-first, filled-run, filled-step, filled-done}
+use Rattle.ep_entries.proofs.Joined.{Filled, filled-first, filled-stretch, filled-step, filled-done}
 use Rattle.ep_entries.proofs.entries.put_entries.Statement.{statement}
 use Rattle.ep_entries.proofs.entries.put_entries.Tie as tie
 
@@ -20,8 +20,8 @@ loop-holds c =
     let s : tie.Start Inv-loop μ-loop = search in
     filled-first (now (s .args .file)) (s .args .m) (now (s .args .table)) (s .args .at) (c .start .result) (c .start .ensures)
 
-put-run-requires : tie.Need-put-run-requires Inv-loop μ-loop
-put-run-requires c κs =
+put-stretch-requires : tie.Need-put-stretch-requires Inv-loop μ-loop
+put-stretch-requires c κs =
     let s : tie.Start Inv-loop μ-loop = search in
     let l : tie.At-loop Inv-loop μ-loop = search in
     let t : tie.Then1 Inv-loop μ-loop = search in
@@ -61,14 +61,14 @@ loop-again c =
     let e = l .w .next in
     let met : Filled f (a .m) t₀ (a .at) (j .if2 .table) (l .w) (j .if2 .k) × (e ≤ j .if2 .k) =
     ⊎-elim
-    (λ x. (rw (x .5, x .6) (filled-run f (a .m) t₀ (a .at) (l .table) (l .w) (l .k) (l .inv) e (omega arith) (omega arith) (omega arith) (x .2 .kept .1 .1 .1 .1 .1 .0) (x .2 .ensures)), omega arith))
+    (λ x. (rw (x .5, x .6) (filled-stretch f (a .m) t₀ (a .at) (l .table) (l .w) (l .k) (l .inv) e (omega arith) (omega arith) (omega arith) (x .2 .kept .1 .1 .1 .1 .1 .0) (x .2 .ensures)), omega arith))
     (λ x. (rw (x .1, x .2) (l .inv), omega arith))
     (j .if2 .came)
     in
     filled-step f (a .m) t₀ (a .at) (j .if2 .table) (l .w) (j .if2 .k) (met .0) (s .pre .rows .few) (met .1) (c .at-row .ensures)
 
-put-run-requires-2 : tie.Need-put-run-requires-2 Inv-loop μ-loop
-put-run-requires-2 c κs =
+put-stretch-requires-2 : tie.Need-put-stretch-requires-2 Inv-loop μ-loop
+put-stretch-requires-2 c κs =
     let s : tie.Start Inv-loop μ-loop = search in
     let l : tie.At-loop Inv-loop μ-loop = search in
     record {
@@ -82,15 +82,15 @@ returns c =
     let s : tie.Start Inv-loop μ-loop = search in
     let turn : tie.At-loop Inv-loop μ-loop = search in
     let left : tie.Else1 Inv-loop μ-loop = search in
-    let put : tie.After-put-run2 Inv-loop μ-loop = search in
+    let put : tie.After-put-stretch2 Inv-loop μ-loop = search in
     let a = s .args in
     let f = now (a .file) in
     let t₀ = now (a .table) in
     let l = turn .loop in
     let n = a .m .«num_fine» in
-    let p = put .put-run2 in
+    let p = put .put-stretch2 in
     filled-done f (a .m) t₀ (a .at) (p .last .1 .1 .1 .1 .1 .0) (l .w)
-    (filled-run f (a .m) t₀ (a .at) (l .table) (l .w) (l .k) (l .inv) n (l .inv .within) (left .if1 .left) (omega arith) (p .kept .1 .1 .1 .1 .1 .0) (p .ensures))
+    (filled-stretch f (a .m) t₀ (a .at) (l .table) (l .w) (l .k) (l .inv) n (l .inv .within) (left .if1 .left) (omega arith) (p .kept .1 .1 .1 .1 .1 .0) (p .ensures))
 
 pub put-entries-spec : {M : Type 1} → statement M
 put-entries-spec =
@@ -102,10 +102,10 @@ put-entries-spec =
     loop-holds
     (λ c. search needs)
     (λ c. search needs)
-    put-run-requires
+    put-stretch-requires
     at-row-requires
     loop-less
     loop-again
-    put-run-requires-2
+    put-stretch-requires-2
     (λ c. search needs)
     returns)

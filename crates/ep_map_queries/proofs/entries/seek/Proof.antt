@@ -2,9 +2,9 @@
 use mathlib.Core.Path.{_≡_, sym, ap, _∙_}
 use native.Mathlib.Omega.{arith}
 use denote.Ref.{now}
-use Rattle.queries.specs.Asked.{stated}
+use Rattle.format.specs.Tables.{stated}
 use Rattle.table_rows.specs.OwnRows.{owns, ownedOf}
-use Rattle.ep_map_queries.specs.InMap.{entriesOf}
+use Rattle.ep_map_queries.specs.InMap.{ownedEntries}
 use Rattle.ep_map_queries.proofs.Answers.{seek-asks, not-asked, asked, inside}
 use borrow.Author.Needs.{needs}
 use Rattle.ep_map_queries.proofs.entries.seek.Statement.{statement}
@@ -20,7 +20,7 @@ enum-known-first : tie.Need-enum-known-first
 enum-known-first c = search needs
 
 -- the map's own entries
-own : (k : tie.After-known-told) → let a = k .before .before .before .before .before .before .args in owns (k .before .first .given .0 .0) (k .before .first .given .0 .1 .0) ≡ entriesOf (stated (now (a .maps)) (a .map-rows)) (stated (now (a .entries)) (a .entry-rows)) (a .map)
+own : (k : tie.After-known-told) → let a = k .before .before .before .before .before .before .args in owns (k .before .first .given .0 .0) (k .before .first .given .0 .1 .0) ≡ ownedEntries (stated (now (a .maps)) (a .map-rows)) (stated (now (a .entries)) (a .entry-rows)) (a .map)
 own k = sym (ap ownedOf (k .before .first .given .1)) ∙ k .before .before .before .entries-of-map .ensures
 
 cast-seek-in : tie.Need-cast-seek-in

@@ -1,6 +1,6 @@
 -- Each test that fails says no; behind them the counts decide.
 use denote.Ref.{now}
-use Rattle.queries.specs.Asked.{stated}
+use Rattle.format.specs.Tables.{stated}
 use Rattle.table_rows.specs.OwnRows.{headCells}
 use Rattle.queries.proofs.Asking.{room}
 use Rattle.table_rows.proofs.OwnRows.{no-heads, no-rows, counted}

@@ -1,0 +1,2 @@
+-- What is promised of an input that was listed.
+pub mod ShownInput
