@@ -8,9 +8,9 @@ use denote.Ref.{now}
 use borrow.Author.Tests.{le-leb}
 use Rattle.format.specs.Reading.{clipOf, recordOf}
 use Rattle.format.specs.Rewriting.{encode}
-use Rattle.format.specs.Tables.{Nine, ClipTables, HoldsClip, Room}
+use Rattle.format.specs.Tables.{Nine, stated, ClipTables, HoldsClip, Room}
 use Rattle.format.specs.Refusals.{ReadAnswer, statedOf, accepted, readAnswer, readNumbers, tablesOf, tablesAfter, WriteAnswer, written, writeAnswer, writeNumbers, outputBy, outputAfter}
-use Rattle.queries.specs.Asked.{stated, tablesWith}
+use Rattle.queries.specs.Asked.{tablesWith}
 use Rattle.clpi_reading.specs.Numbers.{readingNumbers}
 use Rattle.clpi_writing.specs.Numbers.{writingNumbers}
 use Rattle.clpi_writing.specs.declared.ClpiWriting.{ClpiWriting}

@@ -8,9 +8,9 @@ use lib.ListN.{length, take, drop}
 use denote.Ref.{now}
 use Rattle.format.specs.ClipRecord.{Scalars}
 use Rattle.format.specs.Reading.{recordOf}
-use Rattle.format.specs.Tables.{Nine, ClipTables, HoldsClip, Room}
+use Rattle.format.specs.Tables.{Nine, stated, ClipTables, HoldsClip, Room}
 use Rattle.format.specs.Refusals.{tablesOf}
-use Rattle.queries.specs.Asked.{stated, tablesWith}
+use Rattle.queries.specs.Asked.{tablesWith}
 use Rattle.clip_information.specs.Read.{nineTables, scalarsBy}
 use Rattle.clpi_reading.specs.declared.ClpiReading.{ClpiReading}
 use Rattle.clpi_writing.specs.declared.ClpiWriting.{ClpiWriting}
