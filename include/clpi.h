@@ -552,8 +552,8 @@ struct clpi_answer clpi_spn_to_byte(uint32_t number_of_source_packets, uint32_t 
 /* The packet in which a byte of the clip lies. */
 struct clpi_answer clpi_byte_to_spn(uint32_t number_of_source_packets, uint64_t byte);
 
-/* The seconds that the clip's bytes take at its rate: seconds * rate and the bytes differ by at most bytes / 2^53.
- * `found` is 0 where the rate is 0, and `seconds` then too. */
+/* The seconds that the clip's bytes take at its rate: seconds * rate and the bytes differ by at most bytes / 2^53. It is
+ * the nearest double, in every rounding mode. `found` is 0 where the rate is 0, and `seconds` then too. */
 struct clpi_seconds {
     uint32_t refusal; /* 0 */
     uint32_t found;   /* 1 where there is a rate */

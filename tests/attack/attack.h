@@ -89,6 +89,7 @@ void attack_sizes(void);
 void attack_records(void);
 void attack_files(void);
 void attack_questions(void);
+void attack_rounding(void);
 
 /* All that is tried on one file; tells whether it is accepted. How many were, and how many were rewritten. */
 int try_file(const uint8_t *file, size_t bytes);

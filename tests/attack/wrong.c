@@ -199,3 +199,11 @@ STANDS_BEFORE(struct clpi_answer, last_pts, OF_TWO, uint32_t map)
         r.refusal = 0;
     return r;
 }
+
+STANDS_BEFORE(struct clpi_seconds, transfer_duration_secs, uint32_t rate, uint32_t packets)
+{
+    struct clpi_seconds r = __real_clpi_transfer_duration_secs(rate, packets);
+    if (rate && is("the seconds in the machine's rounding mode"))
+        r.seconds = (double)(packets * (uint64_t)192) / rate;
+    return r;
+}

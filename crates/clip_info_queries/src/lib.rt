@@ -1,9 +1,12 @@
 // Questions about the packet count and the rate.
+pub mod division;
+
 ghost use mathlib.Core.Path.{_≡_};
 ghost use Rattle.format.specs.Questions.{number, ask, clipByteLen, spnToByte, byteToSpn, transferDurationSecs, IsTransfer};
 ghost use Rattle.queries.specs.Answers.{foundOf};
 ghost use Rattle.queries.specs.Asked.{onlyCounts, onlyScalars};
 ghost use Rattle.clip_info_queries.specs.Durations.{transferOf};
+use crate::division::divide;
 use queries::Found;
 
 // The bytes of a packet.
@@ -43,7 +46,7 @@ pub fn byte_to_spn(packets: u32, byte: u64) -> Found
     Found::Nothing
 }
 
-// The seconds that the clip's bytes take at its rate.
+// The seconds that the clip's bytes take at its rate: the same in every rounding mode of the machine.
 pub fn transfer_duration_secs(rate: u32, packets: u32) -> Duration
     ensures { λ r. ⌜ transferOf r ≡ ask transferDurationSecs (onlyScalars (onlyCounts rate packets)) ⌝ }
     ensures { λ r. ⌜ IsTransfer rate packets (transferOf r) ⌝ }
@@ -52,5 +55,5 @@ pub fn transfer_duration_secs(rate: u32, packets: u32) -> Duration
         return Duration::NoRate;
     }
     let bytes = (packets as u64) * PACKET;
-    Duration::Seconds(bytes as f64 / rate as f64)
+    Duration::Seconds(divide(bytes, rate as u64))
 }

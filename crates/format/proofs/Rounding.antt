@@ -25,13 +25,13 @@ use Rattle.format.specs.Bytes.{pick}
 use Rattle.format.specs.Questions.{seconds, noRate, apart, Near, IsTransfer, packetBytes, transferSecs}
 
 -- ---- what `compare` says
-abbrev Cmp : Ordering → ℕ → ℕ → Type 0
+abbrev pub Cmp : Ordering → ℕ → ℕ → Type 0
 Cmp Ordering·lt a b = a < b
 Cmp Ordering·eq a b = a ≡ b
 Cmp Ordering·gt a b = b < a
 
 -- what `compare` answers holds of its two numbers
-cmp : (a b : ℕ) → Cmp (compare a b) a b
+pub cmp : (a b : ℕ) → Cmp (compare a b) a b
 cmp a b = go (compare a b) (leb→le a b) (nleb→lt a b) (eqb→eq a b) (λ (e : a ≡ b). subst (λ (x : ℕ). T (eqb a x)) e (eqb-refl a))
   where
     go : (o : Ordering) → (T (isLe o) → a ≤ b) → (T (not (isLe o)) → b < a) → (T (isEq o) → a ≡ b) → (a ≡ b → T (isEq o)) → Cmp o a b
@@ -179,12 +179,14 @@ round-near a c A C D = elim (eq-zero-or-pos a) [ inl z ↦ none z | inr p ↦ so
         (round-val binary64 a c (under (grid binary64 a c) c n (2 ^ (1074 + 1024)) C h top))
         h
 
--- numbers up to 2 ^ 53 are floats exactly, so their float quotient is a / c rounded, and near
-pub quotient-near : (a c : ℕ) → a ≤ 2 ^ 53 → 0 < c → c ≤ 2 ^ 53 → Near c a (div binary64 (ofInt binary64 (pos a)) (ofInt binary64 (pos c)))
+-- numbers up to 2 ^ 53 are floats exactly, so their float quotient is a / c rounded
+pub quotient-is : (a c : ℕ) → a ≤ 2 ^ 53 → 0 < c → c ≤ 2 ^ 53 → div binary64 (ofInt binary64 (pos a)) (ofInt binary64 (pos c)) ≡ round binary64 false a c
 unfolding ofInt
-quotient-near a c A C D =
-    subst (λ (x : Float). Near c a x) (sym (div-is binary64 (round binary64 false a 1) (round binary64 false c 1) a c C (round-whole binary64 false a A) (round-whole binary64 false c D)))
-    (round-near a c A C D)
+quotient-is a c A C D = div-is binary64 (round binary64 false a 1) (round binary64 false c 1) a c C (round-whole binary64 false a A) (round-whole binary64 false c D)
+
+-- and near
+pub quotient-near : (a c : ℕ) → a ≤ 2 ^ 53 → 0 < c → c ≤ 2 ^ 53 → Near c a (div binary64 (ofInt binary64 (pos a)) (ofInt binary64 (pos c)))
+quotient-near a c A C D = subst (λ (x : Float). Near c a x) (sym (quotient-is a c A C D)) (round-near a c A C D)
 
 -- the same with the quotient read back from its bit pattern
 pub quotient-near-bits : (a c : ℕ) → a ≤ 2 ^ 53 → 0 < c → c ≤ 2 ^ 53
