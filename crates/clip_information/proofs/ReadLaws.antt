@@ -1,5 +1,5 @@
 -- The answer of reading, and what the passes that fill may rely on once all is ready.
-use Prim.Native.Nat.{ℕ, _≤_, _/_}
+use Prim.Native.Nat.{ℕ, _*_, _≤_, _/_}
 use mathlib.Core.Path.{_≡_, refl, sym, ap, _∙_}
 use mathlib.Core.List.{List}
 use mathlib.Core.Bool.{Bool, true, false}
@@ -12,7 +12,7 @@ use Rattle.format.specs.ClipRecord.{extensionsStart, marksStart, marksFrom, ent
 use Rattle.format.specs.Extensions.{extensionRows}
 use Rattle.format.specs.Reading.{clipOf, recordOf}
 use Rattle.format.specs.Refusals.{refused, accepted, refusalOf, tablesOf, statedOf, tablesAnswer, readAnswer}
-use Rattle.format.specs.Tables.{Nine, rowRoom, extensionCells}
+use Rattle.format.specs.Tables.{Nine, zipNine, AllNine, nineCells, rowRoom, extensionCells}
 use Rattle.format.proofs.Tests.{ap-pick}
 use Rattle.extension.specs.declared.ListData.{ListData}
 use Rattle.clip_sections.specs.Infos.{clipInfoOf}
@@ -39,16 +39,8 @@ answer-tables f tables =
 -- ---- room
 
 -- room enough is room in each table
-pub record Room-in-each (rows bytes : Rows) : Type 0 where
-  pub atcs-room : rows .atcs ≤ bytes .atcs / 12
-  pub stcs-room : rows .stcs ≤ bytes .stcs / 16
-  pub programs-room : rows .programs ≤ bytes .programs / 12
-  pub streams-room : rows .streams ≤ bytes .streams / 20
-  pub maps-room : rows .maps ≤ bytes .maps / 12
-  pub entries-room : rows .entries ≤ bytes .entries / entrySize
-  pub extensions-room : rows .extensions ≤ bytes .extensions / 16
-  pub list-programs-room : rows .«list_programs» ≤ bytes .«list_programs» / 12
-  pub list-streams-room : rows .«list_streams» ≤ bytes .«list_streams» / 20
+abbrev pub RoomInEach : Rows → Rows → Type 0
+RoomInEach rows bytes = AllNine _≤_ (nineBy rows) (zipNine (λ cells size. size / (4 * cells)) nineCells (nineBy bytes))
 
 -- the first of two tests that both passed, and the rest
 passed : (b : Bool) {later : Room} (k n : ℕ) → pick b later (Room.Short k n) ≡ Room.Enough → (b ≡ true) × (later ≡ Room.Enough)
@@ -56,7 +48,7 @@ passed true k n h = (refl, h)
 passed false k n h = let z : _≡_ {A = ℕ} 0 1 = cc in absurd (omega arith)
 
 -- each test of room passed
-pub room-in-each : (rows bytes : Rows) → roomOf rows bytes ≡ Room.Enough → Room-in-each rows bytes
+pub room-in-each : (rows bytes : Rows) → roomOf rows bytes ≡ Room.Enough → RoomInEach rows bytes
 unfolding roomOf roomBehind
 room-in-each rows bytes h =
     let p1 = passed (leb (rows .atcs) (bytes .atcs / 12)) 1 (rows .atcs) h in
@@ -69,15 +61,15 @@ room-in-each rows bytes h =
     let p8 = passed (leb (rows .«list_programs») (bytes .«list_programs» / 12)) 8 (rows .«list_programs») (p7 .1) in
     let p9 = passed (leb (rows .«list_streams») (bytes .«list_streams» / 20)) 9 (rows .«list_streams») (p8 .1) in
     record {
-      atcs-room = leb-true _ _ (p1 .0);
-      stcs-room = leb-true _ _ (p2 .0);
-      programs-room = leb-true _ _ (p3 .0);
-      streams-room = leb-true _ _ (p4 .0);
-      maps-room = leb-true _ _ (p5 .0);
-      entries-room = leb-true _ _ (p6 .0);
-      extensions-room = leb-true _ _ (p7 .0);
-      list-programs-room = leb-true _ _ (p8 .0);
-      list-streams-room = leb-true _ _ (p9 .0);
+      atcs = leb-true _ _ (p1 .0);
+      stcs = leb-true _ _ (p2 .0);
+      programs = leb-true _ _ (p3 .0);
+      streams = leb-true _ _ (p4 .0);
+      maps = leb-true _ _ (p5 .0);
+      entries = leb-true _ _ (p6 .0);
+      extensions = leb-true _ _ (p7 .0);
+      listPrograms = leb-true _ _ (p8 .0);
+      listStreams = leb-true _ _ (p9 .0);
     }
 
 -- ---- what was prepared
@@ -95,7 +87,7 @@ module _ (f : List ℕ) (tables : Nine (List ℕ)) {r : Prepared} (p : PreparedI
 
 module _ (f : List ℕ) (tables : Nine (List ℕ)) {rows : Rows} {list : ListData} {has : Bool} (ready : ReadyIs f (lengthsOf tables) rows list has) where
   -- room in each table for the rows needed
-  each : Room-in-each (neededRows f) (lengthsOf tables)
+  each : RoomInEach (neededRows f) (lengthsOf tables)
   each = room-in-each (neededRows f) (lengthsOf tables) (ready .room)
 
   -- tables 1 to 6 can be filled
@@ -104,18 +96,18 @@ module _ (f : List ℕ) (tables : Nine (List ℕ)) {rows : Rows} {list : ListDat
   sections-fit = record {
     accepts = ready .accepts;
     counted = ap (λ r. r .maps) (ready .rows-are);
-    atcs-room = each .atcs-room;
-    stcs-room = each .stcs-room;
-    programs-room = each .programs-room;
-    streams-room = each .streams-room;
-    maps-room = each .maps-room;
-    entries-room = each .entries-room;
+    atcs-room = each .atcs;
+    stcs-room = each .stcs;
+    programs-room = each .programs;
+    streams-room = each .streams;
+    maps-room = each .maps;
+    entries-room = each .entries;
   }
 
   -- table 7 can be filled
   pub extensions-fit : {start : ℕ} → start ≡ extensionsStart f → (length f ≤ 536870912) × (length (extensionRows f start) ≤ rowRoom extensionCells (tables .extensions))
   unfolding tablesOf
-  extensions-fit e = (accepted-bounds f (ready .accepts) .0, rw e (each .extensions-room))
+  extensions-fit e = (accepted-bounds f (ready .accepts) .0, rw e (each .extensions))
 
   -- tables 8 and 9 can be filled
   pub list-fits : ListFits f list has (tables .listPrograms) (tables .listStreams)
@@ -124,8 +116,8 @@ module _ (f : List ℕ) (tables : Nine (List ℕ)) {rows : Rows} {list : ListDat
     list-is = ready .list-is;
     list-in = ready .list-in;
     has-is = ready .has-is;
-    programs-room = each .list-programs-room;
-    streams-room = each .list-streams-room;
+    programs-room = each .listPrograms;
+    streams-room = each .listStreams;
   }
 
   -- what the code states is what reading states

@@ -4,11 +4,12 @@ use mathlib.Core.List.{List, []}
 use mathlib.Core.Bool.{Bool}
 use lib.ListN.{length}
 use Rattle.format.specs.ClipRecord.{Scalars, marksStart, marksFrom}
-use Rattle.format.specs.Tables.{Nine}
+use Rattle.format.specs.Tables.{Nine, mapNine}
 use Rattle.format.specs.Refusals.{ReadAnswer, refused, tooShort, accepted}
 use Rattle.clip_sections.specs.Infos.{clipInfoOf}
 use Rattle.clip_sections.specs.declared.info.ClipInfo.{ClipInfo}
 use Rattle.nine_tables.specs.declared.Rows.{Rows}
+use Rattle.clip_prepare.specs.Prepare.{rowsBy}
 use Rattle.clip_information.specs.declared.read.Answer.{Answer}
 
 -- the nine lent tables
@@ -27,17 +28,7 @@ nineTables t1 t2 t3 t4 t5 t6 t7 t8 t9 = record {
 
 -- their lengths in bytes
 abbrev pub lengthsOf : Nine (List ℕ) → Rows
-lengthsOf tables = record {
-  atcs = length (tables .atcs);
-  stcs = length (tables .stcs);
-  programs = length (tables .programs);
-  streams = length (tables .streams);
-  maps = length (tables .maps);
-  entries = length (tables .entries);
-  extensions = length (tables .extensions);
-  «list_programs» = length (tables .listPrograms);
-  «list_streams» = length (tables .listStreams);
-}
+lengthsOf tables = rowsBy (mapNine length tables)
 
 -- those of the first six, and none of the others
 abbrev pub sixLengths : (atcs stcs programs streams maps entries : List ℕ) → Rows
