@@ -15,17 +15,17 @@ abbrev μ-loop : tie.MeasureT-loop
 
 returns : tie.Need-returns Inv-loop μ-loop
 returns c =
-    let a = c .before .before .args in
-    no-pid (now (a .maps)) (a .rows) (c .if1 .taken)
+    let s : tie.Start Inv-loop μ-loop = search in
+    no-pid (now (s .args .maps)) (s .args .rows) (c .if1 .taken)
 
 cell-at-requires : tie.Need-cell-at-requires Inv-loop μ-loop
 cell-at-requires c κs = search needs
 
 loop-holds : tie.Need-loop-holds Inv-loop μ-loop
 loop-holds c =
-    let e = c .before in
-    let a = e .before .before .args in
-    (omega (arith, e .if1 .left), omega (arith, e .if1 .left), pids-first (now (a .maps)) (a .rows) (e .if1 .left) (c .cell-at .ensures))
+    let s : tie.Start Inv-loop μ-loop = search in
+    let e : tie.Else1 Inv-loop μ-loop = search in
+    (omega (arith, e .if1 .left), omega (arith, e .if1 .left), pids-first (now (s .args .maps)) (s .args .rows) (e .if1 .left) (c .cell-at .ensures))
 
 mul-cell-at : tie.Need-mul-cell-at Inv-loop μ-loop
 mul-cell-at c = search needs
@@ -50,18 +50,21 @@ loop-less c = search needs
 
 loop-again : tie.Need-loop-again Inv-loop μ-loop
 loop-again c =
-    let a = c .before .before .before .before .before .before .before .args in
-    let l = c .before .before .before .loop in
-    (l .inv .0, omega arith, pids-turn (now (a .maps)) (a .rows) (l .k) (l .least) (omega arith) (c .before .cell-at2 .ensures) (c .lesser .ensures) (l .inv .2))
+    let s : tie.Start Inv-loop μ-loop = search in
+    let t : tie.At-loop Inv-loop μ-loop = search in
+    let l = t .loop in
+    let p : tie.After-cell-at2 Inv-loop μ-loop = search in
+    (l .inv .0, omega arith, pids-turn (now (s .args .maps)) (s .args .rows) (l .k) (l .least) (omega arith) (p .cell-at2 .ensures) (c .lesser .ensures) (l .inv .2))
 
 cast-t12 : tie.Need-cast-t12 Inv-loop μ-loop
 cast-t12 c = search needs
 
 returns-2 : tie.Need-returns-2 Inv-loop μ-loop
 returns-2 c =
-    let a = c .before .before .before .before .before .before .args in
-    let l = c .before .before .loop in
-    pid-is (now (a .maps)) (a .rows) (l .k) (l .least) (c .before .loop-test .left) (l .inv .2)
+    let s : tie.Start Inv-loop μ-loop = search in
+    let t : tie.At-loop Inv-loop μ-loop = search in
+    let l = t .loop in
+    pid-is (now (s .args .maps)) (s .args .rows) (l .k) (l .least) (omega arith) (l .inv .2)
 
 pub least-pid-spec : {M : Type 1} → statement M
 least-pid-spec =
