@@ -135,6 +135,7 @@ written-22 l p m h out = rw (six-stated l ∙ one-fails (partStated l) m (fails 
 pub rows-stated : RowsStated
 unfolding statedOf
 rows-stated = record {
+  entry-bytes = refl;
   too-many = asked-22;
   not-too-many = asked-of;
   too-many-written = written-22;

@@ -4,6 +4,7 @@ use mathlib.Core.Path.{_≡_}
 use mathlib.Core.List.{List, [], _∷_, List·Memᴰ}
 use lib.ListN.{length}
 use Rattle.format.specs.Bytes.{part}
+use Rattle.format.specs.ClipRecord.{entrySize}
 use Rattle.format.specs.Tables.{Table, ClipTables, clipIn, cellAt}
 use Rattle.format.specs.Questions.{Question, Answer, Part, partsOf, answer, ask}
 use Rattle.format.specs.Reading.{recordOf}
@@ -45,6 +46,8 @@ pub record HasData (f : List ℕ) (t : Table) (k : ℕ) : Type 0 where
 
 -- the statements together
 pub record RowsStated : Type 0 where
+  -- the row of an entry has 24 bytes
+  pub entry-bytes : entrySize ≡ 24
   -- 22 where too many rows are stated for a table that the question looks at; else what the record in the tables answers
   pub too-many : (q : Question) (l : ClipTables) (p : Part) → List·Memᴰ p (partsOf q) → TooMany l p → ask q l ≡ Answer.refused 22
   pub not-too-many : (q : Question) (l : ClipTables) → All (λ p. TooMany l p → ⊥) (partsOf q) → ask q l ≡ answer q (clipIn l)
