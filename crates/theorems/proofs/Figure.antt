@@ -16,7 +16,7 @@ use Rattle.theorems.specs.Figure.{Stc, stcRow, WithStcs, IsLess, SameTim
 -- ---- words
 
 -- a difference that stops at 0
-less-is : (a b : ℕ) → IsLess a b (a - b)
+pub less-is : (a b : ℕ) → IsLess a b (a - b)
 less-is a b = record { above = λ h. omega arith; below = λ h. omega arith }
 
 -- twice as many ticks by the faster clock
@@ -86,10 +86,10 @@ row-there : (before : List Stc) (s : Stc) (behind : List Stc) → getD (map stcR
 row-there [] s behind = refl
 row-there (x ∷ before) s behind = row-there before s behind
 
--- it is one of the rows
-is-there : (before : List Stc) (s : Stc) (behind : List Stc) → length before < length (map stcRow (before ++ (s ∷ behind)))
-is-there [] s behind = omega arith
-is-there (x ∷ before) s behind = let h = is-there before s behind in omega arith
+-- what stands behind some others is one of the rows
+pub is-there : {A B : Type 0} (row : A → B) (before : List A) (x : A) (behind : List A) → length before < length (map row (before ++ (x ∷ behind)))
+is-there row [] x behind = omega arith
+is-there row (b ∷ before) x behind = let h = is-there row before x behind in omega arith
 
 -- the durations of that STC
 durations : (before : List Stc) (s : Stc) (behind : List Stc) (c : WithStcs (before ++ (s ∷ behind)))
@@ -97,7 +97,7 @@ durations : (before : List Stc) (s : Stc) (behind : List Stc) (c : WithStcs (bef
     × (answer (duration90k (length before)) (c .clip) ≡ ticks90 (record { ticks = 2 * (s .end - s .start) }))
 unfolding answer ofStc
 durations before s behind c =
-    let l = lt-ltb (length before) (length (map stcRow (before ++ (s ∷ behind)))) (is-there before s behind) in
+    let l = lt-ltb (length before) (length (map stcRow (before ++ (s ∷ behind)))) (is-there stcRow before s behind) in
     let e = row-there before s behind in
     (rw (c .rows, l, e), rw (c .rows, l, e))
 

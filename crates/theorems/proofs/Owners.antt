@@ -21,6 +21,7 @@ use Rattle.format.proofs.Lookups.{first-from, NoneOrRow, no-row, a-row, before-
 use Rattle.theorems.specs.Figure.{Stc, stcRow, IsLess}
 use Rattle.theorems.specs.Choices.{cell, FirstOrNone}
 use Rattle.theorems.specs.Owners.{ownJoined, Entry, entryAsRow, Map, mapRow, entriesAsRows, WithMaps, PacketTold, nothing-told, told, Ends, aboutMap, OfMap, Atc, atcRow, stcRows, WithAtcs, stcCount, HasIt, Owners}
+use Rattle.theorems.proofs.Figure.{less-is, is-there}
 use Rattle.theorems.proofs.Choices.{first-or-none}
 
 -- ---- rows that belong to a row
@@ -47,11 +48,7 @@ module _ {G : Type 0} (head : G → Row) (own : G → List Row) (count : Row →
 
   -- and it is a row
   is-row : (before : List G) (g : G) (behind : List G) → ltb (length before) (length (map head (before ++ (g ∷ behind)))) ≡ true
-  is-row before g behind = lt-ltb (length before) (length (map head (before ++ (g ∷ behind)))) (within before)
-    where
-      within : (bs : List G) → length bs < length (map head (bs ++ (g ∷ behind)))
-      within [] = omega arith
-      within (b ∷ bs) = let h = within bs in omega arith
+  is-row before g behind = lt-ltb (length before) (length (map head (before ++ (g ∷ behind)))) (is-there head before g behind)
 
 -- ---- maps
 
@@ -202,7 +199,7 @@ module _ (before : List Map) (m : Map) (behind : List Map) (c : WithMaps (before
     unfolding spanOf
     span-told =
         let told = ap (λ (n : ℕ). ticks90 (record { ticks = n - entryTime (entryAsRow e) .ticks })) last-begun in
-        (l .time - e .time, span-answer ∙ rw (ends .begins) (told ∙ rw (time-cells (e .time))), record { above = λ h. omega arith; below = λ h. omega arith })
+        (l .time - e .time, span-answer ∙ rw (ends .begins) (told ∙ rw (time-cells (e .time))), less-is (l .time) (e .time))
 
   -- without entries
   no-first-told : m .entries ≡ [] → answer (firstPts (length before)) (c .clip) ≡ none
