@@ -34,7 +34,7 @@ extern "C" {
  * Another major number means that programs must be changed, or compiled anew; a higher minor number, that there is more
  * to call. */
 
-#define CLPI_VERSION_MAJOR 2
+#define CLPI_VERSION_MAJOR 3
 #define CLPI_VERSION_MINOR 0
 #define CLPI_VERSION_PATCH 0
 
@@ -76,8 +76,9 @@ enum clpi_refusal {
                                       * don't add up to the rows stated */
     CLPI_REFUSED_OUTPUT_SHORT = 23,  /* the output is too short: `bytes_needed` tells how long it must be (writing) */
     /* the record's maker: faults of the record that is to be written */
-    CLPI_REFUSED_CELLS = 30, /* a count or a cell that its field in the file can't hold */
-    CLPI_REFUSED_RUNS = 31,  /* a map has over 65535 runs */
+    CLPI_REFUSED_CELLS = 30,          /* a count or a cell that its field in the file can't hold */
+    CLPI_REFUSED_RUNS = 31,           /* a map has over 65535 runs */
+    CLPI_REFUSED_RECORD_LETTERS = 40, /* the letters of a record are neither HDMV nor CLPI (writing) */
 };
 
 /* A refusal in words, for messages; an empty string for 0 and for what is no refusal. */
@@ -112,6 +113,8 @@ static inline const char *clpi_refusal_words(uint32_t refusal)
         return "a count or a number that its field in a clip file can't hold";
     case CLPI_REFUSED_RUNS:
         return "an entry map has over 65535 runs, more than a clip file can hold";
+    case CLPI_REFUSED_RECORD_LETTERS:
+        return "the record's letters are neither HDMV nor CLPI";
     default:
         return "";
     }
@@ -199,11 +202,17 @@ struct clpi_extension {
 
 /* ---- reading */
 
+/* The letters with which a clip file begins, four bytes as one number, the first one highest. Discs have HDMV; both are
+ * read, and kept in writing. */
+#define CLPI_LETTERS_HDMV 0x48444D56u
+#define CLPI_LETTERS_CLPI 0x434C5049u
+
 /* What reading answers. Where `refusal` is not 0 every other number is 0, but for `table` and `rows_needed` with 21. */
 struct clpi_reading {
     uint32_t refusal;     /* enum clpi_refusal */
     uint32_t table;       /* 21: the lowest table, 1 to 9, that is too short */
     uint32_t rows_needed; /* 21: the rows that table needs */
+    uint32_t letters;     /* CLPI_LETTERS_HDMV or CLPI_LETTERS_CLPI: with which of the two the file begins */
     uint32_t version;     /* four bytes, the first one highest */
     uint32_t clip_stream_type;
     uint32_t application_type;
@@ -278,11 +287,12 @@ static inline struct clpi_reading clpi_read_tables(const uint8_t *file, size_t f
 
 /* ---- writing and rewriting
  *
- * Writing puts the file of a record at the output's front: letters CLPI, then clip, sequences, programs, CPI and empty
- * marks, one behind the other. It tests, in this order:
+ * Writing puts the file of a record at the output's front: the record's letters, then clip, sequences, programs, CPI
+ * and empty marks, one behind the other. It tests, in this order:
  *
  *  - CLPI_REFUSED_ROWS: more rows are stated of a table than are lent, or the counts of a table (`stc_count`,
  *    `stream_count`, `entry_count`) don't add up to the rows stated of the table counted;
+ *  - CLPI_REFUSED_RECORD_LETTERS: the letters are neither CLPI_LETTERS_HDMV nor CLPI_LETTERS_CLPI;
  *  - CLPI_REFUSED_CELLS: over 255 ATCs, STCs of one ATC, programs, streams of one program, or maps; over 262,143
  *    entries of a map; a time that is no multiple of 512, an I-end over 7, an entry's type that is not its map's; an
  *    aspect on a stream that is no video, a language on one that is; any other number that is too large for its field;
@@ -296,6 +306,7 @@ static inline struct clpi_reading clpi_read_tables(const uint8_t *file, size_t f
 /* The scalars of a record, as a reading has them. The stream type, the application type and the validity flags have a
  * byte each in the file: CLPI_REFUSED_CELLS where one is over 255. */
 struct clpi_clip_info {
+    uint32_t letters; /* CLPI_LETTERS_HDMV or CLPI_LETTERS_CLPI; any other number, 0 too, is CLPI_REFUSED_RECORD_LETTERS */
     uint32_t version; /* four bytes, the first one highest: 0x30323030 is 0200 */
     uint32_t clip_stream_type;
     uint32_t application_type;
@@ -337,6 +348,7 @@ static inline struct clpi_writing clpi_write_tables(
         refused.refusal = r->refusal;
         return refused;
     }
+    info.letters = r->letters;
     info.version = r->version;
     info.clip_stream_type = r->clip_stream_type;
     info.application_type = r->application_type;

@@ -41,11 +41,12 @@ static const uint32_t refusals[] = {
     CLPI_REFUSED_OUTPUT_SHORT,
     CLPI_REFUSED_CELLS,
     CLPI_REFUSED_RUNS,
+    CLPI_REFUSED_RECORD_LETTERS,
 };
 
 /* Whose fault they are. */
 static const char refusals_told[] =
-    "1 to 8 are faults of the file. 22, 23 and 30 come from the library alone, to\n"
+    "1 to 8 are faults of the file. 22, 23, 30 and 40 come from the library alone, to\n"
     "programs that call it.\n";
 /* end of what tools/refusals makes */
 
