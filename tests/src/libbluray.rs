@@ -80,8 +80,9 @@ fn one(
     seen: &mut Seen,
 ) -> Result<(), Difference> {
     if record.scalars.letters == CLPI {
+        [old, new].into_iter().try_for_each(|file| must_refuse(library, path, file))?;
         seen.letters += 1;
-        return [old, new].into_iter().try_for_each(|file| must_refuse(library, path, file));
+        return Ok(());
     }
     std::fs::write(path, new).map_err(|why| why.to_string())?;
     let known = VERSIONS.iter().any(|version| version[..] == record.scalars.version.to_be_bytes());
