@@ -76,7 +76,7 @@ fn any(random: &mut Random) -> Made {
     made
 }
 
-/// A record with the letters of one of the two kinds, whose cells fit their fields.
+/// A record with the letters HDMV or CLPI, whose cells fit their fields.
 fn fitting(random: &mut Random) -> Made {
     let any = |random: &mut Random| random.next() as u32 >> random.below(32);
     let mut made = Made::default();

@@ -76,14 +76,14 @@ pub fn refusal(info: &Info, input: &Input, is_short: impl Fn() -> bool, wrong: W
 
 /// Whether the letters are HDMV or CLPI.
 fn letters_right(letters: u32, wrong: WrongWrite) -> bool {
-    let small = u32::from_be_bytes(letters.to_be_bytes().map(|byte| byte.to_ascii_uppercase()));
+    let capitals = u32::from_be_bytes(letters.to_be_bytes().map(|byte| byte.to_ascii_uppercase()));
     let right = |letters: u32| letters == HDMV && wrong != HdmvRefused || letters == CLPI && wrong != ClpiRefused;
     right(letters)
         || match wrong {
             LettersNotTested => true,
             ZeroLettersAccepted => letters == 0,
             SwappedLettersAccepted => right(letters.swap_bytes()),
-            SmallLettersAccepted => right(small),
+            SmallLettersAccepted => right(capitals),
             ThreeLettersTested => [HDMV, CLPI].iter().any(|right| right >> 8 == letters >> 8),
             _ => false,
         }
