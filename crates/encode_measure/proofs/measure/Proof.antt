@@ -99,15 +99,15 @@ module _ (b : tie.After-length2) where
 returns : tie.Need-returns
 returns c =
     let s : tie.Start = search in
-    let a : tie.After-counts-add = search in
-    refused-by (refusalIn (tables s)) (clipIn (tables s)) 22 refl (refused-22 (tables s) (a .counts-add .ensures) (c .if1 .taken))
+    let test : tie.After-counts-add = search in
+    refused-by (refusalIn (tables s)) (clipIn (tables s)) 22 refl (refused-22 (tables s) (test .counts-add .ensures) (c .if1 .taken))
 
 returns-2 : tie.Need-returns-2
 returns-2 c =
     let e : tie.Else1 = search in
-    let k : tie.After-is-clip = search in
+    let test : tie.After-is-clip = search in
     let l = tables (start-of e) in
-    refused-by (refusalIn l) (clipIn l) 40 refl (refused-40 l (counted e) (k .is-clip .ensures) (c .if2 .taken))
+    refused-by (refusalIn l) (clipIn l) 40 refl (refused-40 l (counted e) (test .is-clip .ensures) (c .if2 .taken))
 
 fields-fit-requires : tie.Need-fields-fit-requires
 fields-fit-requires c κs = let e : tie.Else1 = search in fields-there (tables (start-of e)) (counted e)
