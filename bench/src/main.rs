@@ -9,7 +9,7 @@ use std::ffi::{c_char, c_void, CString};
 use std::time::Instant;
 
 /// Where the number of entries stands behind the refusal.
-const ENTRIES: usize = 15;
+const ENTRIES: usize = 16;
 
 /// The bytes of an entry's row, and where its packet stands in it.
 const ENTRY: usize = 24;
@@ -19,7 +19,7 @@ const PACKET: usize = 16;
 #[repr(C)]
 struct Reading {
     refusal: u32,
-    rest: [u32; 20],
+    rest: [u32; 21],
 }
 
 unsafe extern "C" {

@@ -6,7 +6,7 @@ use oracle::bdmv::clpi::ClipInformation;
 /// The numbers of a record that stand in no table.
 #[repr(C)]
 #[derive(Clone, Copy)]
-struct Info([u32; 7]);
+struct Info([u32; 8]);
 
 /// The answer of writing and of rewriting.
 #[repr(C)]
@@ -45,7 +45,8 @@ fn rewrite(clip: &[u8], output: &mut [u8]) -> Writing {
     unsafe { clpi_rewrite(clip.as_ptr(), clip.len(), output.as_mut_ptr(), output.len()) }
 }
 
-/// Measures writing and rewriting of a file in turn, round after round, and prints the medians. The bytes are held to be equal first.
+/// Measures writing and rewriting of a file in turn, round after round, and prints the medians. The bytes are held to be equal first,
+/// but for the letters: the Rust writes CLPI, this library those of the file.
 pub fn measure(name: &str, maps: usize, rows: usize, layout: Layout, rounds: usize, turns: usize) {
     let clip = file::clip(maps, rows, layout);
     let total = maps * rows;
@@ -54,7 +55,8 @@ pub fn measure(name: &str, maps: usize, rows: usize, layout: Layout, rounds: usi
     assert!(reading.refusal == 0);
     let info = Info(std::array::from_fn(|k| reading.rest[k + 2]));
     let record = ClipInformation::parse(&clip).expect("accepted");
-    let new = record.encode();
+    let mut new = record.encode();
+    new[..4].copy_from_slice(&clip[..4]);
     let mut output = vec![0u8; new.len()];
     assert!(write(info, &map_table, &entry_table, &mut output).refusal == 0 && output == new);
     output.fill(0);

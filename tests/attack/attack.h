@@ -4,7 +4,10 @@
 
 #include "clpi.h"
 
-enum { MOST_IN = 6, MOST_OUT = 9, MOST_ARGUMENTS = 7, MOST_NUMBERS = 21 };
+enum { MOST_IN = 6, MOST_OUT = 9, MOST_ARGUMENTS = 8, MOST_NUMBERS = 22 };
+
+/* Where an accepted file's letters and the rows of table 1 stand among the numbers of reading. */
+enum { LETTERS = 3, COUNTS = 12 };
 
 /* Bytes that are lent to a call. */
 struct buffer {
@@ -83,6 +86,7 @@ uint32_t any(void);
 
 /* Big-endian numbers of a file. */
 void put_be(uint8_t *at, uint32_t value, int bytes);
+uint32_t get_be(const uint8_t *at);
 
 /* The parts of the attack. */
 void attack_sizes(void);

@@ -65,8 +65,8 @@ CALL(extension_data)
 CALL(write)
 {
     struct clpi_clip_info info;
-    uint32_t cells[7];
-    for (int i = 0; i < 7; i++)
+    uint32_t cells[MOST_ARGUMENTS];
+    for (int i = 0; i < MOST_ARGUMENTS; i++)
         cells[i] = (uint32_t)a->argument[i];
     memcpy(&info, cells, sizeof info);
     give_writing(number, clpi_write(info, TABLE(0), TABLE(1), TABLE(2), TABLE(3), TABLE(4), TABLE(5), out[0].at, out[0].bytes));
@@ -184,13 +184,13 @@ CALL(transfer_duration_secs)
 #define OF_NUMBERS(call, first, second) {NAMED(call), .numbers = 3, .kind = {first, second}, .row_of = -1, .finds = 1}
 
 const struct call calls[] = {
-    {NAMED(read), .ins = 1, .outs = 9, .numbers = 21, .row_of = -1, .out_bytes = {12, 16, 12, 20, 12, ENTRY, 16, 12, 20},
-     .out_count = 11, .refusals = FILES | BIT(21)},
+    {NAMED(read), .ins = 1, .outs = 9, .numbers = MOST_NUMBERS, .row_of = -1, .out_bytes = {12, 16, 12, 20, 12, ENTRY, 16, 12, 20},
+     .out_count = COUNTS, .refusals = FILES | BIT(21)},
     {NAMED(rewrite), .ins = 1, .outs = 1, .numbers = 3, .row_of = -1, .out_bytes = {1}, .out_count = 2,
      .refusals = FILES | BIT(23) | BIT(31)},
     {NAMED(rewritten_length), .ins = 1, .numbers = 2, .row_of = -1, .refusals = FILES | BIT(31)},
     {NAMED(write), .ins = 6, .outs = 1, .numbers = 3, .row_bytes = {12, 16, 12, 20, 12, ENTRY}, .count_at = {4, 0, 8, 0, 8, 0},
-     .row_of = -1, .out_bytes = {1}, .out_count = 2, .refusals = BIT(22) | BIT(23) | BIT(30) | BIT(31)},
+     .row_of = -1, .out_bytes = {1}, .out_count = 2, .refusals = BIT(22) | BIT(23) | BIT(30) | BIT(31) | BIT(40)},
     {NAMED(extension_data), .ins = 2, .numbers = 3, .row_bytes = {0, 16}, .kind = {ROW}, .row_of = 1, .refusals = BIT(22)},
     QUESTION1(extension_entry, 7, 16, WORD, WORD, -1),
     QUESTION1(minutes_remaining, 2, 16, LONG, NO_ARGUMENT, -1),

@@ -5,7 +5,7 @@
 
 #include "attack.h"
 
-enum { TABLES = 9, KEPT = 6, COUNTS = 11, MARKS = 10, HAS_LIST = 20 };
+enum { TABLES = 9, KEPT = 6, MARKS = 11, HAS_LIST = 21 };
 
 static const uint32_t most_rows[TABLES] = {
     CLPI_MOST_ATCS, CLPI_MOST_STCS, CLPI_MOST_PROGRAMS, CLPI_MOST_STREAMS, CLPI_MOST_MAPS, CLPI_MOST_ENTRIES,
@@ -120,6 +120,7 @@ static struct record read_file(const uint8_t *file, size_t bytes)
     struct record r = kept(c, &a, &o);
     uint32_t plain = plain_refusal(file, bytes);
     must(!plain || r.number[0] == plain, "another refusal than the first bytes settle");
+    must(r.number[0] || r.number[LETTERS] == get_be(file), "other letters than the file's");
     read_long(c, &a, &r);
     if (!r.number[0])
         read_short(c, &a);
@@ -151,8 +152,11 @@ static uint8_t *rewrite_file(const uint8_t *file, size_t bytes, const struct rec
     must(length.number[0] == r->number[0] || (!r->number[0] && length.number[0] == CLPI_REFUSED_RUNS),
          "measuring refuses in another way than reading");
     if (length.number[0] == 0) {
+        uint8_t *new;
         must(*needed >= 242 && *needed <= CLPI_MOST_REWRITTEN_BYTES, "a new file of a length that none has");
-        return put_out(call_named("clpi_rewrite"), &a, *needed);
+        new = put_out(call_named("clpi_rewrite"), &a, *needed);
+        must(memcmp(new, file, 4) == 0, "the new file begins with other letters");
+        return new;
     }
     a.room[0] = 300;
     o = attempt(call_named("clpi_rewrite"), &a);
@@ -169,9 +173,17 @@ static struct ask of_record(const struct record *r)
         a.in[i] = (struct buffer){r->rows[i], r->bytes[i]};
         a.rows[i] = (uint32_t)r->number[COUNTS + i];
     }
-    for (int i = 0; i < 7; i++)
-        a.argument[i] = r->number[3 + i];
+    for (int i = 0; i < MOST_ARGUMENTS; i++)
+        a.argument[i] = r->number[LETTERS + i];
     return a;
+}
+
+/* Writes what was read with other letters: the refusal is 40, also of too many runs and where the output is too short. */
+static void write_other_letters(const struct call *c, struct ask a)
+{
+    a.argument[0] ^= 1u << any() % 32;
+    a.room[0] = any() % 2 ? 300 : 0;
+    must(attempt(c, &a).number[0] == CLPI_REFUSED_RECORD_LETTERS, "not 40 of letters that no file has");
 }
 
 /* Writes what was read: the bytes are those of rewriting, or the refusal is 31. */
@@ -180,6 +192,7 @@ static void write_record(const struct record *r, const uint8_t *rewritten, size_
     const struct call *c = call_named("clpi_write");
     struct ask a = of_record(r);
     uint8_t *output;
+    write_other_letters(c, a);
     if (!rewritten) {
         must(attempt(c, &a).number[0] == CLPI_REFUSED_RUNS, "writing doesn't refuse what rewriting refuses");
         return;

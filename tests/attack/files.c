@@ -24,6 +24,11 @@ void put_be(uint8_t *at, uint32_t value, int bytes)
         at[i] = (uint8_t)(value >> 8 * (bytes - 1 - i));
 }
 
+uint32_t get_be(const uint8_t *at)
+{
+    return (uint32_t)at[0] << 24 | (uint32_t)at[1] << 16 | (uint32_t)at[2] << 8 | at[3];
+}
+
 /* Puts bytes at the end of the file being made; the start of a section is noted in the header. */
 static void add(const char *bytes, size_t count)
 {
@@ -103,7 +108,7 @@ static void look_at_made(void)
     for (int i = 0; i < 9; i++)
         a.room[i] = 100;
     o = attempt(call_named("clpi_read"), &a);
-    must(o.number[0] == 0 && memcmp(o.number + 11, rows, sizeof rows) == 0, "the file that the others are made of has other rows");
+    must(o.number[0] == 0 && memcmp(o.number + COUNTS, rows, sizeof rows) == 0, "the file that the others are made of has other rows");
 }
 
 /* Tells whether the short run leaves a file out. */
@@ -149,18 +154,20 @@ static void overwrite(void)
         }
 }
 
-/* Sections in every order and over one another: each start is any of the five, or 0, or about the end. */
+/* Sections in every order and over one another: each start is any of the five, or 0, or about the end. The letters are those
+ * of the two kinds in turn. */
 static void overlap(void)
 {
     uint32_t places[STARTS + 4] = {0, 1, (uint32_t)made_bytes - 5, (uint32_t)made_bytes};
     for (int i = 0; i < STARTS; i++)
-        places[4 + i] = (uint32_t)(made[8 + 4 * i] << 24 | made[9 + 4 * i] << 16 | made[10 + 4 * i] << 8 | made[11 + 4 * i]);
+        places[4 + i] = get_be(made + 8 + 4 * i);
     for (uint32_t n = 0; n < 59049; n++) {
         uint8_t file[MOST_MADE];
         uint32_t rest = n;
         if (any() % 10 != 0 || left_out(400))
             continue;
         memcpy(file, made, made_bytes);
+        memcpy(file, n % 2 ? "CLPI" : "HDMV", 4);
         for (int i = 0; i < STARTS; i++, rest /= 9)
             put_be(file + 8 + 4 * i, places[rest % 9], 4);
         try_file(file, made_bytes);

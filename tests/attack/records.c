@@ -1,4 +1,5 @@
-/* Writing of records made by hand: tables of every short length, stated rows of every size, cells at their limits. */
+/* Writing of records made by hand: tables of every short length, stated rows of every size, cells at their limits, right and
+ * wrong letters. */
 #include <string.h>
 
 #include "attack.h"
@@ -21,6 +22,7 @@ static struct ask good(void)
         a.in[i] = (struct buffer){table[i], 4u * cells_of[i]};
         a.rows[i] = 1;
     }
+    a.argument[0] = CLPI_LETTERS_HDMV;
     a.room[0] = 400;
     return a;
 }
@@ -45,12 +47,53 @@ static void cells(void)
                 memcpy(table[i] + 4 * k, &values[v], 4);
                 write_one(&a);
             }
-        for (int i = 0; i < 7; i++) {
+        for (int i = 0; i < MOST_ARGUMENTS; i++) {
             struct ask a = good();
             a.argument[i] = values[v];
             write_one(&a);
         }
     }
+}
+
+/* What may be wrong of a record beside its letters: a bit for each. */
+enum { SHORT_OUTPUT = 1, WIDE_NUMBER = 2, OTHER_COUNT = 4, ROW_NOT_LENT = 8, ALL_FAULTS = 15 };
+
+/* The refusal that comes first. */
+static uint32_t first_refusal(int faults, int are_right)
+{
+    if (faults & (OTHER_COUNT | ROW_NOT_LENT))
+        return CLPI_REFUSED_ROWS;
+    if (!are_right)
+        return CLPI_REFUSED_RECORD_LETTERS;
+    return faults & WIDE_NUMBER ? CLPI_REFUSED_CELLS : faults & SHORT_OUTPUT ? CLPI_REFUSED_OUTPUT_SHORT : CLPI_OK;
+}
+
+/* Writes a record with these letters and faults: the first refusal, or a file that begins with the letters. */
+static void write_letters(uint32_t letters, int faults, int are_right)
+{
+    struct ask a = good();
+    uint32_t wanted = first_refusal(faults, are_right);
+    struct outcome o;
+    a.argument[0] = letters;
+    a.room[0] = faults & SHORT_OUTPUT ? 241 : 400;
+    a.argument[2] = faults & WIDE_NUMBER ? 256 : 255;
+    a.rows[1] = faults & OTHER_COUNT ? 0 : 1;
+    a.in[5].bytes -= faults & ROW_NOT_LENT ? 1 : 0;
+    o = attempt(call_named("clpi_write"), &a);
+    must(o.number[0] == wanted, "another refusal than the first one in the order 22, 40, 30, 23");
+    must(wanted || get_be(o.out[0]) == letters, "other letters written than the record's");
+}
+
+/* Letters, the two right ones first, with everything else right and with everything that comes before and after 40 wrong. */
+static void letters(void)
+{
+    static const uint32_t kinds[] = {
+        CLPI_LETTERS_HDMV, CLPI_LETTERS_CLPI, 0, 1, 0xFFFFFFFFu, CLPI_LETTERS_HDMV - 1, CLPI_LETTERS_HDMV + 1,
+        CLPI_LETTERS_CLPI - 1, CLPI_LETTERS_CLPI + 1, 0x564D4448, 0x49504C43, 0x68646D76, 0x636C7069, 0x4D504C53, 0x48445049,
+        0x434C4D56};
+    const int all = (int)(sizeof kinds / sizeof *kinds) * (ALL_FAULTS + 1);
+    for (int n = 0; n < all; n++)
+        write_letters(kinds[n / (ALL_FAULTS + 1)], n % (ALL_FAULTS + 1), n / (ALL_FAULTS + 1) < 2);
 }
 
 /* Every table of every short length with rows of every number stated, the others as they should be. */
@@ -99,6 +142,7 @@ static void outputs(void)
 void attack_records(void)
 {
     cells();
+    letters();
     lengths();
     sums();
     outputs();

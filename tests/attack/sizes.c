@@ -90,7 +90,7 @@ static void long_outputs(size_t bytes)
     file[205] = 1;
     a.in[0] = (struct buffer){file, sizeof file};
     run_there("clpi_read", &a, out, number);
-    must(number[0] == 0 && number[11] == 1, "a table of about 2^32 bytes is not filled");
+    must(number[0] == 0 && number[COUNTS] == 1, "a table of about 2^32 bytes is not filled");
     run_there("clpi_rewrite", &a, out, number);
     must(number[0] == 0 && number[2] == 248 && memcmp(output, "CLPI0200", 8) == 0, "an output of about 2^32 bytes is not filled");
     must(output[248] == 0 && output[bytes - 1] == 0, "an output has changed behind the new file");

@@ -164,6 +164,12 @@ static int has_22(const struct call *c, const struct ask *a)
     return c->row_of == 1 && !has_data(a);
 }
 
+/* Tells whether the letters of a record are neither of the two. They are the first argument. */
+static int has_other_letters(const struct ask *a)
+{
+    return a->argument[0] != CLPI_LETTERS_HDMV && a->argument[0] != CLPI_LETTERS_CLPI;
+}
+
 /* Sees that a refusal is one that the call may give, and that its other numbers are 0 but for those of 21 and 23. */
 static void look_at_refusal(const struct call *c, const struct ask *a, const uint64_t *number)
 {
@@ -182,8 +188,10 @@ static void look_at_refusal(const struct call *c, const struct ask *a, const uin
 /* Sees that an answer is one of those that 01 allows here. */
 static void look_at_answer(const struct call *c, const struct ask *a, const uint64_t *number)
 {
-    if (c->refusals >> 22 & 1)
-        must((number[0] == 22) == has_22(c, a), "22 where it has no place, or not where it has");
+    int is_22 = (c->refusals >> 22 & 1) && has_22(c, a);
+    must((number[0] == 22) == is_22, "22 where it has no place, or not where it has");
+    if (c->refusals >> 40 & 1)
+        must((number[0] == 40) == (!is_22 && has_other_letters(a)), "40 where it has no place, or not where it has");
     if (number[0]) {
         look_at_refusal(c, a, number);
         return;

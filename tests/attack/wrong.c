@@ -46,6 +46,10 @@ static struct clpi_reading wrong_reading(struct clpi_reading r)
         r.entries = 0;
     if (r.refusal == CLPI_REFUSED_LETTERS && is("another refusal"))
         r.refusal = CLPI_REFUSED_HEADER_SHORT;
+    if (!r.refusal && is("HDMV told of every file"))
+        r.letters = CLPI_LETTERS_HDMV;
+    if (!r.refusal && is("the letters with their first byte lowest"))
+        r.letters = r.letters == CLPI_LETTERS_HDMV ? 0x564D4448 : 0x49504C43;
     return r;
 }
 
@@ -101,6 +105,12 @@ STANDS_BEFORE(struct clpi_writing, rewrite, const uint8_t *file, size_t file_byt
         output[7] ^= 1;
     if (!w.refusal && is("rewriting the new file changes it"))
         output[28] = file[28] ^ 1;
+    if (!w.refusal && is("CLPI written by rewriting"))
+        memcpy(output, "CLPI", 4);
+    if (!w.refusal && is("CLPI always written"))
+        memcpy(output, "CLPI", 4);
+    if (!w.refusal && is("HDMV always written"))
+        memcpy(output, "HDMV", 4);
     return w;
 }
 
@@ -116,11 +126,39 @@ STANDS_BEFORE(struct clpi_length, rewritten_length, const uint8_t *file, size_t 
     return l;
 }
 
+/* What is wrong in an answer of writing a record with these letters, and in the letters that are written. */
+static struct clpi_writing wrong_letters(struct clpi_writing w, uint32_t letters, uint8_t *output, size_t output_bytes)
+{
+    int are_right = letters == CLPI_LETTERS_HDMV || letters == CLPI_LETTERS_CLPI;
+    if (!w.refusal && is("CLPI always written"))
+        memcpy(output, "CLPI", 4);
+    if (!w.refusal && is("HDMV always written"))
+        memcpy(output, "HDMV", 4);
+    if (!are_right && w.refusal == CLPI_REFUSED_ROWS && is("40 before 22"))
+        w.refusal = CLPI_REFUSED_RECORD_LETTERS;
+    if (w.refusal == CLPI_REFUSED_RECORD_LETTERS && output_bytes < 242 && is("23 before 40")) {
+        w.refusal = CLPI_REFUSED_OUTPUT_SHORT;
+        w.bytes_needed = 242;
+    }
+    if (w.refusal == CLPI_REFUSED_RECORD_LETTERS && is("22 in place of 40"))
+        w.refusal = CLPI_REFUSED_ROWS;
+    return w;
+}
+
 STANDS_BEFORE(struct clpi_writing, write, struct clpi_clip_info info, WRITE_TABLES, uint8_t *output, size_t output_bytes)
 {
     uint8_t kept = output_bytes > 0 && is("the last byte not written") ? output[output_bytes - 1] : 0;
-    struct clpi_writing w =
-        __real_clpi_write(info, a, an, ar, b, bn, br, c, cn, cr, d, dn, dr, e, en, er, f, fn, fr, output, output_bytes);
+    uint32_t letters = info.letters;
+    struct clpi_writing w;
+    if ((letters != CLPI_LETTERS_HDMV && is("40 not tested")) || is("30 before 40"))
+        info.letters = CLPI_LETTERS_CLPI;
+    if (is("30 before 40")) {
+        w = __real_clpi_write(info, a, an, ar, b, bn, br, c, cn, cr, d, dn, dr, e, en, er, f, fn, fr, NULL, 0);
+        if (w.refusal == CLPI_REFUSED_CELLS)
+            return w;
+        info.letters = letters;
+    }
+    w = __real_clpi_write(info, a, an, ar, b, bn, br, c, cn, cr, d, dn, dr, e, en, er, f, fn, fr, output, output_bytes);
     if (!w.refusal && w.bytes_written == output_bytes && is("the last byte not written"))
         output[output_bytes - 1] = kept;
     if (!w.refusal && is("another record by both writers"))
@@ -129,7 +167,7 @@ STANDS_BEFORE(struct clpi_writing, write, struct clpi_clip_info info, WRITE_TABL
         output[28] = 1;
     if (w.refusal == CLPI_REFUSED_CELLS && is("22 in place of 30"))
         w.refusal = CLPI_REFUSED_ROWS;
-    return w;
+    return wrong_letters(w, letters, output, output_bytes);
 }
 
 STANDS_BEFORE(uint32_t, version, void) { return __real_clpi_version() + is("another version"); }

@@ -134,7 +134,7 @@ impl Comparison {
         answerer: &mut impl Answerer,
         writer: &mut impl Writer,
     ) -> Result<(), Difference> {
-        expected::record_of(&clip, &mut self.expected);
+        expected::record_of(&clip, file, &mut self.expected);
         self.join_starts(file, &clip.extension.entries)?;
         for table in 0..9 {
             must(self.model.tables[table] == self.expected.tables[table], || {

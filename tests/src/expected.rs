@@ -2,12 +2,13 @@
 
 use crate::record::{ATCS, ENTRIES, EXTENSIONS, MAPS, Record, STCS, Scalars, entry_cells};
 use oracle::bdmv::clpi::{ClipInformation, Cpi, ProgramInfo, SequenceInfo, StreamCodingInfo};
+use oracle::bdmv::common::BdmvHeader;
 use oracle::bdmv::extension::ExtensionDataEntry;
 
-/// Puts the Rust's record into `out`. The starts of table 7 are 0: the Rust keeps the data, not its place.
-pub fn record_of(clip: &ClipInformation, out: &mut Record) {
+/// Puts the Rust's record of a file into `out`. The starts of table 7 are 0: the Rust keeps the data, not its place.
+pub fn record_of(clip: &ClipInformation, file: &[u8], out: &mut Record) {
     out.clear();
-    out.scalars = scalars_of(clip);
+    out.scalars = scalars_of(clip, letters_of(file));
     sequences(&clip.sequence_info, out);
     let [_, _, program_rows, stream_rows, ..] = &mut out.tables;
     programs(&clip.program_info, program_rows, stream_rows);
@@ -19,10 +20,16 @@ pub fn record_of(clip: &ClipInformation, out: &mut Record) {
     }
 }
 
+/// The letters of an accepted file: the Rust's record doesn't keep them, its header of the file has them.
+fn letters_of(file: &[u8]) -> u32 {
+    u32::from_be_bytes(*BdmvHeader::parse(file).expect("an accepted file has a header").type_indicator)
+}
+
 /// The numbers beside the tables.
-fn scalars_of(clip: &ClipInformation) -> Scalars {
+fn scalars_of(clip: &ClipInformation, letters: u32) -> Scalars {
     let info = &clip.clip_info;
     Scalars {
+        letters,
         version: u32::from_be_bytes(clip.version),
         clip_stream_type: info.clip_stream_type.into(),
         application_type: info.application_type.into(),

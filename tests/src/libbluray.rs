@@ -1,5 +1,6 @@
-//! The command `libbluray`: a third reader of the format, libbluray, must read the new files to the same maps and entries,
-//! and to the rest of the record wherever its own rules allow; docs/DIFFERENCES.md lists where they don't.
+//! The command `libbluray`: a third reader of the format, libbluray, must read the new files of files that begin HDMV, as
+//! they are, to the same maps and entries, and to the rest of the record wherever its own rules allow; docs/DIFFERENCES.md
+//! lists where they don't. A file that begins CLPI it refuses, and its new file too.
 
 mod data;
 
@@ -8,7 +9,7 @@ use crate::make::{CLASSES, Maker};
 use crate::model;
 use crate::mutation::Mutation;
 use crate::ours::Library;
-use crate::record::{ATCS, ENTRIES, MAPS, PROGRAMS, Record, STCS, STREAMS, entry_cells};
+use crate::record::{ATCS, CLPI, ENTRIES, MAPS, PROGRAMS, Record, STCS, STREAMS, entry_cells};
 use crate::writer::Writer;
 use data::{Clip, EpMapEntry, ProgStream, rows};
 use std::path::PathBuf;
@@ -20,6 +21,9 @@ const VERSIONS: [&[u8; 4]; 4] = [b"0100", b"0200", b"0240", b"0300"];
 #[derive(Default)]
 struct Seen {
     files: u64,
+    /// Refused, the old file and the new one, since they begin CLPI.
+    letters: u64,
+    /// Refused by their version.
     versions: u64,
     maps: u64,
     entries: u64,
@@ -27,7 +31,7 @@ struct Seen {
     differences: u64,
 }
 
-/// Rewrites the accepted files among the first `count` seeds and hands each new file, with the letters HDMV, to libbluray.
+/// Rewrites the accepted files among the first `count` seeds and hands each new file, as it is, to libbluray.
 pub fn libbluray(count: u64) -> bool {
     // SAFETY: nothing else runs yet that could look at the environment. libbluray would tell of each refusal.
     unsafe { std::env::set_var("BD_DEBUG_MASK", "0") };
@@ -45,15 +49,15 @@ pub fn libbluray(count: u64) -> bool {
         }
         let mut new = vec![0; length.bytes as usize];
         Library.rewrite(file, &mut new);
-        if let Err(why) = one(library, &path, new, &record, &mut seen) {
+        if let Err(why) = one(library, &path, file, &new, &record, &mut seen) {
             seen.differences += 1;
             println!("seed {seed} ({}): {why}", CLASSES[(seed % CLASSES.len() as u64) as usize].0);
         }
     }
     let _ = std::fs::remove_file(&path);
-    let Seen { files, versions, maps, entries, streams, differences } = seen;
+    let Seen { files, letters, versions, maps, entries, streams, differences } = seen;
     println!(
-        "{files} new files read by libbluray, {versions} more refused by their version: {maps} maps, {entries} entries, {streams} streams, {differences} differences"
+        "{files} new files read by libbluray as they are, {versions} more refused by their version: {maps} maps, {entries} entries, {streams} streams; {letters} that begin CLPI refused as the old ones are; {differences} differences"
     );
     differences == 0
 }
@@ -65,16 +69,22 @@ fn file_path() -> PathBuf {
     folder.join(format!("clip_tests_{}.clpi", std::process::id()))
 }
 
-/// Hands one new file to libbluray and compares what it reads with the record.
+/// Hands one new file to libbluray and compares what it reads with the record; one that begins CLPI it must refuse, and the
+/// old file too.
 fn one(
     library: data::Library,
     path: &PathBuf,
-    mut new: Vec<u8>,
+    old: &[u8],
+    new: &[u8],
     record: &Record,
     seen: &mut Seen,
 ) -> Result<(), Difference> {
-    new[..4].copy_from_slice(b"HDMV");
-    std::fs::write(path, &new).map_err(|why| why.to_string())?;
+    if record.scalars.letters == CLPI {
+        [old, new].into_iter().try_for_each(|file| must_refuse(library, path, file))?;
+        seen.letters += 1;
+        return Ok(());
+    }
+    std::fs::write(path, new).map_err(|why| why.to_string())?;
     let known = VERSIONS.iter().any(|version| version[..] == record.scalars.version.to_be_bytes());
     match library.read(path, |clip| same(clip, record)) {
         None if known => Err("refused".into()),
@@ -93,12 +103,20 @@ fn one(
     }
 }
 
+/// Hands a file to libbluray that begins CLPI, which it must refuse.
+fn must_refuse(library: data::Library, path: &PathBuf, file: &[u8]) -> Result<(), Difference> {
+    must(file.starts_with(b"CLPI"), || "other letters than the record's".into())?;
+    std::fs::write(path, file).map_err(|why| why.to_string())?;
+    must(library.read(path, |_| ()).is_none(), || "a file accepted that begins CLPI".into())
+}
+
 /// Compares libbluray's clip with a record.
 fn same(clip: &Clip, record: &Record) -> Result<(), Difference> {
     let (info, scalars) = (&clip.clip, &record.scalars);
     let numbers = [info.clip_stream_type.into(), info.application_type.into(), info.ts_recording_rate];
     let wanted = [scalars.clip_stream_type, scalars.application_type, scalars.ts_recording_rate];
     must(numbers == wanted && info.num_source_packets == scalars.number_of_source_packets, || "the ClipInfo".into())?;
+    must(clip.type_indicator == scalars.letters, || "the letters".into())?;
     must(clip.type_indicator2 == scalars.version, || "the version".into())?;
     ts_type(clip, record)?;
     sequences(clip, record)?;

@@ -2,11 +2,11 @@
 
 use crate::answers::Answerer;
 use crate::compare::{Comparison, Difference, must};
-use crate::made::{Buffers, Made, of_the_rust, small};
+use crate::made::{Buffers, Made, empty, of_the_rust, small};
 use crate::make::Maker;
 use crate::ours::{Library, Reader};
 use crate::random::Random;
-use crate::record::{ATCS, ENTRIES, KIND, MAPS, PACKET, PROGRAMS, STCS, STREAMS, row_bytes};
+use crate::record::{ATCS, CLPI, ENTRIES, HDMV, KIND, MAPS, PACKET, PROGRAMS, STCS, STREAMS, row_bytes};
 use crate::writer::{TABLES, Writer, Writing};
 use crate::writing::Writings;
 
@@ -53,6 +53,7 @@ impl Cases {
 fn cases() -> Vec<Case> {
     let mut cases = Cases::default();
     whole_records(&mut cases);
+    letters(&mut cases);
     numbers(&mut cases);
     sequence_cells(&mut cases);
     program_cells(&mut cases);
@@ -68,13 +69,39 @@ fn cases() -> Vec<Case> {
 /// Records that can be written.
 fn whole_records(cases: &mut Cases) {
     cases.add("the small record", 0, |_| {});
-    cases.add("the empty record", 0, |made| *made = Made::default());
+    cases.add("the empty record", 0, |made| *made = empty());
     cases.add("rows of any bytes beyond those stated", 0, |made| {
         (0..TABLES).for_each(|table| made.surplus[table] = vec![0xFF; 2 * row_bytes(table) + 3]);
     });
     cases.add("a language in capitals is written as it is", 0, |made| {
         made.set(STREAMS, 1, 4, u32::from_be_bytes(*b"\0ENG"));
     });
+}
+
+/// Four letters as a record has them, the first one highest.
+fn number_of(letters: &str) -> u32 {
+    letters.bytes().fold(0, |number, letter| number << 8 | u32::from(letter))
+}
+
+/// 40: the letters that are written, and others.
+fn letters(cases: &mut Cases) {
+    for name in ["HDMV", "CLPI"] {
+        let right = number_of(name);
+        cases.add(format!("the letters {name}"), 0, move |made| made.info.letters = right);
+        cases.add(format!("letters one less than {name}"), 40, move |made| made.info.letters = right - 1);
+        cases.add(format!("letters one more than {name}"), 40, move |made| made.info.letters = right + 1);
+        cases.add(format!("the letters {name}, the first one lowest"), 40, move |made| {
+            made.info.letters = right.swap_bytes();
+        });
+    }
+    for name in ["hdmv", "clpi", "HDMW", "CLPV", "HDPI", "CLMV", "MPLS"] {
+        let wrong = number_of(name);
+        cases.add(format!("the letters {name}"), 40, move |made| made.info.letters = wrong);
+    }
+    for number in [0, 1, u32::MAX] {
+        cases.add(format!("letters {number}"), 40, move |made| made.info.letters = number);
+    }
+    cases.add("letters 0 of the empty record", 40, |made| *made = Made::default());
 }
 
 /// The numbers beside the tables.
@@ -245,26 +272,87 @@ fn runs(cases: &mut Cases) {
     cases.add("65,536 runs in the last map", 31, |made| made.entries(&[by_time(3), Vec::new(), by_packet(65_536)]));
 }
 
-/// The order of the refusals: 22, 30, 31, 23.
+/// The order of the refusals: 22, 40, 30, 31, 23.
 fn order(cases: &mut Cases) {
-    let rows = |made: &mut Made| made.stated[STCS] = -1;
-    let cells = |made: &mut Made| made.info.application_type = 256;
-    let runs = |made: &mut Made| made.entries(&[by_time(65_536)]);
-    cases.add("22 before 30", 22, move |made| [rows, cells].iter().for_each(|change| change(made)));
+    order_of_rows(cases);
+    order_of_letters(cases);
+    order_of_output(cases);
+}
+
+/// 22, 30 and 31, with letters that are right.
+fn order_of_rows(cases: &mut Cases) {
+    cases.add("22 before 30", 22, |made| [counts_off, cell_too_wide].iter().for_each(|change| change(made)));
     cases.add("22 of the last tables before 30 of the first", 22, |made| {
         made.set(ATCS, 0, 2, 256);
         made.stated[ENTRIES] = -1;
     });
-    cases.add("22 before 31", 22, move |made| [runs, rows].iter().for_each(|change| change(made)));
-    cases.add("30 before 31", 30, move |made| [runs, cells].iter().for_each(|change| change(made)));
+    cases.add("22 before 31", 22, |made| [too_many_runs, counts_off].iter().for_each(|change| change(made)));
+    cases.add("30 before 31", 30, |made| [too_many_runs, cell_too_wide].iter().for_each(|change| change(made)));
     cases.add("30 of the last map before 31 of the first", 30, |made| made.entries(&[by_time(65_536), vec![(513, 7)]]));
     cases.add("30 of the last entry of a run", 30, |made| made.entries(&[vec![(512, 7), (1_024, 7), (1_025, 7)]]));
-    cases.add("22 before 30 and 31", 22, move |made| [runs, rows, cells].iter().for_each(|change| change(made)));
-    cases.add_without_output("22 before 23", 22, rows);
-    cases.add_without_output("30 before 23", 30, cells);
-    cases.add_without_output("31 before 23", 31, runs);
+    cases.add("22 before 30 and 31", 22, |made| {
+        [too_many_runs, counts_off, cell_too_wide].iter().for_each(|change| change(made));
+    });
+}
+
+/// 40 behind each part of 22, and before 30 and 31.
+fn order_of_letters(cases: &mut Cases) {
+    cases.add("22 of counts that don't add up before 40", 22, |made| {
+        [other_letters, counts_off].iter().for_each(|change| change(made));
+    });
+    cases.add("22 of a row stated and not lent before 40", 22, |made| {
+        [other_letters, row_not_lent].iter().for_each(|change| change(made));
+    });
+    cases.add("40 before 30", 40, |made| [other_letters, cell_too_wide].iter().for_each(|change| change(made)));
+    cases.add("40 before 30 of the rows of a table", 40, |made| {
+        made.heads(ATCS, 1, 256, STCS);
+        other_letters(made);
+    });
+    cases.add("40 before 31", 40, |made| [other_letters, too_many_runs].iter().for_each(|change| change(made)));
+    cases.add("40 before 30 and 31", 40, |made| {
+        [other_letters, too_many_runs, cell_too_wide].iter().for_each(|change| change(made));
+    });
+    cases.add("22 before 40, 30 and 31", 22, |made| {
+        [other_letters, too_many_runs, cell_too_wide, counts_off].iter().for_each(|change| change(made));
+    });
+}
+
+/// Each refusal before 23.
+fn order_of_output(cases: &mut Cases) {
+    cases.add_without_output("22 before 23", 22, counts_off);
+    cases.add_without_output("40 before 23", 40, other_letters);
+    cases.add_without_output("30 before 23", 30, cell_too_wide);
+    cases.add_without_output("31 before 23", 31, too_many_runs);
+    cases.add_without_output("40 before 30, 31 and 23", 40, |made| {
+        [other_letters, too_many_runs, cell_too_wide].iter().for_each(|change| change(made));
+    });
     cases.add_without_output("23 of the small record", 23, |_| {});
-    cases.add_without_output("23 of the empty record", 23, |made| *made = Made::default());
+    cases.add_without_output("23 of the empty record", 23, |made| *made = empty());
+}
+
+/// Counts that don't add up: 22.
+fn counts_off(made: &mut Made) {
+    made.stated[STCS] = -1;
+}
+
+/// More rows stated than lent, and counts that add up: 22.
+fn row_not_lent(made: &mut Made) {
+    made.cut[ENTRIES] = 1;
+}
+
+/// Letters that are neither of the two: 40.
+fn other_letters(made: &mut Made) {
+    made.info.letters = number_of("MPLS");
+}
+
+/// A number that its field can't hold: 30.
+fn cell_too_wide(made: &mut Made) {
+    made.info.application_type = 256;
+}
+
+/// A map with one run more than can be written: 31.
+fn too_many_runs(made: &mut Made) {
+    made.entries(&[by_time(65_536)]);
 }
 
 /// The name of the files of known bytes.
@@ -318,19 +406,33 @@ impl<R: Reader, A: Answerer, W: Writer> Limits<R, A, W> {
         must(refused == (runs > 65_535), || "a file of so many runs is refused, or not, by the wrong number".into())
     }
 
-    /// The 274 bytes of the scope document's example, and the 242 of the empty record with its starts.
+    /// The files of known bytes, with either letters.
     fn stored(&mut self) -> Result<(), Difference> {
-        let example = include_bytes!("../../samples/one_map.clpi");
+        [CLPI, HDMV].into_iter().try_for_each(|letters| {
+            self.stored_example(letters)?;
+            self.stored_empty(letters)
+        })
+    }
+
+    /// The 274 bytes of the scope document's example, which are their own rewriting.
+    fn stored_example(&mut self, letters: u32) -> Result<(), Difference> {
+        let mut example = *include_bytes!("../../samples/one_map.clpi");
+        example[..4].copy_from_slice(&letters.to_be_bytes());
         let mut output = [0; 300];
-        let answer = self.writer.rewrite(example, &mut output);
-        must(answer == Writing::written(274) && output[..274] == example[..], || format!("one_map.clpi: {answer:?}"))?;
-        let (mut buffers, made) = (Buffers::new(), Made::default());
+        let answer = self.writer.rewrite(&example, &mut output);
+        must(answer == Writing::written(274) && output[..274] == example, || format!("one_map.clpi: {answer:?}"))
+    }
+
+    /// The 242 bytes of the empty record, by its letters and its starts.
+    fn stored_empty(&mut self, letters: u32) -> Result<(), Difference> {
+        let (mut buffers, mut made, mut output) = (Buffers::new(), empty(), [0; 300]);
+        made.info.letters = letters;
         let (input, _) = buffers.hold(&made);
         let answer = self.writer.write(made.info, &input, &mut output);
-        let start = |at: usize| u32::from_be_bytes(output[at..at + 4].try_into().expect("four bytes"));
-        let starts = [8, 12, 16, 20, 24].map(start);
-        must(answer == Writing::written(242) && starts == [220, 226, 232, 236, 0], || {
-            format!("the empty record: {answer:?}, starts {starts:?}")
+        let number = |at: usize| u32::from_be_bytes(output[at..at + 4].try_into().expect("four bytes"));
+        let numbers = [0, 8, 12, 16, 20, 24].map(number);
+        must(answer == Writing::written(242) && numbers == [letters, 220, 226, 232, 236, 0], || {
+            format!("the empty record: {answer:?}, letters and starts {numbers:?}")
         })
     }
 

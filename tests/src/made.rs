@@ -6,7 +6,7 @@ use crate::guarded::Guarded;
 use crate::make::Maker;
 use crate::ours::{Reader, Reading};
 use crate::record::{
-    ATCS, CELLS, ENTRIES, MAPS, PROGRAMS, Record, STCS, STREAMS, Scalars, TIME, TIME_HIGH, entry_cells,
+    ATCS, CELLS, CLPI, ENTRIES, HDMV, MAPS, PROGRAMS, Record, STCS, STREAMS, Scalars, TIME, TIME_HIGH, entry_cells,
 };
 use crate::rust_answers;
 use crate::writer::{Info, TABLES};
@@ -27,9 +27,15 @@ pub struct Made {
     pub null: bool,
 }
 
-/// A small record that can be written, with a row of each kind.
+/// The empty record, with the letters CLPI.
+pub fn empty() -> Made {
+    Made { info: Info { letters: CLPI, ..Info::default() }, ..Made::default() }
+}
+
+/// A small record that can be written, with a row of each kind, and the letters HDMV.
 pub fn small() -> Made {
     let info = Info {
+        letters: HDMV,
         version: u32::from_be_bytes(*b"0200"),
         clip_stream_type: 1,
         application_type: 1,
@@ -134,6 +140,7 @@ impl Buffers {
 pub fn read_back(new: &[u8], info: &Info, input: &Input, reader: &mut impl Reader) -> Result<(), Difference> {
     let mut record = Record::default();
     record.scalars = Scalars {
+        letters: info.letters,
         version: info.version,
         clip_stream_type: info.clip_stream_type,
         application_type: info.application_type,
@@ -162,7 +169,7 @@ pub fn read_back(new: &[u8], info: &Info, input: &Input, reader: &mut impl Reade
     Ok(())
 }
 
-/// The record as the Rust has it; the cells must fit its fields.
+/// The record as the Rust has it, without letters; the cells must fit its fields.
 pub fn of_the_rust(info: &Info, input: &Input, clip: &mut ClipInformation) {
     rust_answers::hold(input, clip);
     clip.version = info.version.to_be_bytes();

@@ -6,7 +6,7 @@ mod extensions;
 mod programs;
 
 use crate::mutation::Mutation::{self, *};
-use crate::record::{ATCS, MOST_BYTES, Record, STCS};
+use crate::record::{ATCS, CLPI, HDMV, MOST_BYTES, Record, STCS};
 
 /// A big-endian number of the file, or none where it passes the file's end.
 fn number(file: &[u8], at: u64, width: u64) -> Option<u64> {
@@ -28,7 +28,7 @@ pub fn read(file: &[u8], wrong: Mutation, out: &mut Record) -> u32 {
 
 /// The sections in the order of their refusals.
 fn whole(file: &[u8], wrong: Mutation, out: &mut Record) -> Result<(), u32> {
-    header(file, wrong)?;
+    header(file, wrong, out)?;
     clip_info(file, wrong, out)?;
     let start = |at: u64| number(file, at, 4).unwrap_or(0);
     sequences(file, start(8), wrong, out).ok_or(4u32)?;
@@ -42,7 +42,7 @@ fn whole(file: &[u8], wrong: Mutation, out: &mut Record) -> Result<(), u32> {
 }
 
 /// The length, the letters, and the 40 bytes of the header.
-fn header(file: &[u8], wrong: Mutation) -> Result<(), u32> {
+fn header(file: &[u8], wrong: Mutation, out: &mut Record) -> Result<(), u32> {
     let least = if wrong == Least39 { 39 } else { 40 };
     if file.len() > MOST_BYTES {
         return Err(20);
@@ -54,7 +54,19 @@ fn header(file: &[u8], wrong: Mutation) -> Result<(), u32> {
     if !right {
         return Err(2);
     }
+    out.scalars.letters = letters(file, wrong);
     if file.len() < least { Err(1) } else { Ok(()) }
+}
+
+/// The letters as one number, the first byte highest.
+fn letters(file: &[u8], wrong: Mutation) -> u32 {
+    match (wrong, number(file, 0, 4).unwrap_or(0) as u32) {
+        (ClpiForHdmv, HDMV) => CLPI,
+        (HdmvForClpi, CLPI) => HDMV,
+        (LettersLowestFirst, letters) => letters.swap_bytes(),
+        (LettersNotKept, _) => 0,
+        (_, letters) => letters,
+    }
 }
 
 /// Version and ClipInfo: 194 bytes, and 44 + L within the file.

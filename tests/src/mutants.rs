@@ -14,7 +14,7 @@ use crate::plain_writer;
 use crate::records::Records;
 use crate::wrong::Wrong;
 use crate::wrong_answers::{BY_NAMES, NOT_BY_FILES, OF_RECORDS, WRONG_ANSWERS, WrongAnswer, of_records, questions_of};
-use crate::wrong_writes::{BY_FILES, NOT_BY_RECORDS, WrongWrite, by_hand as by_limits};
+use crate::wrong_writes::{ALSO_BY_RECORDS, BY_FILES, NOT_BY_RECORDS, WrongWrite, by_hand as by_limits};
 
 /// The first seed below `count` whose file catches a reader, an answerer or a writer.
 fn by_file(mutation: Mutation, mut answerer: Plain, wrong: WrongWrite, count: u64) -> Option<u64> {
@@ -38,7 +38,7 @@ fn by_limit(wrong: WrongWrite) -> Option<String> {
 }
 
 /// How many wrong writers there are, and how many aren't caught: by a file and a record made by hand, those that these can
-/// catch, the others by a limit with a name.
+/// catch, the others by a limit with a name, some of them by a record too.
 fn writers_not_caught(count: u64) -> [usize; 2] {
     let mut missed = 0;
     for (wrong, words) in BY_FILES {
@@ -48,12 +48,21 @@ fn writers_not_caught(count: u64) -> [usize; 2] {
         missed += usize::from(file.is_none() || record.is_none());
     }
     let others = by_limits();
-    for (wrong, words) in &others {
-        let name = by_limit(*wrong);
-        println!("{}: {words}", name.as_ref().map_or("not caught".into(), |name| format!("\"{name}\" catches")));
-        missed += usize::from(name.is_none());
-    }
+    missed += others.iter().filter(|(wrong, words)| !caught_by_limit(*wrong, words, count)).count();
     [BY_FILES.len() + others.len(), missed]
+}
+
+/// Whether a wrong writer is caught by a limit with a name and, where that is asked for, by a record made by hand too.
+fn caught_by_limit(wrong: WrongWrite, words: &str, count: u64) -> bool {
+    let name = by_limit(wrong);
+    let record = ALSO_BY_RECORDS.contains(&wrong).then(|| by_record(wrong, count).is_some());
+    let too = match record {
+        Some(true) => ", a record too",
+        Some(false) => ", no record",
+        None => "",
+    };
+    println!("{}{too}: {words}", name.as_ref().map_or("not caught".into(), |name| format!("\"{name}\" catches")));
+    name.is_some() && record != Some(false)
 }
 
 /// The first seed below `count` whose tables made by hand catch an answerer.

@@ -7,7 +7,7 @@ pub mod refusals;
 use crate::answers::{Input, Table};
 use crate::model;
 use crate::mutation::Mutation;
-use crate::record::Record;
+use crate::record::{CLPI, Record};
 use crate::writer::{Info, Length, TABLES, Writer, Writing};
 use crate::wrong_writes::WrongWrite::{self, *};
 
@@ -86,7 +86,7 @@ impl Writer for Plain {
         let short = || bytes::encode(&info, input, self.wrong).len() > output.len();
         let refusal = refusals::refusal(&info, input, short, self.wrong);
         if refusal != 0 && refusal != 23 {
-            let touched = [(TouchedBefore22, 22), (TouchedBefore30, 30), (TouchedBefore31, 31)];
+            let touched = [(TouchedBefore22, 22), (TouchedBefore40, 40), (TouchedBefore30, 30), (TouchedBefore31, 31)];
             if touched.contains(&(self.wrong, refusal)) && !output.is_empty() {
                 output[0] ^= 1;
             }
@@ -110,7 +110,12 @@ impl Writer for Plain {
         if self.wrong == OldFile {
             return self.put(file, output);
         }
-        let info = Info::of(&self.record.scalars);
+        let mut info = Info::of(&self.record.scalars);
+        match self.wrong {
+            RewrittenClpi => info.letters = CLPI,
+            RewriteGives40 => info.letters = info.letters.swap_bytes(),
+            _ => {}
+        }
         let tables = std::mem::take(&mut self.tables);
         let rows: [u32; TABLES] = std::array::from_fn(|k| self.record.rows(k) as u32);
         let mut input = Input { rate: 0, packets: 0, tables: [Table::default(); 9], null: false };
@@ -132,7 +137,10 @@ impl Writer for Plain {
         if self.wrong == LengthOfOldFile {
             return Length { refusal: 0, bytes: file.len() as u32 };
         }
-        let (info, input) = (Info::of(&self.record.scalars), self.input());
+        let (mut info, input) = (Info::of(&self.record.scalars), self.input());
+        if self.wrong == LengthGives40 {
+            info.letters = info.letters.swap_bytes();
+        }
         let refusal = refusals::refusal(&info, &input, || false, self.wrong);
         if refusal != 0 && self.wrong != LengthWithoutRuns {
             return Length { refusal, bytes: told };

@@ -25,6 +25,10 @@ pub fn entry_cells(angle: u32, i_end: u32, time: u64, packet: u32, kind: u32) ->
     [angle, i_end, time as u32, (time >> 32) as u32, packet, kind]
 }
 
+/// The letters that a file may begin with, four bytes as one number, the first one highest.
+pub const HDMV: u32 = u32::from_be_bytes(*b"HDMV");
+pub const CLPI: u32 = u32::from_be_bytes(*b"CLPI");
+
 /// The longest file that is read.
 pub const MOST_BYTES: usize = 536_870_912;
 
@@ -36,6 +40,7 @@ pub fn row_bytes(table: usize) -> usize {
 /// The numbers of a record that stand in no table.
 #[derive(Clone, Copy, Default, PartialEq, Eq, Debug)]
 pub struct Scalars {
+    pub letters: u32,
     pub version: u32,
     pub clip_stream_type: u32,
     pub application_type: u32,

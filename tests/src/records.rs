@@ -1,12 +1,12 @@
 //! Records made by hand, by seed: most can be written, the others have one thing wrong, or several. The library's answer is
-//! the plain writer's, and the bytes are the Rust's too and read back to the record.
+//! the plain writer's, and the bytes are the Rust's too, behind the record's letters, and read back to the record.
 
 use crate::compare::{Difference, must};
 use crate::made::{Buffers, Made};
 use crate::ours::Reader;
 use crate::plain_writer::refusals;
 use crate::random::Random;
-use crate::record::{ATCS, CELLS, ENTRIES, MAPS, PROGRAMS, STCS, STREAMS, entry_cells, row_bytes};
+use crate::record::{ATCS, CELLS, CLPI, ENTRIES, HDMV, MAPS, PROGRAMS, STCS, STREAMS, entry_cells, row_bytes};
 use crate::writer::{Info, TABLES, Writer};
 use crate::writing::{Counts, Writings};
 use crate::wrong_writes::WrongWrite::Right;
@@ -76,11 +76,12 @@ fn any(random: &mut Random) -> Made {
     made
 }
 
-/// A record whose cells fit their fields.
+/// A record with the letters HDMV or CLPI, whose cells fit their fields.
 fn fitting(random: &mut Random) -> Made {
     let any = |random: &mut Random| random.next() as u32 >> random.below(32);
     let mut made = Made::default();
     made.info = Info {
+        letters: random.pick(&[HDMV, CLPI]),
         version: any(random),
         clip_stream_type: any(random) & 0xFF,
         application_type: any(random) & 0xFF,
@@ -135,11 +136,22 @@ fn entry(near: [u32; 2], kind: u32, random: &mut Random) -> [u32; 6] {
     entry_cells(random.below(2) as u32, random.below(8) as u32, u64::from(time & !511), packet, kind)
 }
 
-/// One change that may be wrong: a cell, a number beside the tables, the rows stated, or the bytes lent.
+/// Letters that are wrong, by a little or by much.
+fn other_letters(random: &mut Random) -> u32 {
+    let near = random.pick(&[HDMV, CLPI]);
+    match random.below(4) {
+        0 => near.swap_bytes(),
+        1 => near ^ 1 << random.below(32),
+        2 => random.pick(&[0, 1, u32::MAX]),
+        _ => u32::from_be_bytes(random.pick(&[*b"hdmv", *b"clpi", *b"HDMW", *b"CLPV", *b"HDPI", *b"CLMV", *b"MPLS"])),
+    }
+}
+
+/// One change that may be wrong: a cell, a number beside the tables, the letters, the rows stated, or the bytes lent.
 fn change(made: &mut Made, random: &mut Random) {
     let table = random.below(TABLES as u64) as usize;
     let wide = random.pick(&[1u32, 2, 8, 15, 16, 255, 256, 511, 512, 65_535, 65_536, 0xFF_FFFF, 0x100_0000, u32::MAX]);
-    match random.below(6) {
+    match random.below(7) {
         0 => made.stated[table] += random.pick(&[-1i64, 1, 2]).max(-(made.rows(table) as i64)),
         1 => made.cut[table] = (random.below(2 * row_bytes(table) as u64) as usize).min(4 * made.cells[table].len()),
         2 => {
@@ -147,6 +159,7 @@ fn change(made: &mut Made, random: &mut Random) {
             let info = &mut made.info;
             *[&mut info.clip_stream_type, &mut info.application_type, &mut info.validity_flags][number] = wide;
         }
+        3 => made.info.letters = other_letters(random),
         _ if made.rows(table) > 0 => {
             let row = random.below(made.rows(table) as u64) as usize;
             made.set(table, row, random.below(CELLS[table] as u64) as usize, wide);

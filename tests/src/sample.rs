@@ -78,16 +78,16 @@ fn cases(class: u64, each: u64) -> Vec<u8> {
     out
 }
 
-/// The Rust's answer as cells, each with its lowest byte first: 1 where it refuses; else the 21 numbers of reading, the rows of tables
+/// The Rust's answer as cells, each with its lowest byte first: 1 where it refuses; else the 22 numbers of reading, the rows of tables
 /// 1 to 6, 8 and 9, and of each extension its ids, its length and its data. None where a table is too long for the replay.
 fn answer(file: &[u8], record: &mut Record) -> Option<Vec<u8>> {
     let Ok(clip) = ClipInformation::parse(file) else { return Some(1u32.to_le_bytes().to_vec()) };
-    record_of(&clip, record);
+    record_of(&clip, file, record);
     if record.all_rows().iter().any(|rows| *rows > MOST_ROWS) {
         return None;
     }
     let s = record.scalars;
-    let mut cells = vec![0, 0, 0, s.version, s.clip_stream_type, s.application_type, s.ts_recording_rate];
+    let mut cells = vec![0, 0, 0, s.letters, s.version, s.clip_stream_type, s.application_type, s.ts_recording_rate];
     cells.extend([s.number_of_source_packets, s.validity_flags, s.format_id, s.marks]);
     cells.extend(record.all_rows().map(|rows| rows as u32));
     cells.push(s.has_list.into());

@@ -12,6 +12,7 @@ pub const TABLES: usize = 6;
 #[repr(C)]
 #[derive(Clone, Copy, Default, PartialEq, Eq, Debug)]
 pub struct Info {
+    pub letters: u32,
     pub version: u32,
     pub clip_stream_type: u32,
     pub application_type: u32,
@@ -25,6 +26,7 @@ impl Info {
     /// The numbers as a reading has them.
     pub fn of(scalars: &Scalars) -> Self {
         Info {
+            letters: scalars.letters,
             version: scalars.version,
             clip_stream_type: scalars.clip_stream_type,
             application_type: scalars.application_type,

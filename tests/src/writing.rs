@@ -57,8 +57,8 @@ impl Writings {
             .map_err(|why| format!("rewriting: {why}"))
     }
 
-    /// A file that is accepted, in the tables that reading has filled: written and rewritten to the Rust's bytes, or both
-    /// refused by 31. The Rust's record has its languages lowered.
+    /// A file that is accepted, in the tables that reading has filled: written and rewritten to the Rust's bytes behind the
+    /// file's letters, or both refused by 31. The Rust's record has its languages lowered.
     pub fn accepted(
         &mut self,
         file: &[u8],
@@ -94,11 +94,12 @@ impl Writings {
         self.same_for_the_rust(clip)?;
         read_back(&self.new, &made.info, input, reader)?;
         lower_languages(clip);
-        let old = std::mem::replace(&mut self.new, clip.encode());
+        let old = std::mem::replace(&mut self.new, encoded(clip, made.info.letters)?);
         self.must_rewrite(&old, random, writer)
     }
 
-    /// Writes a record that can be written: the bytes must be the Rust's, and the plain writer's too.
+    /// Writes a record that can be written: the bytes must be the Rust's behind the record's letters, and the plain writer's
+    /// too.
     pub fn record(
         &mut self,
         clip: &ClipInformation,
@@ -107,7 +108,7 @@ impl Writings {
         random: &mut Random,
         writer: &mut impl Writer,
     ) -> Result<(), Difference> {
-        self.new = clip.encode();
+        self.new = encoded(clip, info.letters)?;
         must(self.new == encode(&info, input, Right), || "the plain writer's bytes and the Rust's differ".into())?;
         self.must_give(random, |output| writer.write(info, input, output)).map_err(|why| format!("writing: {why}"))
     }
@@ -196,6 +197,14 @@ impl Writings {
         self.counts.refused += 1;
         Ok(())
     }
+}
+
+/// The Rust's new file with these letters for its own: it writes CLPI, whatever it has read.
+fn encoded(clip: &ClipInformation, letters: u32) -> Result<Vec<u8>, Difference> {
+    let mut new = clip.encode();
+    must(new.starts_with(b"CLPI"), || "the Rust writes other letters than CLPI".into())?;
+    new[..4].copy_from_slice(&letters.to_be_bytes());
+    Ok(new)
 }
 
 /// Whether no map has more runs than can be written.

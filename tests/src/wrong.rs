@@ -39,8 +39,10 @@ impl Wrong {
 
     /// The answer of a refusal.
     fn refusal(&self, number: u32) -> Reading {
-        let told = if self.mutation == NumbersBesideRefusal { self.record.scalars.version } else { 0 };
-        Reading { version: told, ..Reading::refused(number) }
+        let scalars = &self.record.scalars;
+        let version = if self.mutation == NumbersBesideRefusal { scalars.version } else { 0 };
+        let letters = if self.mutation == LettersBesideRefusal { scalars.letters } else { 0 };
+        Reading { version, letters, ..Reading::refused(number) }
     }
 
     /// The numbers of the record, or counts that are made up.

@@ -2,7 +2,7 @@
 
 use super::refusals::is_video;
 use crate::answers::{Counted, Input, OF_ATCS, OF_MAPS, OF_PROGRAMS};
-use crate::record::{ATCS, ENTRIES, MAPS, PACKET, PROGRAMS, STCS, STREAMS};
+use crate::record::{ATCS, CLPI, ENTRIES, MAPS, PACKET, PROGRAMS, STCS, STREAMS};
 use crate::writer::Info;
 use crate::wrong_writes::WrongWrite::{self, *};
 use std::ops::Range;
@@ -48,8 +48,13 @@ pub fn encode(info: &Info, input: &Input, wrong: WrongWrite) -> Vec<u8> {
 
 /// The header and the ClipInfo, with the starts of sequences, programs, CPI and marks.
 fn head(info: &Info, starts: [u64; 4], wrong: WrongWrite) -> Vec<u8> {
-    let mut out = if wrong == LettersHdmv { b"HDMV".to_vec() } else { b"CLPI".to_vec() };
-    let info = if wrong == FixedFile { &Info::default() } else { info };
+    let info = if wrong == FixedFile { &Info { letters: CLPI, ..Info::default() } } else { info };
+    let mut out = match wrong {
+        ClpiAlways => b"CLPI".to_vec(),
+        HdmvAlways => b"HDMV".to_vec(),
+        LettersLowestFirst => info.letters.to_le_bytes().to_vec(),
+        _ => info.letters.to_be_bytes().to_vec(),
+    };
     let [mut sequences, mut programs, cpi, mut marks] = starts;
     match wrong {
         StartsSwapped => (sequences, programs) = (programs, sequences),

@@ -1,8 +1,8 @@
-//! Why a record can't be written: 22, 30, 31 and, where the order is wrong, 23.
+//! Why a record can't be written: 22, 40, 30, 31 and, where the order is wrong, 23.
 
 use super::bytes::{rows, runs};
 use crate::answers::{Counted, Input, OF_ATCS, OF_MAPS, OF_PROGRAMS};
-use crate::record::{ATCS, CELLS, ENTRIES, KIND, MAPS, PROGRAMS, STREAMS, TIME};
+use crate::record::{ATCS, CELLS, CLPI, ENTRIES, HDMV, KIND, MAPS, PROGRAMS, STREAMS, TIME};
 use crate::writer::{Info, TABLES};
 use crate::wrong_writes::WrongWrite::{self, *};
 
@@ -16,24 +16,77 @@ const GREATEST: [&[u32]; TABLES] = [
     &[1, 7, u32::MAX, 0, u32::MAX, 15],
 ];
 
-/// The first refusal in the order 22, 30, 31, or 0. The output's length is asked for where the order is wrong.
+/// What is tested, each part of 22 by itself.
+#[derive(Clone, Copy)]
+enum Test {
+    Stated,
+    Counts,
+    Letters,
+    Cells,
+    Runs,
+    Output,
+}
+
+use Test::*;
+
+impl Test {
+    /// The refusal of what doesn't hold.
+    fn number(self) -> u32 {
+        match self {
+            Stated | Counts => 22,
+            Letters => 40,
+            Cells => 30,
+            Runs => 31,
+            Output => 23,
+        }
+    }
+}
+
+/// The tests in their order; that of the output stands elsewhere, but where the order is wrong.
+fn order(wrong: WrongWrite) -> &'static [Test] {
+    match wrong {
+        CellsBeforeRows => &[Cells, Stated, Counts, Letters, Runs],
+        RunsBeforeRows => &[Runs, Stated, Counts, Letters, Cells],
+        OutputBeforeRows => &[Output, Stated, Counts, Letters, Cells, Runs],
+        LettersBeforeRows => &[Letters, Stated, Counts, Cells, Runs],
+        LettersBeforeStated => &[Counts, Letters, Stated, Cells, Runs],
+        LettersBeforeCounts => &[Stated, Letters, Counts, Cells, Runs],
+        CellsBeforeLetters => &[Stated, Counts, Cells, Letters, Runs],
+        RunsBeforeLetters => &[Stated, Counts, Cells, Runs, Letters],
+        OutputBeforeLetters => &[Stated, Counts, Output, Letters, Cells, Runs],
+        RunsBeforeCells => &[Stated, Counts, Letters, Runs, Cells],
+        OutputBeforeCells => &[Stated, Counts, Letters, Output, Cells, Runs],
+        OutputBeforeRuns => &[Stated, Counts, Letters, Cells, Output, Runs],
+        _ => &[Stated, Counts, Letters, Cells, Runs],
+    }
+}
+
+/// The first refusal in the order 22, 40, 30, 31, or 0. The output's length is asked for where the order is wrong.
 pub fn refusal(info: &Info, input: &Input, is_short: impl Fn() -> bool, wrong: WrongWrite) -> u32 {
-    let order: &[u32] = match wrong {
-        CellsBeforeRows => &[30, 22, 31],
-        RunsBeforeRows => &[31, 22, 30],
-        OutputBeforeRows => &[23, 22, 30, 31],
-        RunsBeforeCells => &[22, 31, 30],
-        OutputBeforeCells => &[22, 23, 30, 31],
-        OutputBeforeRuns => &[22, 30, 23, 31],
-        _ => &[22, 30, 31],
+    let holds = |test: Test| match test {
+        Stated => stated(input, wrong),
+        Counts => adds_up(input, wrong),
+        Letters => letters_right(info.letters, wrong),
+        Cells => cells_fit(info, input, wrong),
+        Runs => runs_fit(input, wrong),
+        Output => !is_short(),
     };
-    let holds = |number: u32| match number {
-        22 => stated(input, wrong) && adds_up(input, wrong),
-        23 => !is_short(),
-        30 => cells_fit(info, input, wrong),
-        _ => runs_fit(input, wrong),
-    };
-    order.iter().copied().find(|number| !holds(*number)).unwrap_or(0)
+    order(wrong).iter().find(|test| !holds(**test)).map_or(0, |test| test.number())
+}
+
+/// Whether the letters are HDMV or CLPI.
+fn letters_right(letters: u32, wrong: WrongWrite) -> bool {
+    let capitals = u32::from_be_bytes(letters.to_be_bytes().map(|byte| byte.to_ascii_uppercase()));
+    let right = |letters: u32| letters == HDMV && wrong != HdmvRefused || letters == CLPI && wrong != ClpiRefused;
+    right(letters)
+        || match wrong {
+            LettersNotTested => true,
+            ZeroLettersAccepted => letters == 0,
+            SwappedLettersAccepted => right(letters.swap_bytes()),
+            SmallLettersAccepted => right(capitals),
+            ThreeLettersTested => [HDMV, CLPI].iter().any(|right| right >> 8 == letters >> 8),
+            _ => false,
+        }
 }
 
 /// Whether no more rows are stated than lent.
