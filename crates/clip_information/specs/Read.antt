@@ -55,6 +55,7 @@ acceptedOf f rows has = Answer.Accepted (clipInfoOf f) (marksFrom f (marksStart 
 -- the scalars and the nine numbers
 abbrev pub scalarsBy : ClipInfo → Scalars
 scalarsBy c = record {
+  letters = c .letters;
   version = c .version;
   streamType = c .«clip_stream_type»;
   applicationType = c .«application_type»;

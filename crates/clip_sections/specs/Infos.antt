@@ -7,6 +7,7 @@ use Rattle.clip_sections.specs.declared.info.ClipInfo.{ClipInfo}
 -- the record's scalars as the code holds them
 abbrev pub infoOf : Scalars → ClipInfo
 infoOf s = record {
+  letters = s .letters;
   version = s .version;
   «clip_stream_type» = s .streamType;
   «application_type» = s .applicationType;

@@ -1,4 +1,4 @@
-// The scalars: the version and the ClipInfo fields.
+// The scalars: the letters, the version and the ClipInfo fields.
 ghost use mathlib.Core.Path.{_≡_};
 ghost use Prim.Native.Nat.{_≤_};
 ghost use lib.ListN.{length};
@@ -7,9 +7,10 @@ use common::header::BdmvHeader;
 use numbers::u8_at;
 use numbers::u32_at;
 
-// The version and the ClipInfo fields, as C has them too.
+// The letters, the version and the ClipInfo fields, as C has them too.
 #[repr(C)]
 pub struct ClipInfo {
+    pub letters: u32,
     pub version: u32,
     pub clip_stream_type: u32,
     pub application_type: u32,
@@ -26,6 +27,7 @@ pub fn clip_info(file: &[u8]) -> ClipInfo
 {
     let header = BdmvHeader::read(file);
     ClipInfo {
+        letters: header.type_indicator,
         version: header.version_number,
         clip_stream_type: u8_at(file, 46),
         application_type: u8_at(file, 47),

@@ -8,18 +8,18 @@ use Rattle.clip_information.specs.Read.{nineBy}
 use Rattle.clip_information.specs.declared.read.Answer.{Answer}
 use Rattle.clpi_reading.specs.declared.ClpiReading.{ClpiReading}
 
--- the 21 numbers of reading's answer
+-- the 22 numbers of reading's answer
 abbrev pub readingNumbers : ClpiReading → List ℕ
 readingNumbers r =
     r .refusal ∷ r .table ∷ r .«rows_needed»
-    ∷ r .version ∷ r .«clip_stream_type» ∷ r .«application_type» ∷ r .«ts_recording_rate» ∷ r .«number_of_source_packets»
+    ∷ r .letters ∷ r .version ∷ r .«clip_stream_type» ∷ r .«application_type» ∷ r .«ts_recording_rate» ∷ r .«number_of_source_packets»
     ∷ r .«validity_flags» ∷ r .«format_id» ∷ r .marks
     ∷ r .atcs ∷ r .stcs ∷ r .programs ∷ r .streams ∷ r .maps ∷ r .entries
     ∷ r .extensions ∷ r .«list_programs» ∷ r .«list_streams» ∷ r .«has_list» ∷ []
 
 -- those of a refusal
 abbrev pub refusedNumbers : ℕ → ℕ → ℕ → List ℕ
-refusedNumbers refusal table rows = refusal ∷ table ∷ rows ∷ replicate 18 0
+refusedNumbers refusal table rows = refusal ∷ table ∷ rows ∷ replicate 19 0
 
 -- counts of rows that 32 bits can hold: none is above 66,846,465
 abbrev pub RowsFit : Rows → Type 0

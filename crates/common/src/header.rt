@@ -35,10 +35,10 @@ const SIZE: usize = 8;
 const HDMV: u32 = 0x48444D56;
 
 // The letters CLPI as one number.
-pub const CLPI: u32 = 0x434C5049;
+const CLPI: u32 = 0x434C5049;
 
 // Whether four letters as one number are those of a clip file.
-fn is_clip(letters: u32) -> bool
+pub fn is_clip(letters: u32) -> bool
     ensures { λ r. ⌜ r ≡ areLetters letters ⌝ }
 {
     if letters == HDMV {

@@ -50,26 +50,26 @@ fields-append (w ∷ ws) (v ∷ vs) more values e =
 
 -- the header, and ClipInfo behind it
 pub head-parts : (s : Scalars) (programs cpi marks : ℕ)
-    → headBytes s programs cpi marks ≡ fieldBytes headerWidths (headerNumbers (s .version) programs cpi marks) ++ fieldBytes infoWidths (infoNumbers s)
+    → headBytes s programs cpi marks ≡ fieldBytes headerWidths (headerNumbers (s .letters) (s .version) programs cpi marks) ++ fieldBytes infoWidths (infoNumbers s)
 unfolding headBytes
-head-parts s programs cpi marks = fields-append headerWidths (headerNumbers (s .version) programs cpi marks) infoWidths (infoNumbers s) refl
+head-parts s programs cpi marks = fields-append headerWidths (headerNumbers (s .letters) (s .version) programs cpi marks) infoWidths (infoNumbers s) refl
 
 -- 220 bytes
 pub head-length : (s : Scalars) (programs cpi marks : ℕ) → length (headBytes s programs cpi marks) ≡ 220
 head-length s programs cpi marks =
-    let front = fieldBytes headerWidths (headerNumbers (s .version) programs cpi marks) in
+    let front = fieldBytes headerWidths (headerNumbers (s .letters) (s .version) programs cpi marks) in
     let info = fieldBytes infoWidths (infoNumbers s) in
-    let forty : length front ≡ 40 = widths-length headerWidths (headerNumbers (s .version) programs cpi marks) refl in
+    let forty : length front ≡ 40 = widths-length headerWidths (headerNumbers (s .letters) (s .version) programs cpi marks) refl in
     let rest : length info ≡ 180 = widths-length infoWidths (infoNumbers s) refl in
     rw (head-parts s programs cpi marks, length-append front info, forty, rest)
 
 -- the header stored, and ClipInfo behind it
 pub head-stored : (s : Scalars) (programs cpi marks : ℕ) (l : List ℕ) {l′ l″ : List ℕ}
-    → l′ ≡ sets l 0 (fieldBytes headerWidths (headerNumbers (s .version) programs cpi marks)) → l″ ≡ sets l′ 40 (fieldBytes infoWidths (infoNumbers s))
+    → l′ ≡ sets l 0 (fieldBytes headerWidths (headerNumbers (s .letters) (s .version) programs cpi marks)) → l″ ≡ sets l′ 40 (fieldBytes infoWidths (infoNumbers s))
     → l″ ≡ sets l 0 (headBytes s programs cpi marks)
 head-stored s programs cpi marks l e f =
-    let front = fieldBytes headerWidths (headerNumbers (s .version) programs cpi marks) in
-    let forty : length front ≡ 40 = widths-length headerWidths (headerNumbers (s .version) programs cpi marks) refl in
+    let front = fieldBytes headerWidths (headerNumbers (s .letters) (s .version) programs cpi marks) in
+    let forty : length front ≡ 40 = widths-length headerWidths (headerNumbers (s .letters) (s .version) programs cpi marks) refl in
     let long : 0 + length front ≡ 40 = omega (arith, forty) in
     f ∙ rw (e, head-parts s programs cpi marks, sets-append l 0 front (fieldBytes infoWidths (infoNumbers s)), long)
 

@@ -1,15 +1,15 @@
 -- The first 220 bytes of a written file, in two parts: the header, and ClipInfo behind its length.
 use Prim.Native.Nat.{ℕ}
 use mathlib.Core.List.{List, [], _∷_}
-use Rattle.format.specs.ClipRecord.{clpi, Scalars}
+use Rattle.format.specs.ClipRecord.{Scalars}
 
 -- letters, version, five starts and 12 spare bytes
 abbrev pub headerWidths : List ℕ
 headerWidths = 4 ∷ 4 ∷ 4 ∷ 4 ∷ 4 ∷ 4 ∷ 4 ∷ 12 ∷ []
 
 -- what stands in these fields: the sequences are at 220, and there are no extensions
-abbrev pub headerNumbers : (version programs cpi marks : ℕ) → List ℕ
-headerNumbers version programs cpi marks = clpi ∷ version ∷ 220 ∷ programs ∷ cpi ∷ marks ∷ 0 ∷ 0 ∷ []
+abbrev pub headerNumbers : (letters version programs cpi marks : ℕ) → List ℕ
+headerNumbers letters version programs cpi marks = letters ∷ version ∷ 220 ∷ programs ∷ cpi ∷ marks ∷ 0 ∷ 0 ∷ []
 
 -- validity flags, format id, and spare bytes
 abbrev pub formatWidths : List ℕ

@@ -8,7 +8,6 @@ ghost use Rattle.format.specs.Rewriting.{headBytes};
 ghost use Rattle.clip_information.specs.Read.{scalarsBy};
 ghost use Rattle.encode_head.specs.Heads.{headerWidths, headerNumbers, formatWidths, formatNumbers, infoWidths, infoNumbers};
 use clip_sections::info::ClipInfo;
-use common::header::CLPI;
 use numbers::put_u8;
 use numbers::put_u16;
 use numbers::put_u32;
@@ -26,11 +25,11 @@ fn put_zeros(out: &mut [u8], at: usize, n: usize)
 }
 
 // The header: letters, version, the five starts, spare bytes.
-fn put_header(version: u32, programs: u32, cpi: u32, marks: u32, out: &mut [u8])
+fn put_header(letters: u32, version: u32, programs: u32, cpi: u32, marks: u32, out: &mut [u8])
     requires { ⌜ 40 ≤ length (now out) ⌝ }
-    ensures { λ _. ⌜ now (out .exit) ≡ sets (now (out .entry)) 0 (fieldBytes headerWidths (headerNumbers version programs cpi marks)) ⌝ }
+    ensures { λ _. ⌜ now (out .exit) ≡ sets (now (out .entry)) 0 (fieldBytes headerWidths (headerNumbers letters version programs cpi marks)) ⌝ }
 {
-    put_u32(out, 0, CLPI);
+    put_u32(out, 0, letters);
     put_u32(out, 4, version);
     put_u32(out, 8, 220);
     put_u32(out, 12, programs);
@@ -72,6 +71,6 @@ pub fn put_head(info: ClipInfo, programs: u32, cpi: u32, marks: u32, out: &mut [
     requires { ⌜ 220 ≤ length (now out) ⌝ }
     ensures { λ _. ⌜ now (out .exit) ≡ sets (now (out .entry)) 0 (headBytes (scalarsBy info) programs cpi marks) ⌝ }
 {
-    put_header(info.version, programs, cpi, marks, out);
+    put_header(info.letters, info.version, programs, cpi, marks, out);
     put_clip_info(info, out);
 }

@@ -7,7 +7,7 @@ use native.Mathlib.Omega.{arith}
 use lib.ListN.{length}
 use borrow.Author.Tests.{not-true, not-false}
 use Rattle.format.specs.Bytes.{both, unless}
-use Rattle.format.specs.ClipRecord.{entryCells}
+use Rattle.format.specs.ClipRecord.{areLetters, entryCells}
 use Rattle.format.specs.Tables.{ClipTables, clipIn, isStated, rowsOf, rowRoom, atcCells, stcCells, programCells, streamCells, mapCells}
 use Rattle.format.specs.Rewriting.{sequencesBytes, programsBytes, cpiBytes, cpiBytesBy}
 use Rattle.format.specs.Refusals.{scalarsFit, cellsFit, runsFit, allStated, writeRefusal}
@@ -32,29 +32,32 @@ use Rattle.encode_measure.proofs.Parts.{place-programs, place-cpi, plac
 
 -- ---- a record that can be written passes every test
 
--- the tests of 22, 30 and 31 pass
+-- the tests of 22, 40, 30 and 31 pass
 pub record Passed (l : ClipTables) : Type 0 where
   pub counted : pairsCounted l ≡ true
+  pub letters : areLetters (l .scalars .letters) ≡ true
   pub fit : cellsFit (clipIn l) ≡ true
   pub runs-fit : runsFit (clipIn l) ≡ true
 
 -- a record that is not refused has passed them
 pub all-passed : (l : ClipTables) → refusalIn l ≡ 0 → Passed l
 all-passed l h =
-    let p0 = passed (pairsCounted l) 21 (unless (cellsFit (clipIn l)) 30 (unless (runsFit (clipIn l)) 31 0)) (sym (refusal-is l) ∙ h) in
-    let p1 = passed (cellsFit (clipIn l)) 29 (unless (runsFit (clipIn l)) 31 0) (p0 .1) in
-    let p2 = passed (runsFit (clipIn l)) 30 0 (p1 .1) in
-    record { counted = p0 .0; fit = p1 .0; runs-fit = p2 .0 }
+    let fitting = unless (cellsFit (clipIn l)) 30 (unless (runsFit (clipIn l)) 31 0) in
+    let p0 = passed (pairsCounted l) 21 (unless (areLetters (l .scalars .letters)) 40 fitting) (sym (refusal-is l) ∙ h) in
+    let p1 = passed (areLetters (l .scalars .letters)) 39 fitting (p0 .1) in
+    let p2 = passed (cellsFit (clipIn l)) 29 (unless (runsFit (clipIn l)) 31 0) (p1 .1) in
+    let p3 = passed (runsFit (clipIn l)) 30 0 (p2 .1) in
+    record { counted = p0 .0; letters = p1 .0; fit = p2 .0; runs-fit = p3 .0 }
 
 -- a record that passes them is not refused
 pub none-refused : (l : ClipTables) → Passed l → refusalIn l ≡ 0
-none-refused l p = refusal-is l ∙ rw (p .counted, p .fit, p .runs-fit)
+none-refused l p = refusal-is l ∙ rw (p .counted, p .letters, p .fit, p .runs-fit)
 
 -- its file is short
 pub marks-bound : (l : ClipTables) → refusalIn l ≡ 0 → marksPlace (clipIn l) + 6 ≤ 402515706
 marks-bound l h =
     let c = clipIn l in
-    good-short c (good-made c (passed (allStated l) 21 (writeRefusal c) h .1))
+    good-short c (good-made c (passed (allStated l) 21 (writeRefusal c) h .1) .good)
 
 -- the places are in order, and the last is a number of 32 bits
 pub in-order : (l : ClipTables) {at : Places} {bytes : ℕ} → Ready l at bytes → InOrder (at .programs) (at .cpi) (at .marks) bytes
@@ -89,6 +92,16 @@ module _ (l : ClipTables) where
   unfolding pairsCounted
   counted-by {r} is h = sym is ∙ not-false r h
 
+  -- letters that are neither of the two
+  pub refused-40 : {r : Bool} → pairsCounted l ≡ true → r ≡ areLetters (l .scalars .letters) → not r ≡ true → refusalIn l ≡ 40
+  refused-40 {r} p is h =
+      let fails : areLetters (l .scalars .letters) ≡ false = sym is ∙ not-true r h in
+      refusal-is l ∙ rw (p, fails)
+
+  -- letters that are one of them
+  pub letters-by : {r : Bool} → r ≡ areLetters (l .scalars .letters) → not r ≡ false → areLetters (l .scalars .letters) ≡ true
+  letters-by {r} is h = sym is ∙ not-false r h
+
   -- every cell but those of the entries fits
   abbrev pub fieldsOf : Bool
   fieldsOf = both (scalarsFit (l .scalars)) (tablesFit (l .atcs) (l .stcs) (l .programs) (l .streams) (l .maps))
@@ -98,10 +111,10 @@ module _ (l : ClipTables) where
   allEntriesFit = entriesFit (rowsOf mapCells (l .maps)) (rowsOf entryCells (l .entries))
 
   -- cells before the entries that do not fit
-  pub fields-refused : {r : Bool} → pairsCounted l ≡ true → r ≡ fieldsOf → not r ≡ true → refusalIn l ≡ 30
-  fields-refused {r} p is h =
+  pub fields-refused : {r : Bool} → pairsCounted l ≡ true → areLetters (l .scalars .letters) ≡ true → r ≡ fieldsOf → not r ≡ true → refusalIn l ≡ 30
+  fields-refused {r} p q is h =
       let fails : cellsFit (clipIn l) ≡ false = fields-and-entries l ∙ left-fails allEntriesFit (sym is ∙ not-true r h) in
-      refusal-is l ∙ rw (p, fails)
+      refusal-is l ∙ rw (p, q, fails)
 
   -- cells that do
   pub fields-by : {r : Bool} → r ≡ fieldsOf → not r ≡ false → fieldsOf ≡ true
@@ -112,12 +125,12 @@ module _ (l : ClipTables) where
   testedIn = cpi.testedOf (cpi.mapRows (l .maps .bytes) (l .maps .rows)) (cpi.entryRows (l .entries .bytes) (l .entries .rows))
 
   -- an entry does not fit
-  pub entries-refused : pairsCounted l ≡ true → testedIn ≡ Tested.Unfit → refusalIn l ≡ 30
+  pub entries-refused : pairsCounted l ≡ true → areLetters (l .scalars .letters) ≡ true → testedIn ≡ Tested.Unfit → refusalIn l ≡ 30
   unfolding cpi.testedOf
-  entries-refused p is =
+  entries-refused p q is =
       let unfit : allEntriesFit ≡ false = not-picked allEntriesFit (λ e. let z : _≡_ {A = ℕ} 0 1 = cc in omega arith) is .0 in
       let fails : cellsFit (clipIn l) ≡ false = fields-and-entries l ∙ right-fails fieldsOf unfit in
-      refusal-is l ∙ rw (p, fails)
+      refusal-is l ∙ rw (p, q, fails)
 
   -- what the maps and entries are, for the functions of the CPI
   abbrev pub lengthIn : Length
@@ -131,11 +144,11 @@ module _ (l : ClipTables) where
       (fields-and-entries l ∙ true-both fields (p .0), cc (p .1))
 
   -- a map has too many runs
-  pub runs-refused : pairsCounted l ≡ true → cellsFit (clipIn l) ≡ true → lengthIn ≡ Length.TooManyRuns → refusalIn l ≡ 31
+  pub runs-refused : pairsCounted l ≡ true → areLetters (l .scalars .letters) ≡ true → cellsFit (clipIn l) ≡ true → lengthIn ≡ Length.TooManyRuns → refusalIn l ≡ 31
   unfolding clipIn runsFit
-  runs-refused p fit is =
+  runs-refused p q fit is =
       let fails : runsFit (clipIn l) ≡ false = length-refused (cpi.mapRows (l .maps .bytes) (l .maps .rows)) (cpi.entryRows (l .entries .bytes) (l .entries .rows)) is in
-      refusal-is l ∙ rw (p, fit, fails)
+      refusal-is l ∙ rw (p, q, fit, fails)
 
   -- none has, and the section's length is told
   pub runs-few : {len : ℕ} → lengthIn ≡ Length.Bytes len → (runsFit (clipIn l) ≡ true) × (len ≡ length (cpiBytes (clipIn l)))

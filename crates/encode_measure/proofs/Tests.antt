@@ -6,7 +6,7 @@ use native.Mathlib.Omega.{arith}
 use lib.Dec.{eqb}
 use borrow.Author.Tests.{eqb-true}
 use Rattle.format.specs.Bytes.{both, pick, unless}
-use Rattle.format.specs.ClipRecord.{Clip}
+use Rattle.format.specs.ClipRecord.{Clip, areLetters}
 use Rattle.format.specs.Tables.{ClipTables, clipIn}
 use Rattle.format.specs.Refusals.{allStated, countsAdd, cellsFit, runsFit, writeRefusal}
 use Rattle.format.proofs.Tests.{picked, not-picked}
@@ -20,11 +20,12 @@ unless-both : (a b : Bool) (n later : ℕ) → unless a n (unless b n later) ≡
 unless-both true b n later = refl
 unless-both false b n later = refl
 
--- 22 by pairs of tables, then 30, then 31
-pub refusal-is : (l : ClipTables) → refusalIn l ≡ unless (pairsCounted l) 22 (unless (cellsFit (clipIn l)) 30 (unless (runsFit (clipIn l)) 31 0))
-unfolding writeRefusal pairsCounted
+-- 22 by pairs of tables, then 40, 30 and 31
+pub refusal-is : (l : ClipTables)
+    → refusalIn l ≡ unless (pairsCounted l) 22 (unless (areLetters (l .scalars .letters)) 40 (unless (cellsFit (clipIn l)) 30 (unless (runsFit (clipIn l)) 31 0)))
+unfolding clipIn writeRefusal pairsCounted
 refusal-is l =
-    let later = unless (cellsFit (clipIn l)) 30 (unless (runsFit (clipIn l)) 31 0) in
+    let later = unless (areLetters (l .scalars .letters)) 40 (unless (cellsFit (clipIn l)) 30 (unless (runsFit (clipIn l)) 31 0)) in
     unless-both (allStated l) (countsAdd (clipIn l)) 22 later ∙ ap (λ (b : Bool). unless b 22 later) (sym (all-counted l))
 
 -- a refusal is told

@@ -13,7 +13,7 @@ use Rattle.table_rows.specs.OwnRows.{isCounted}
 use Rattle.encode_measure.specs.declared.Measured.{Measured}
 use Rattle.encode_measure.specs.declared.Places.{Places}
 
--- 22, 30 or 31; 0 where the record can be written
+-- 22, 40, 30 or 31; 0 where the record can be written
 abbrev pub refusalIn : ClipTables → ℕ
 refusalIn l = unless (allStated l) 22 (writeRefusal (clipIn l))
 

@@ -10,6 +10,7 @@ ghost use Rattle.limits.specs.Clips.{tablesFit};
 ghost use Rattle.limits.specs.Stated.{statedTables};
 ghost use Rattle.encode_measure.specs.Places.{pairsCounted, measuredIn};
 use clip_sections::info::ClipInfo;
+use common::header::is_clip;
 use encode_cpi::Length;
 use encode_cpi::Tested;
 use encode_cpi::cpi_length;
@@ -103,6 +104,9 @@ pub fn measure(
 {
     if !counts_add(rows, atcs, stcs, programs, streams, maps, entries) {
         return Measured::Refused(22);
+    }
+    if !is_clip(info.letters) {
+        return Measured::Refused(40);
     }
     if !fields_fit(info, rows, atcs, stcs, programs, streams, maps) {
         return Measured::Refused(30);

@@ -25,25 +25,26 @@ use Rattle.exported_theorems.proofs.Asked.{asked-alike}
 
 -- ---- reading
 
--- what is handed on by the numbers of an answer: the scalars are numbers 3 to 9, the row counts of tables 1 to 6 numbers 11 to 16
+-- what is handed on by the numbers of an answer: the scalars are numbers 3 to 10, the row counts of tables 1 to 6 numbers 12 to 17
 abbrev handedBy : List ℕ → Nine (List ℕ) → ClipTables
 handedBy ns t =
     tablesWith
     (record {
-      version = getD ns 3 0;
-      streamType = getD ns 4 0;
-      applicationType = getD ns 5 0;
-      rate = getD ns 6 0;
-      packets = getD ns 7 0;
-      validityFlags = getD ns 8 0;
-      formatId = getD ns 9 0;
+      letters = getD ns 3 0;
+      version = getD ns 4 0;
+      streamType = getD ns 5 0;
+      applicationType = getD ns 6 0;
+      rate = getD ns 7 0;
+      packets = getD ns 8 0;
+      validityFlags = getD ns 9 0;
+      formatId = getD ns 10 0;
     })
-    (stated (t .atcs) (getD ns 11 0))
-    (stated (t .stcs) (getD ns 12 0))
-    (stated (t .programs) (getD ns 13 0))
-    (stated (t .streams) (getD ns 14 0))
-    (stated (t .maps) (getD ns 15 0))
-    (stated (t .entries) (getD ns 16 0))
+    (stated (t .atcs) (getD ns 12 0))
+    (stated (t .stcs) (getD ns 13 0))
+    (stated (t .programs) (getD ns 14 0))
+    (stated (t .streams) (getD ns 15 0))
+    (stated (t .maps) (getD ns 16 0))
+    (stated (t .entries) (getD ns 17 0))
 
 module _ {f : List ℕ} (h : Rewritable f) (x : ClpiRead f) where
   -- the definitions' part, for an output of any sufficient length

@@ -61,6 +61,7 @@ pub record ClpiRead (f : List ℕ) : Type 0 where
 -- the scalars of its answer
 abbrev pub scalarsRead : ClpiReading → Scalars
 scalarsRead r = record {
+  letters = r .letters;
   version = r .version;
   streamType = r .«clip_stream_type»;
   applicationType = r .«application_type»;

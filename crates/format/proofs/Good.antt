@@ -6,7 +6,7 @@ use mathlib.Core.Bool.{true}
 use lib.ListN.{length}
 use lib.Dec.{eqb}
 use Rattle.format.specs.Bytes.{pick, total}
-use Rattle.format.specs.ClipRecord.{Row, Clip, atcStcCount, streamCount, codingType, aspect, language, mapType, entryCount}
+use Rattle.format.specs.ClipRecord.{Row, Clip, areLetters, atcStcCount, streamCount, codingType, aspect, language, mapType, entryCount}
 use Rattle.format.specs.Programs.{isVideo}
 use Rattle.format.specs.Rewriting.{runs}
 use Rattle.format.proofs.Fields.{Fit}
@@ -54,3 +54,8 @@ pub record GoodClip (most : ℕ) (c : Clip) : Type 0 where
   pub streams-add : total streamCount (c .programs) ≡ length (c .streams)
   pub maps-few : length (c .maps) ≤ 255
   pub maps-good : Maps most (c .maps) (c .entries)
+
+-- what writing refuses by nothing: right letters, and no map has more than 65,535 runs
+pub record Writable (c : Clip) : Type 0 where
+  pub letters : areLetters (c .scalars .letters) ≡ true
+  pub good : GoodClip 65535 c

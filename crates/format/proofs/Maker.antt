@@ -9,11 +9,11 @@ use lib.Seq.{length-take-le}
 use lib.Dec.{leb}
 use borrow.Author.Tests.{eqb-true, leb-true}
 use Rattle.format.specs.Bytes.{every, unless, fits, total}
-use Rattle.format.specs.ClipRecord.{Row, Clip, atcStcCount, streamCount, mapType, entryCount, time, entryType}
+use Rattle.format.specs.ClipRecord.{Row, Clip, areLetters, atcStcCount, streamCount, mapType, entryCount, time, entryType}
 use Rattle.format.specs.Refusals.{countsAdd, streamFits, entryBits, entryFits, everyMap, cellsFit, runsFit, writeRefusal}
 use Rattle.format.specs.Rewriting.{runs}
 use Rattle.format.proofs.Fields.{Fit, fits-fit}
-use Rattle.format.proofs.Good.{GoodStream, Maps, GoodClip}
+use Rattle.format.proofs.Good.{GoodStream, Maps, Writable}
 use Rattle.format.proofs.Join.{GoodEntry}
 use Rattle.format.proofs.Lists.{All, every-all, all-map}
 use Rattle.format.proofs.Numbers.{left}
@@ -60,12 +60,13 @@ stream-made s h =
 fit-rows : (ws : List ℕ) (rows : List Row) → every (fits ws) rows ≡ true → All (Fit ws) rows
 fit-rows ws rows h = all-map (λ row k. fits-fit ws row k) (every-all (fits ws) rows h)
 
--- what neither 22 nor 30 nor 31 refuses: counts add up, cells fit, and no map has over 65,535 runs
-pub good-made : (c : Clip) → writeRefusal c ≡ 0 → GoodClip 65535 c
+-- what none of 22, 40, 30 and 31 refuses: counts add up, the letters are right, cells fit, and no map has over 65,535 runs
+pub good-made : (c : Clip) → writeRefusal c ≡ 0 → Writable c
 unfolding writeRefusal countsAdd cellsFit runsFit
 good-made c h =
-    let p0 = passed (countsAdd c) 21 (unless (cellsFit c) 30 (unless (runsFit c) 31 0)) h in
-    let p1 = passed (cellsFit c) 29 (unless (runsFit c) 31 0) (p0 .1) in
+    let p0 = passed (countsAdd c) 21 (unless (areLetters (c .scalars .letters)) 40 (unless (cellsFit c) 30 (unless (runsFit c) 31 0))) h in
+    let letters = passed (areLetters (c .scalars .letters)) 39 (unless (cellsFit c) 30 (unless (runsFit c) 31 0)) (p0 .1) in
+    let p1 = passed (cellsFit c) 29 (unless (runsFit c) 31 0) (letters .1) in
     let p2 = passed (runsFit c) 30 0 (p1 .1) in
     let a0 = both-true (p0 .0) in
     let a1 = both-true (a0 .1) in
@@ -79,15 +80,18 @@ good-made c h =
     let b7 = both-true (b6 .1) in
     let b8 = both-true (b7 .1) in
     record {
-      scalars = fits-fit (32 ∷ 8 ∷ 8 ∷ 32 ∷ 32 ∷ 8 ∷ 32 ∷ []) (c .scalars .version ∷ c .scalars .streamType ∷ c .scalars .applicationType ∷ c .scalars .rate ∷ c .scalars .packets ∷ c .scalars .validityFlags ∷ c .scalars .formatId ∷ []) (b0 .0);
-      atcs-few = leb-true (length (c .atcs)) 255 (b1 .0);
-      atcs-good = fit-rows (32 ∷ 8 ∷ 8 ∷ []) (c .atcs) (b2 .0);
-      stcs-good = fit-rows (16 ∷ 32 ∷ 32 ∷ 32 ∷ []) (c .stcs) (b3 .0);
-      stcs-add = eqb-true (total atcStcCount (c .atcs)) (length (c .stcs)) (a0 .0);
-      programs-few = leb-true (length (c .programs)) 255 (b4 .0);
-      programs-good = fit-rows (32 ∷ 16 ∷ 8 ∷ []) (c .programs) (b5 .0);
-      streams-good = all-map stream-made (every-all streamFits (c .streams) (b6 .0));
-      streams-add = eqb-true (total streamCount (c .programs)) (length (c .streams)) (a1 .0);
-      maps-few = leb-true (length (c .maps)) 255 (b7 .0);
-      maps-good = maps-made (c .maps) (c .entries) (b8 .0) (eqb-true (total entryCount (c .maps)) (length (c .entries)) (a1 .1)) (b8 .1) (p2 .0);
+      letters = letters .0;
+      good = record {
+        scalars = fits-fit (32 ∷ 8 ∷ 8 ∷ 32 ∷ 32 ∷ 8 ∷ 32 ∷ []) (c .scalars .version ∷ c .scalars .streamType ∷ c .scalars .applicationType ∷ c .scalars .rate ∷ c .scalars .packets ∷ c .scalars .validityFlags ∷ c .scalars .formatId ∷ []) (b0 .0);
+        atcs-few = leb-true (length (c .atcs)) 255 (b1 .0);
+        atcs-good = fit-rows (32 ∷ 8 ∷ 8 ∷ []) (c .atcs) (b2 .0);
+        stcs-good = fit-rows (16 ∷ 32 ∷ 32 ∷ 32 ∷ []) (c .stcs) (b3 .0);
+        stcs-add = eqb-true (total atcStcCount (c .atcs)) (length (c .stcs)) (a0 .0);
+        programs-few = leb-true (length (c .programs)) 255 (b4 .0);
+        programs-good = fit-rows (32 ∷ 16 ∷ 8 ∷ []) (c .programs) (b5 .0);
+        streams-good = all-map stream-made (every-all streamFits (c .streams) (b6 .0));
+        streams-add = eqb-true (total streamCount (c .programs)) (length (c .streams)) (a1 .0);
+        maps-few = leb-true (length (c .maps)) 255 (b7 .0);
+        maps-good = maps-made (c .maps) (c .entries) (b8 .0) (eqb-true (total entryCount (c .maps)) (length (c .entries)) (a1 .1)) (b8 .1) (p2 .0);
+      };
     }

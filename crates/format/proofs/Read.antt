@@ -9,11 +9,11 @@ use lib.Seq.{take-at, drop-at}
 use lib.Dec.{leb, eqb, lit<}
 use borrow.Author.Tests.{leb-true, le-leb, lt-leb}
 use Rattle.format.specs.Bytes.{IsBytes, both, pick, beAt, rowsAt, gather}
-use Rattle.format.specs.ClipRecord.{Row, Clip, atcStcCount, streamCount, entryCount, versionOf, sequencesStart, programsStart, cpiStart, scalarsOf, atcAt, stcAt, nextStc, stcsOf, nextAtc, atcsFrom, stcsFrom}
+use Rattle.format.specs.ClipRecord.{Row, Clip, atcStcCount, streamCount, entryCount, lettersRight, versionOf, sequencesStart, programsStart, cpiStart, scalarsOf, atcAt, stcAt, nextStc, stcsOf, nextAtc, atcsFrom, stcsFrom}
 use Rattle.format.specs.EntryPoints.{coarseAt, nextCoarse, firstFine, fineAt, nextFine, joinTime, joinPacket, entryOf, stepOn, coarseFor, entriesFor, mapTypeAt, coarseCountAt, fineCountAt, mapAt, nextMap, bodyAt, fineStart, entriesOf, hasMaps, mapCount, mapsFrom, entriesFrom}
 use Rattle.format.specs.Programs.{isVideo, lower, lowered, codingAt, formatAt, aspectAt, languageAt, streamAt, nextStream, programAt, streamsOf, nextProgram, programsFrom, streamsFrom, loweredStream}
 use Rattle.format.specs.Reading.{clipOf}
-use Rattle.format.specs.Refusals.{everyMap, runsFit}
+use Rattle.format.specs.Refusals.{refusalOf, everyMap, runsFit}
 use Rattle.format.specs.Rewriting.{sameRun, coarseRow, unlessSame, coarseAfter, runs}
 use Rattle.format.proofs.Fields.{Fit, fit, time-is, time-cells}
 use Rattle.format.proofs.Good.{GoodAtc, GoodStc, GoodProgram, GoodStream, GoodMap, Maps, GoodClip, none, more}
@@ -21,7 +21,7 @@ use Rattle.format.proofs.Join.{GoodEntry}
 use Rattle.format.proofs.Lists.{All, none, more}
 use Rattle.format.proofs.Rows.{map-fixed, rows-length, rows-all, gather-all, gather-adds}
 use Rattle.format.proofs.Stores.{be-below}
-use Rattle.format.proofs.Tests.{both-true}
+use Rattle.format.proofs.Tests.{both-true, passed}
 use Rattle.format.proofs.Write.{cells}
 
 -- ---- letters
@@ -179,6 +179,14 @@ narrow c g h = record {
 }
 
 -- ---- a file
+
+-- one that is accepted begins with right letters
+pub right-letters : (f : List ℕ) → refusalOf f ≡ 0 → lettersRight f ≡ true
+unfolding refusalOf
+right-letters f h =
+    let a = passed (leb (length f) 536870912) 19 _ h in
+    let b = passed (leb 8 (length f)) 0 _ (a .1) in
+    passed (lettersRight f) 1 _ (b .1) .0
 
 module _ (f : List ℕ) (bytes : IsBytes f) where
   -- a number that is read from n bytes fits them

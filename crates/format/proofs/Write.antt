@@ -15,7 +15,7 @@ use Rattle.format.specs.Programs.{isVideo}
 use Rattle.format.specs.Refusals.{countsAdd, atcFits, stcFits, programFits, streamFits, mapFits, entryFits, everyMap, cellsFit, runsFit, writeRefusal}
 use Rattle.format.specs.Rewriting.{coarseRows, runs, groups, sectionBytes, atcBytes, stcBytes, sequencesBytes, programBytes, streamBytesBy, streamBytes, programsBytes, coarseBytes, fineRow, fineBytes, bodyBytes, bodies, headers, cpiBytesBy, cpiBytes, headWidths, headValues, headBytes, encode}
 use Rattle.format.proofs.Fields.{fit-fits}
-use Rattle.format.proofs.Good.{GoodStream, GoodMap, Maps, GoodClip, none, more}
+use Rattle.format.proofs.Good.{GoodStream, GoodMap, Maps, GoodClip, Writable, none, more}
 use Rattle.format.proofs.Join.{GoodEntry}
 use Rattle.format.proofs.Lists.{All, all-every, all-append, all-map, none, more}
 use Rattle.format.proofs.Tests.{true-both}
@@ -190,7 +190,7 @@ module _ (c : Clip) (g : GoodClip 65535 c) where
   unfolding runsFit
   runs-fit = maps-every (λ m es. leb (runs es) 65535) (λ m own good few. le-leb (runs own) 65535 few) (g .maps-good)
 
-  -- a good record can be written
-  pub written : writeRefusal c ≡ 0
-  unfolding writeRefusal
-  written = rw (counts 65535 c g, cells 65535 c g, runs-fit)
+-- such a record with right letters is refused by nothing
+pub written : (c : Clip) → Writable c → writeRefusal c ≡ 0
+unfolding writeRefusal
+written c w = rw (counts 65535 c (w .good), w .letters, cells 65535 c (w .good), runs-fit c (w .good))

@@ -13,8 +13,9 @@ use Rattle.format.specs.Ticks.{Ticks45, Ticks90}
 abbrev pub Row : Type 0
 Row = List ℕ
 
--- the version and the ClipInfo fields from 46 on
+-- the letters, the version and the ClipInfo fields from 46 on
 pub record Scalars : Type 0 where
+  pub letters : ℕ  -- those with which it was read and is written, four bytes as one number
   pub version : ℕ  -- four bytes as one number
   pub streamType : ℕ
   pub applicationType : ℕ
@@ -151,7 +152,7 @@ areLetters letters = either (eqb letters hdmv) (eqb letters clpi)
 abbrev pub lettersOf : List ℕ → ℕ
 lettersOf f = beAt f 0 4
 
--- HDMV or CLPI, not kept
+-- HDMV or CLPI
 unfoldable pub lettersRight : List ℕ → Bool
 lettersRight f = areLetters (lettersOf f)
 
@@ -177,9 +178,10 @@ extensionsStart f = beAt f 24 4
 
 -- ---- ClipInfo
 
--- the version is the header's; the other fields stand at fixed places, whatever the ClipInfo length is
+-- the letters and the version are the header's; the other fields stand at fixed places, whatever the ClipInfo length is
 unfoldable pub scalarsOf : List ℕ → Scalars
 scalarsOf f = record {
+  letters = lettersOf f;
   version = versionOf f;
   streamType = beAt f 46 1;
   applicationType = beAt f 47 1;

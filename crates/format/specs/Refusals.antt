@@ -5,7 +5,7 @@ use mathlib.Core.Bool.{Bool, true, false}
 use lib.ListN.{length, getD, take, drop, replicate}
 use lib.Dec.{leb, ltb, eqb}
 use Rattle.format.specs.Bytes.{both, pick, every, unless, fits}
-use Rattle.format.specs.ClipRecord.{Row, Scalars, Clip, atcStcCount, streamCount, codingType, aspect, language, mapType, entryCount, time, entryType, lettersRight, clipInfoIn, sequencesStart, programsStart, cpiStart, marksStart, extensionsStart, sequencesEnd, marksIn, entryCells}
+use Rattle.format.specs.ClipRecord.{Row, Scalars, Clip, areLetters, atcStcCount, streamCount, codingType, aspect, language, mapType, entryCount, time, entryType, lettersRight, clipInfoIn, sequencesStart, programsStart, cpiStart, marksStart, extensionsStart, sequencesEnd, marksIn, entryCells}
 use Rattle.format.specs.Programs.{isVideo, programsEnd}
 use Rattle.format.specs.EntryPoints.{cpiIn, mapsIn}
 use Rattle.format.specs.Extensions.{extensionRows, dataStart, dataLength, dataOf, dataIn}
@@ -111,12 +111,12 @@ flag false = 0
 
 -- each number has the same place in every answer
 abbrev pub readNumbers : ReadAnswer → List ℕ
-readNumbers (refused n) = n ∷ replicate 20 0
-readNumbers (tooShort k n) = 21 ∷ k ∷ n ∷ replicate 18 0
+readNumbers (refused n) = n ∷ replicate 21 0
+readNumbers (tooShort k n) = 21 ∷ k ∷ n ∷ replicate 19 0
 readNumbers (accepted s) =
     0 ∷ 0 ∷ 0
-    ∷ s .scalars .version ∷ s .scalars .streamType ∷ s .scalars .applicationType ∷ s .scalars .rate ∷ s .scalars .packets
-    ∷ s .scalars .validityFlags ∷ s .scalars .formatId ∷ s .marks
+    ∷ s .scalars .letters ∷ s .scalars .version ∷ s .scalars .streamType ∷ s .scalars .applicationType ∷ s .scalars .rate
+    ∷ s .scalars .packets ∷ s .scalars .validityFlags ∷ s .scalars .formatId ∷ s .marks
     ∷ s .rows .atcs ∷ s .rows .stcs ∷ s .rows .programs ∷ s .rows .streams ∷ s .rows .maps ∷ s .rows .entries
     ∷ s .rows .extensions ∷ s .rows .listPrograms ∷ s .rows .listStreams ∷ flag (s .hasList) ∷ []
 
@@ -143,7 +143,7 @@ dataNumbers f t k =
     let refusal = dataRefusal f t k in
     refusal ∷ pick (eqb refusal 0) (dataStart (extensionRow t k)) 0 ∷ pick (eqb refusal 0) (dataLength (extensionRow t k)) 0 ∷ []
 
--- ---- writing a record: 22, 30, 31, 23
+-- ---- writing a record: 22, 40, 30, 31, 23
 
 -- the row counts add up to the rows stated, else 22; a question tests the tables it is lent in the same way (Questions)
 unfoldable pub countsAdd : Clip → Bool
@@ -154,7 +154,7 @@ countsAdd c =
 
 -- every cell fits its field in the file, else 30. The numbers are widths in bits
 
--- a file's scalars always fit; those of a record made by hand need not
+-- a file's scalars always fit; those of a record made by hand need not. The letters are tested before, by 40
 abbrev pub scalarsFit : Scalars → Bool
 scalarsFit s =
     fits (32 ∷ 8 ∷ 8 ∷ 32 ∷ 32 ∷ 8 ∷ 32 ∷ [])
@@ -214,7 +214,11 @@ runsFit c = everyMap (λ m es. leb (runs es) 65535) (c .maps) (c .entries)
 
 -- 0 where the record can be written
 unfoldable pub writeRefusal : Clip → ℕ
-writeRefusal c = unless (countsAdd c) 22 (unless (cellsFit c) 30 (unless (runsFit c) 31 0))
+writeRefusal c =
+    unless (countsAdd c) 22
+    (unless (areLetters (c .scalars .letters)) 40
+    (unless (cellsFit c) 30
+    (unless (runsFit c) 31 0)))
 
 -- ---- writing from lent tables into a lent output
 

@@ -5,7 +5,7 @@ use mathlib.Core.Bool.{Bool, true, false}
 use lib.ListN.{length, take, drop}
 use lib.Dec.{eqb}
 use Rattle.format.specs.Bytes.{both, bytesOf, fieldBytes, packed, flat}
-use Rattle.format.specs.ClipRecord.{clpi, Row, Scalars, Clip, atcStcCount, streamCount, streamPid, codingType, formatByte, aspect, language, mapPid, mapType, entryCount, angle, iEnd, time, packet}
+use Rattle.format.specs.ClipRecord.{Row, Scalars, Clip, atcStcCount, streamCount, streamPid, codingType, formatByte, aspect, language, mapPid, mapType, entryCount, angle, iEnd, time, packet}
 use Rattle.format.specs.Programs.{isVideo}
 use Rattle.format.specs.EntryPoints.{coarseWidths, fineWidths, headerWidths}
 
@@ -150,14 +150,14 @@ cpiBytes c = cpiBytesBy (c .maps) (c .entries)
 
 -- ---- the whole
 
--- the first 220 bytes: letters CLPI, version, five starts, 12 spare bytes; ClipInfo of 176 bytes behind its length
+-- the first 220 bytes: letters, version, five starts, 12 spare bytes; ClipInfo of 176 bytes behind its length
 abbrev pub headWidths : List ℕ
 headWidths = 4 ∷ 4 ∷ 4 ∷ 4 ∷ 4 ∷ 4 ∷ 4 ∷ 12 ∷ 4 ∷ 2 ∷ 1 ∷ 1 ∷ 4 ∷ 4 ∷ 4 ∷ 128 ∷ 1 ∷ 1 ∷ 4 ∷ 26 ∷ []
 
 -- sequences start right behind at 220; the extension start and all spare bytes are 0
 abbrev pub headValues : Scalars → (programs cpi marks : ℕ) → List ℕ
 headValues s programs cpi marks =
-    clpi ∷ s .version ∷ 220 ∷ programs ∷ cpi ∷ marks ∷ 0 ∷ 0
+    s .letters ∷ s .version ∷ 220 ∷ programs ∷ cpi ∷ marks ∷ 0 ∷ 0
     ∷ 176 ∷ 0 ∷ s .streamType ∷ s .applicationType ∷ 0 ∷ s .rate ∷ s .packets ∷ 0
     ∷ s .validityFlags ∷ 0 ∷ s .formatId ∷ 0 ∷ []
 

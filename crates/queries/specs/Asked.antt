@@ -11,6 +11,7 @@ noTable = stated [] 0
 -- the packet count and the rate, and no other scalar
 abbrev pub onlyCounts : ℕ → ℕ → Scalars
 onlyCounts rate packets = record {
+  letters = 0;
   version = 0;
   streamType = 0;
   applicationType = 0;

@@ -208,32 +208,32 @@ module _ (f : List ℕ) (bytes : IsBytes f) (r : ClpiReading) (t : Nine (List �
   -- table 1
   atcs-behind : (a : List ℕ) (at : ℕ) → behindRows a at atcCells (t .atcs) (r .atcs) ≡ behind a at (tableBytes (rows .atcs))
   unfolding tablesAfter tablesOf recordOf statedOf
-  atcs-behind = rows-behind atcCells (r .atcs) (λ x. x .atcs) (rows .atcs) (all-map (λ row c. c .count) (shape .atcs)) (number-is 11) refl
+  atcs-behind = rows-behind atcCells (r .atcs) (λ x. x .atcs) (rows .atcs) (all-map (λ row c. c .count) (shape .atcs)) (number-is 12) refl
 
   -- table 2
   stcs-behind : (a : List ℕ) (at : ℕ) → behindRows a at stcCells (t .stcs) (r .stcs) ≡ behind a at (tableBytes (rows .stcs))
   unfolding tablesAfter tablesOf recordOf statedOf
-  stcs-behind = rows-behind stcCells (r .stcs) (λ x. x .stcs) (rows .stcs) (all-map (λ row c. c .count) (shape .stcs)) (number-is 12) refl
+  stcs-behind = rows-behind stcCells (r .stcs) (λ x. x .stcs) (rows .stcs) (all-map (λ row c. c .count) (shape .stcs)) (number-is 13) refl
 
   -- table 3
   programs-behind : (a : List ℕ) (at : ℕ) → behindRows a at programCells (t .programs) (r .programs) ≡ behind a at (tableBytes (rows .programs))
   unfolding tablesAfter tablesOf recordOf statedOf
-  programs-behind = rows-behind programCells (r .programs) (λ x. x .programs) (rows .programs) (all-map (λ row c. c .count) (shape .programs)) (number-is 13) refl
+  programs-behind = rows-behind programCells (r .programs) (λ x. x .programs) (rows .programs) (all-map (λ row c. c .count) (shape .programs)) (number-is 14) refl
 
   -- table 4
   streams-behind : (a : List ℕ) (at : ℕ) → behindRows a at streamCells (t .streams) (r .streams) ≡ behind a at (tableBytes (rows .streams))
   unfolding tablesAfter tablesOf recordOf statedOf
-  streams-behind = rows-behind streamCells (r .streams) (λ x. x .streams) (rows .streams) (all-map (λ row c. c .count) (shape .streams)) (number-is 14) refl
+  streams-behind = rows-behind streamCells (r .streams) (λ x. x .streams) (rows .streams) (all-map (λ row c. c .count) (shape .streams)) (number-is 15) refl
 
   -- table 5
   maps-behind : (a : List ℕ) (at : ℕ) → behindRows a at mapCells (t .maps) (r .maps) ≡ behind a at (tableBytes (rows .maps))
   unfolding tablesAfter tablesOf recordOf statedOf
-  maps-behind = rows-behind mapCells (r .maps) (λ x. x .maps) (rows .maps) (all-map (λ row c. c .count) (shape .maps)) (number-is 15) refl
+  maps-behind = rows-behind mapCells (r .maps) (λ x. x .maps) (rows .maps) (all-map (λ row c. c .count) (shape .maps)) (number-is 16) refl
 
   -- table 6
   entries-behind : (a : List ℕ) (at : ℕ) → behindRows a at entryCells (t .entries) (r .entries) ≡ behind a at (tableBytes (rows .entries))
   unfolding tablesAfter tablesOf recordOf statedOf
-  entries-behind = rows-behind entryCells (r .entries) (λ x. x .entries) (rows .entries) (all-map (λ row c. c .count) (shape .entries)) (number-is 16) refl
+  entries-behind = rows-behind entryCells (r .entries) (λ x. x .entries) (rows .entries) (all-map (λ row c. c .count) (shape .entries)) (number-is 17) refl
 
   -- the rows of tables 8 and 9 have their cells
   second-list : HaveCells programCells (rows .listPrograms) × HaveCells streamCells (rows .listStreams)
@@ -243,12 +243,12 @@ module _ (f : List ℕ) (bytes : IsBytes f) (r : ClpiReading) (t : Nine (List �
   -- table 8
   listPrograms-behind : (a : List ℕ) (at : ℕ) → behindRows a at programCells (t .listPrograms) (r .«list_programs») ≡ behind a at (tableBytes (rows .listPrograms))
   unfolding tablesAfter statedOf
-  listPrograms-behind = rows-behind programCells (r .«list_programs») (λ x. x .listPrograms) (rows .listPrograms) (second-list .0) (number-is 18) refl
+  listPrograms-behind = rows-behind programCells (r .«list_programs») (λ x. x .listPrograms) (rows .listPrograms) (second-list .0) (number-is 19) refl
 
   -- table 9
   listStreams-behind : (a : List ℕ) (at : ℕ) → behindRows a at streamCells (t .listStreams) (r .«list_streams») ≡ behind a at (tableBytes (rows .listStreams))
   unfolding tablesAfter statedOf
-  listStreams-behind = rows-behind streamCells (r .«list_streams») (λ x. x .listStreams) (rows .listStreams) (second-list .1) (number-is 19) refl
+  listStreams-behind = rows-behind streamCells (r .«list_streams») (λ x. x .listStreams) (rows .listStreams) (second-list .1) (number-is 20) refl
 
   -- the rows of table 7, each of a kept entry
   kept : All (KeptRow f) (rows .extensions)
@@ -263,7 +263,7 @@ module _ (f : List ℕ) (bytes : IsBytes f) (r : ClpiReading) (t : Nine (List �
   -- how many rows it is said to have
   extensions-count : r .extensions ≡ length (rows .extensions)
   unfolding statedOf
-  extensions-count = number-is 17
+  extensions-count = number-is 18
 
   -- so it holds its rows
   extensions-back : rowsOf extensionCells (stated (t .extensions) (r .extensions)) ≡ rows .extensions

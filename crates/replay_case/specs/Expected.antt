@@ -38,7 +38,7 @@ recordBytes r =
     ++ (tableBytes (r .listStreams)
     ++ flat extensionBytes (r .extensions))))))))
 
--- the number 1 alone where reading refuses; else the 21 numbers of its answer, a cell each, and the record
+-- the number 1 alone where reading refuses; else the 22 numbers of its answer, a cell each, and the record
 abbrev pub answerBytes : ReadAnswer → Record → List ℕ
 answerBytes (refused n) r = rowBytes (1 ∷ [])
 answerBytes (tooShort k n) r = rowBytes (1 ∷ [])

@@ -16,7 +16,7 @@ use replay_bytes::DIFFERENT;
 use replay_bytes::pass;
 use replay_bytes::pass_numbers;
 
-// The place behind the answer's 21 numbers.
+// The place behind the answer's 22 numbers.
 fn pass_reading(answer: &[u8], r: ClpiReading) -> usize
     ensures { λ p. ⌜ p ≡ behind (now (answer .entry)) 0 (rowBytes (readingNumbers r)) ⌝ }
 {
@@ -24,6 +24,7 @@ fn pass_reading(answer: &[u8], r: ClpiReading) -> usize
         r.refusal,
         r.table,
         r.rows_needed,
+        r.letters,
         r.version,
         r.clip_stream_type,
         r.application_type,

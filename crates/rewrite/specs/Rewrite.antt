@@ -12,7 +12,7 @@ use Rattle.encode_measure.specs.Places.{programsPlace, cpiPlace, marksPlace, Pl
 use Rattle.rewrite.specs.declared.measure.Planned.{Planned}
 use Rattle.rewrite.specs.declared.rewrite.NewLength.{NewLength}
 
--- the refusal of a file: that of reading into tables long enough, else 31; a file's record is never refused by 22 or 30
+-- the refusal of a file: that of reading into tables long enough, else 31; the record of an accepted file is never refused by 22, 40 or 30
 abbrev pub rewriteRefusal : List ℕ → ℕ
 rewriteRefusal f = pick (eqb (refusalOf f) 0) (unless (runsFit (clipOf f)) 31 0) (refusalOf f)
 

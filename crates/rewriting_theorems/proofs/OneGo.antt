@@ -35,14 +35,14 @@ module _ (f : List ℕ) (bytes : IsBytes f) (accepts : refusalOf f ≡ 0) (table
   handed : clipIn (handedOver f tables) ≡ recordOf f .clip
   handed = clip-held (handedOver f tables) (recordOf f .clip) cells (reading-holds f accepts tables room)
 
-  -- writing from what was handed over answers as rewriting in one go, since of the refusals of writing only 31 is left
+  -- writing from what was handed over answers as rewriting in one go, since of the refusals of writing only 31 is left of an accepted file
   by-tables : (out : List ℕ) → writeAnswer (handedOver f tables) out ≡ rewriteAnswer f out
   unfolding writeAnswer rewriteAnswer recordOf
   by-tables out =
       rw (
         all-stated (handedOver f tables) (recordOf f .clip) cells (reading-holds f accepts tables room),
         handed,
-        from-file f bytes .only-31,
+        from-file f bytes .only-31 accepts,
         accepts,
       )
 

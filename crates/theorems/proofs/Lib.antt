@@ -5,6 +5,7 @@ pub mod WritingExample
 pub mod BitFields
 pub mod ReadByRead
 pub mod Rewriting
+pub mod Letters
 pub mod Extensions
 pub mod Lookups
 pub mod Choices

@@ -4,8 +4,8 @@ use mathlib.Core.Path.{_≡_, refl, sym, ap, _∙_}
 use mathlib.Core.List.{List}
 use lib.ListN.{length}
 use borrow.Author.Tests.{le-leb}
-use Rattle.format.specs.Bytes.{IsBytes}
-use Rattle.format.specs.ClipRecord.{Clip, Record, programsStart}
+use Rattle.format.specs.Bytes.{IsBytes, unless}
+use Rattle.format.specs.ClipRecord.{Clip, Record, areLetters, lettersRight, scalarsOf, programsStart}
 use Rattle.format.specs.Reading.{clipOf, recordOf}
 use Rattle.format.specs.Programs.{loweredClip}
 use Rattle.format.specs.Tables.{Nine, ClipTables, HoldsClip, Room}
@@ -14,8 +14,8 @@ use Rattle.format.specs.Rewriting.{encode}
 use Rattle.format.specs.Refusals.{refusalOf, accepted, readAnswer, statedOf, tablesOf, tablesAfter, writeRefusal, written, writeAnswer, outputAfter}
 use Rattle.format.proofs.Lists.{All}
 use Rattle.theorems.specs.Rewriting.{Rewritable, rewritten, withoutExtensions, handedOver, Succeeds, RewritingKeeps, FromFile, Made}
-use Rattle.format.proofs.Good.{GoodClip}
-use Rattle.format.proofs.Read.{good-clip, narrow, lowered-streams}
+use Rattle.format.proofs.Good.{GoodClip, Writable}
+use Rattle.format.proofs.Read.{good-clip, narrow, right-letters, lowered-streams}
 use Rattle.format.proofs.Write.{encode-bytes, counts, cells, runs-fit, written as not-refused}
 use Rattle.format.proofs.Whole.{is-short, is-accepted, reads-back, record-back}
 use Rattle.format.proofs.Maker.{good-made}
@@ -33,7 +33,12 @@ low-of : (f : List ℕ) → IsBytes f → loweredClip (recordOf f .clip) ≡ rec
 unfolding recordOf loweredClip clipOf
 low-of f bytes = let e = lowered-streams f bytes (programsStart f) in rw e
 
--- the counts add up and the cells fit, which leaves 31 as the only refusal of writing
+-- its letters are those that reading tests
+letters-of : (f : List ℕ) → areLetters (recordOf f .clip .scalars .letters) ≡ lettersRight f
+unfolding recordOf clipOf scalarsOf lettersRight
+letters-of f = refl
+
+-- the counts add up and the cells fit, which leaves 40 and 31 of the refusals of writing, and 31 alone of an accepted file
 pub from-file : (f : List ℕ) → IsBytes f → FromFile f
 unfolding writeRefusal
 from-file f bytes =
@@ -41,7 +46,13 @@ from-file f bytes =
     let g = good-of f bytes in
     let a = counts 262143 c g in
     let b = cells 262143 c g in
-    record { adds-up = a; fits = b; lowered = low-of f bytes; only-31 = rw (a, b) }
+    record {
+      adds-up = a;
+      fits = b;
+      lowered = low-of f bytes;
+      only-40-and-31 = rw (a, letters-of f, b);
+      only-31 = λ accepts. rw (a, letters-of f, right-letters f accepts, b);
+    }
 
 -- ---- a record made by hand
 
@@ -49,8 +60,8 @@ from-file f bytes =
 pub made : (c : Clip) → writeRefusal c ≡ 0 → Made c
 unfolding recordOf
 made c h =
-    let g = good-made c h in
-    record { bytes = encode-bytes c; short = is-short c g; accepted = is-accepted c g; reads = reads-back c g }
+    let w = good-made c h in
+    record { bytes = encode-bytes c; short = is-short c w; accepted = is-accepted c w; reads = reads-back c w }
 
 -- ---- an accepted file read into tables with room
 
@@ -78,13 +89,17 @@ module _ (f : List ℕ) (accepts : refusalOf f ≡ 0) (tables : Nine (List ℕ))
 -- ---- the six parts
 
 module _ (f : List ℕ) (h : Rewritable f) where
-  -- no map has more than 65,535 runs, so the record can be written
+  -- no map has more than 65,535 runs
   good : GoodClip 65535 (recordOf f .clip)
   good = narrow (recordOf f .clip) (good-of f (h .bytes)) (h .runs)
 
+  -- and the letters are right, so the record can be written
+  writable : Writable (recordOf f .clip)
+  writable = record { letters = letters-of f ∙ right-letters f (h .accepted); good = good }
+
   -- 3. the new file reads to the old record with its languages lowered, which they were
   same-record : recordOf (rewritten f) ≡ withoutExtensions (recordOf f)
-  same-record = record-back (recordOf f .clip) good ∙ rw (low-of f (h .bytes))
+  same-record = record-back (recordOf f .clip) writable ∙ rw (low-of f (h .bytes))
 
   -- so the scalars and the rows are the same
   same-clip : recordOf (rewritten f) .clip ≡ recordOf f .clip
@@ -109,7 +124,7 @@ module _ (f : List ℕ) (h : Rewritable f) where
           rw (
             all-stated (handedOver f tables) (recordOf f .clip) s holds,
             clip-held (handedOver f tables) (recordOf f .clip) s holds,
-            not-refused (recordOf f .clip) good,
+            not-refused (recordOf f .clip) writable,
             le-leb (length (rewritten f)) (length out) long,
           )
 
@@ -138,15 +153,15 @@ file-shaped f h = shaped 65535 (recordOf f .clip) (good f h)
 pub rewriting-keeps : (f : List ℕ) → Rewritable f → RewritingKeeps f
 rewriting-keeps f h =
     let c = recordOf f .clip in
-    let g = good f h in
+    let w = writable f h in
     record {
       succeeds = λ tables out room long. succeed f h tables room out long;
-      short = is-short c g;
-      new = is-accepted c g;
+      short = is-short c w;
+      new = is-accepted c w;
       same = same-record f h;
       alike = alike f h;
       equal-bytes = λ f₂ h₂ e. sym (same-clip f h) ∙ ap (λ (b : List ℕ). recordOf b .clip) e ∙ same-clip f₂ h₂;
       equal-records = λ f₂ h₂ e. ap encode e;
-      again = record { bytes = encode-bytes c; accepted = is-accepted c g; runs = rw (same-clip f h) (runs-fit c g) };
+      again = record { bytes = encode-bytes c; accepted = is-accepted c w; runs = rw (same-clip f h) (runs-fit c (w .good)) };
       stable = ap encode (same-clip f h);
     }

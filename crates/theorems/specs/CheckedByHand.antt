@@ -5,7 +5,7 @@ use mathlib.Core.List.{List, [], _∷_}
 use lib.ListN.{length}
 use Rattle.format.specs.Bytes.{fieldsAt, total}
 use Rattle.format.specs.Ticks.{Ticks90}
-use Rattle.format.specs.ClipRecord.{Row, Scalars, Clip, entryCount, entryRow, time}
+use Rattle.format.specs.ClipRecord.{clpi as clpiLetters, Row, Scalars, Clip, entryCount, entryRow, time}
 use Rattle.format.specs.EntryPoints.{joinTime, joinPacket}
 use Rattle.format.specs.Questions.{Question, entryPointAtOrBefore, spnToByte, byteToSpn, Answer, none, number, ownRows, answer}
 use Rattle.format.specs.Rewriting.{encode}
@@ -93,15 +93,15 @@ pub record BeforeAll : Type 0 where
   pub entries : ownRows entryCount (clip .maps) (clip .entries) map ≡ first ∷ others
   pub later : All (λ e. at .ticks < time e) (first ∷ others)
 
--- a record with no rows, and all its scalars 0
-abbrev pub noScalars : Scalars
-noScalars =
-    record { version = 0; streamType = 0; applicationType = 0; rate = 0; packets = 0; validityFlags = 0; formatId = 0 }
+-- the letters CLPI, and all other scalars 0
+abbrev pub onlyLetters : Scalars
+onlyLetters =
+    record { letters = clpiLetters; version = 0; streamType = 0; applicationType = 0; rate = 0; packets = 0; validityFlags = 0; formatId = 0 }
 
 -- these scalars and no rows, as M10 has it
 unfoldable pub emptyClip : Clip
 emptyClip =
-    record { scalars = noScalars; atcs = []; stcs = []; programs = []; streams = []; maps = []; entries = [] }
+    record { scalars = onlyLetters; atcs = []; stcs = []; programs = []; streams = []; maps = []; entries = [] }
 
 -- n entries of type 1, each in a run of its own: the times' coarse part changes from each to the next
 unfoldable pub alternating : ℕ → List Row
@@ -111,7 +111,7 @@ alternating (suc n) = entryRow 0 0 (n % 2 * 524288) 0 1 ∷ alternating n
 -- a record with one map, of n runs
 unfoldable pub oneMap : ℕ → Clip
 oneMap n =
-    record { scalars = noScalars; atcs = []; stcs = []; programs = []; streams = []; maps = (1 ∷ 1 ∷ n ∷ []) ∷ []; entries = alternating n }
+    record { scalars = onlyLetters; atcs = []; stcs = []; programs = []; streams = []; maps = (1 ∷ 1 ∷ n ∷ []) ∷ []; entries = alternating n }
 
 -- ---- the table
 

@@ -3,7 +3,7 @@ use Prim.Native.Nat.{ℕ}
 use mathlib.Core.Path.{_≡_}
 use mathlib.Core.List.{List, [], _∷_, _++_}
 use lib.ListN.{length, replicate}
-use Rattle.format.specs.ClipRecord.{Clip, entryRow}
+use Rattle.format.specs.ClipRecord.{Clip, clpi, entryRow}
 use Rattle.format.specs.Reading.{recordOf}
 use Rattle.format.specs.Rewriting.{encode}
 use Rattle.format.specs.Listing.{recordLines}
@@ -12,7 +12,7 @@ use Rattle.format.specs.Refusals.{refusalOf, writeRefusal}
 -- the record: PID 4113, type 1, one entry with time 524,288 and packet 131,079
 unfoldable pub listedClip : Clip
 listedClip = record {
-  scalars = record { version = 0; streamType = 1; applicationType = 1; rate = 6000000; packets = 1000; validityFlags = 0; formatId = 0 };
+  scalars = record { letters = clpi; version = 0; streamType = 1; applicationType = 1; rate = 6000000; packets = 1000; validityFlags = 0; formatId = 0 };
   atcs = [];
   stcs = [];
   programs = [];

@@ -5,7 +5,7 @@ use mathlib.Core.List.{List, [], _++_}
 use mathlib.Core.Bool.{true, false}
 use lib.ListN.{length, drop}
 use Rattle.format.specs.Bytes.{IsBytes, unless}
-use Rattle.format.specs.ClipRecord.{Clip, Record}
+use Rattle.format.specs.ClipRecord.{Clip, Record, lettersRight}
 use Rattle.format.specs.Programs.{loweredClip}
 use Rattle.format.specs.Reading.{recordOf}
 use Rattle.format.specs.Tables.{Nine, stated, ClipTables, HoldsClip, Room}
@@ -79,14 +79,16 @@ pub record RewritingKeeps (f : List ℕ) : Type 0 where
   pub again : Rewritable (rewritten f)
   pub stable : rewritten (rewritten f) ≡ rewritten f
 
--- ---- what a file's record can look like, so that 1 has a reason: neither 22 nor 30 can hold of it
+-- ---- what a file's record can look like, so that 1 has a reason: neither 22 nor 40 nor 30 can hold of it
 
--- of any bytes, accepted or not: the counts add up, every cell fits, languages are lowered; only 31 can refuse it
+-- of any bytes, accepted or not: the counts add up, every cell fits, languages are lowered; beside 40, which the letters decide, only 31 can refuse it
 pub record FromFile (f : List ℕ) : Type 0 where
   pub adds-up : countsAdd (recordOf f .clip) ≡ true
   pub fits : cellsFit (recordOf f .clip) ≡ true
   pub lowered : loweredClip (recordOf f .clip) ≡ recordOf f .clip
-  pub only-31 : writeRefusal (recordOf f .clip) ≡ unless (runsFit (recordOf f .clip)) 31 0
+  pub only-40-and-31 : writeRefusal (recordOf f .clip) ≡ unless (lettersRight f) 40 (unless (runsFit (recordOf f .clip)) 31 0)
+  -- an accepted file has right letters, so that only 31 is left
+  pub only-31 : refusalOf f ≡ 0 → writeRefusal (recordOf f .clip) ≡ unless (runsFit (recordOf f .clip)) 31 0
 
 -- ---- a record made by hand that writing does not refuse: what is written is accepted and reads to it, its languages lowered
 

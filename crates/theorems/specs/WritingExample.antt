@@ -3,16 +3,16 @@ use Prim.Native.Nat.{ℕ}
 use mathlib.Core.Path.{_≡_}
 use mathlib.Core.List.{List, [], _∷_, _++_}
 use lib.ListN.{length, replicate}
-use Rattle.format.specs.ClipRecord.{Clip}
+use Rattle.format.specs.ClipRecord.{Clip, hdmv}
 use Rattle.format.specs.Reading.{recordOf}
 use Rattle.format.specs.Rewriting.{encode}
 use Rattle.format.specs.Listing.{recordLines}
 use Rattle.format.specs.Refusals.{refusalOf, writeRefusal}
 
--- video with an aspect, audio with the language eng, and a stream without either; version 0200
+-- video with an aspect, audio with the language eng, and a stream without either; letters HDMV, version 0200
 unfoldable pub smallClip : Clip
 smallClip = record {
-  scalars = record { version = 0x30323030; streamType = 1; applicationType = 6; rate = 6000000; packets = 1000; validityFlags = 0x80; formatId = 0x48444D56 };
+  scalars = record { letters = hdmv; version = 0x30323030; streamType = 1; applicationType = 6; rate = 6000000; packets = 1000; validityFlags = 0x80; formatId = 0x48444D56 };
   atcs = (7 ∷ 2 ∷ 1 ∷ []) ∷ [];
   stcs = (4097 ∷ 9 ∷ 65536 ∷ 131072 ∷ []) ∷ (4097 ∷ 500 ∷ 131072 ∷ 65536 ∷ []) ∷ [];
   programs = (0 ∷ 256 ∷ 3 ∷ []) ∷ [];
@@ -24,7 +24,7 @@ smallClip = record {
 -- its file
 unfoldable pub smallFile : List ℕ
 smallFile =
-    (0x43 ∷ 0x4C ∷ 0x50 ∷ 0x49 ∷ 0x30 ∷ 0x32 ∷ 0x30 ∷ 0x30 ∷ [])
+    (0x48 ∷ 0x44 ∷ 0x4D ∷ 0x56 ∷ 0x30 ∷ 0x32 ∷ 0x30 ∷ 0x30 ∷ [])
     ++ (0 ∷ 0 ∷ 0 ∷ 220 ∷ 0 ∷ 0 ∷ 1 ∷ 4 ∷ 0 ∷ 0 ∷ 1 ∷ 37 ∷ 0 ∷ 0 ∷ 1 ∷ 41 ∷ 0 ∷ 0 ∷ 0 ∷ 0 ∷ [])
     ++ replicate 12 0
     ++ (0 ∷ 0 ∷ 0 ∷ 176 ∷ 0 ∷ 0 ∷ 1 ∷ 6 ∷ 0 ∷ 0 ∷ 0 ∷ 0 ∷ 0x00 ∷ 0x5B ∷ 0x8D ∷ 0x80 ∷ 0 ∷ 0 ∷ 0x03 ∷ 0xE8 ∷ [])

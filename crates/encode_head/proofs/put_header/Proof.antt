@@ -1,7 +1,6 @@
 -- The fields one behind the other.
 use mathlib.Core.Path.{refl}
 use denote.Ref.{now}
-use Rattle.format.specs.ClipRecord.{clpi}
 use Rattle.format.proofs.Stores.{field-then, field-last}
 use borrow.Author.Needs.{needs}
 use Rattle.encode_head.proofs.put_header.Statement.{statement}
@@ -37,7 +36,7 @@ same-length c = search needs
 returns : tie.Need-returns
 returns c =
     let a = c .before .before .before .before .before .before .before .before .before .before .before .before .before .before .before .before .before .before .before .before .before .before .before .before .before .before .before .before .before .before .before .before .before .args in
-    field-then (now (a .out)) 0 4 clpi _ refl (c .before .before .before .before .before .before .before .before .before .before .before .before .before .before .before .before .before .before .before .before .before .before .before .before .before .before .before .before .before .before .put-u32 .ensures)
+    field-then (now (a .out)) 0 4 (a .letters) _ refl (c .before .before .before .before .before .before .before .before .before .before .before .before .before .before .before .before .before .before .before .before .before .before .before .before .before .before .before .before .before .before .put-u32 .ensures)
     (field-then _ 4 4 (a .version) _ refl (c .before .before .before .before .before .before .before .before .before .before .before .before .before .before .before .before .before .before .before .before .before .before .before .before .before .before .put-u322 .ensures)
     (field-then _ 8 4 220 _ refl (c .before .before .before .before .before .before .before .before .before .before .before .before .before .before .before .before .before .before .before .before .before .before .put-u323 .ensures)
     (field-then _ 12 4 (a .programs) _ refl (c .before .before .before .before .before .before .before .before .before .before .before .before .before .before .before .before .before .before .put-u324 .ensures)

@@ -4,7 +4,7 @@ use mathlib.Core.Path.{_≡_, refl, sym, _∙_}
 use native.Mathlib.Omega.{arith}
 use denote.Ref.{now}
 use lib.ListN.{length}
-use Rattle.format.specs.ClipRecord.{Clip}
+use Rattle.format.specs.ClipRecord.{Clip, areLetters}
 use Rattle.format.specs.Tables.{ClipTables, clipIn}
 use Rattle.format.specs.Refusals.{cellsFit, runsFit}
 use Rattle.format.specs.Rewriting.{cpiBytes}
@@ -13,7 +13,7 @@ use Rattle.limits.specs.Stated.{statedTables}
 use Rattle.encode_measure.specs.Places.{refusalIn, pairsCounted}
 use Rattle.encode_measure.proofs.Tests.{refused-by, places-by}
 use Rattle.encode_measure.proofs.Parts.{place-programs, place-cpi, place-marks}
-use Rattle.encode_measure.proofs.Tables.{refused-22, counted-by, fieldsOf, fields-refused, fields-by, fields-there, lengthIn, entries-refused, entries-fit, runs-refused, runs-few, sequences-counted, programs-counted, sequences-long, programs-long, cpi-there, cpi-counted, none-refused, marks-bound}
+use Rattle.encode_measure.proofs.Tables.{refused-22, counted-by, refused-40, letters-by, fieldsOf, fields-refused, fields-by, fields-there, lengthIn, entries-refused, entries-fit, runs-refused, runs-few, sequences-counted, programs-counted, sequences-long, programs-long, cpi-there, cpi-counted, none-refused, marks-bound}
 use borrow.Author.Needs.{needs}
 use Rattle.encode_measure.proofs.measure.Statement.{statement}
 use Rattle.encode_measure.proofs.measure.Tie as tie
@@ -25,7 +25,10 @@ start-of e = search
 abbrev counted-of : tie.Else2 → tie.Else1
 counted-of e = search
 
-abbrev fields-of : tie.After-length → tie.Else2
+abbrev lettered-of : tie.Else3 → tie.Else2
+lettered-of e = search
+
+abbrev fields-of : tie.After-length → tie.Else3
 fields-of t = search
 
 abbrev told-of : tie.After-length2 → tie.After-length
@@ -43,17 +46,27 @@ counted e =
     let a : tie.After-counts-add = search in
     counted-by (tables (start-of e)) (a .counts-add .ensures) (e .if1 .left)
 
+-- the letters are right
+lettered : (e : tie.Else2) → areLetters (tables (start-of (counted-of e)) .scalars .letters) ≡ true
+lettered e =
+    let k : tie.After-is-clip = search in
+    letters-by (tables (start-of (counted-of e))) (k .is-clip .ensures) (e .if2 .left)
+
 -- every cell but those of the entries fits
-fields : (e : tie.Else2) → fieldsOf (tables (start-of (counted-of e))) ≡ true
+fields : (e : tie.Else3) → fieldsOf (tables (start-of (counted-of (lettered-of e)))) ≡ true
 fields e =
     let f : tie.After-fields-fit = search in
-    fields-by (tables (start-of (counted-of e))) (f .fields-fit .ensures) (e .if2 .left)
+    fields-by (tables (start-of (counted-of (lettered-of e)))) (f .fields-fit .ensures) (e .if3 .left)
 
 -- the entries fit
 module _ (t : tie.After-length) where
+  -- where the letters are right
+  abbrev named : tie.Else2
+  named = lettered-of (fields-of t)
+
   -- where the counts add up
   abbrev added : tie.Else1
-  added = counted-of (fields-of t)
+  added = counted-of named
 
   -- the tables
   abbrev handed : ClipTables
@@ -81,7 +94,7 @@ module _ (b : tie.After-length2) where
 
   -- nothing is refused
   none : refusalIn writable ≡ 0
-  none = none-refused writable (record { counted = counted (added (told-of b)); fit = fit (told-of b) .0; runs-fit = few .0 })
+  none = none-refused writable (record { counted = counted (added (told-of b)); letters = lettered (named (told-of b)); fit = fit (told-of b) .0; runs-fit = few .0 })
 
 returns : tie.Need-returns
 returns c =
@@ -89,35 +102,42 @@ returns c =
     let a : tie.After-counts-add = search in
     refused-by (refusalIn (tables s)) (clipIn (tables s)) 22 refl (refused-22 (tables s) (a .counts-add .ensures) (c .if1 .taken))
 
-fields-fit-requires : tie.Need-fields-fit-requires
-fields-fit-requires c κs = let e : tie.Else1 = search in fields-there (tables (start-of e)) (counted e)
-
 returns-2 : tie.Need-returns-2
 returns-2 c =
     let e : tie.Else1 = search in
-    let f : tie.After-fields-fit = search in
+    let k : tie.After-is-clip = search in
     let l = tables (start-of e) in
-    refused-by (refusalIn l) (clipIn l) 30 refl (fields-refused l (counted e) (f .fields-fit .ensures) (c .if2 .taken))
+    refused-by (refusalIn l) (clipIn l) 40 refl (refused-40 l (counted e) (k .is-clip .ensures) (c .if2 .taken))
 
-cpi-length-requires : tie.Need-cpi-length-requires
-cpi-length-requires c κs =
-    let f : tie.Else2 = search in
-    let e = counted-of f in
-    let l = tables (start-of e) in
-    (cpi-there l (counted e), cpi-counted l (counted e) (fields f))
+fields-fit-requires : tie.Need-fields-fit-requires
+fields-fit-requires c κs = let e : tie.Else1 = search in fields-there (tables (start-of e)) (counted e)
 
 returns-3 : tie.Need-returns-3
 returns-3 c =
-    let e : tie.Else1 = search in
-    let p : tie.After-cpi-length = search in
+    let e : tie.Else2 = search in
+    let f : tie.After-fields-fit = search in
+    let l = tables (start-of (counted-of e)) in
+    refused-by (refusalIn l) (clipIn l) 30 refl (fields-refused l (counted (counted-of e)) (lettered e) (f .fields-fit .ensures) (c .if3 .taken))
+
+cpi-length-requires : tie.Need-cpi-length-requires
+cpi-length-requires c κs =
+    let f : tie.Else3 = search in
+    let e = counted-of (lettered-of f) in
     let l = tables (start-of e) in
-    refused-by (refusalIn l) (clipIn l) 30 refl (entries-refused l (counted e) (sym (p .cpi-length .ensures) ∙ c .enum-told .given .1))
+    (cpi-there l (counted e), cpi-counted l (counted e) (fields f))
 
 returns-4 : tie.Need-returns-4
 returns-4 c =
+    let e : tie.Else2 = search in
+    let p : tie.After-cpi-length = search in
+    let l = tables (start-of (counted-of e)) in
+    refused-by (refusalIn l) (clipIn l) 30 refl (entries-refused l (counted (counted-of e)) (lettered e) (sym (p .cpi-length .ensures) ∙ c .enum-told .given .1))
+
+returns-5 : tie.Need-returns-5
+returns-5 c =
     let t : tie.After-length = search in
     let l = handed t in
-    refused-by (refusalIn l) (clipIn l) 31 refl (runs-refused l (counted (added t)) (fit t .0) (sym (fit t .1) ∙ c .enum-told2 .given .1))
+    refused-by (refusalIn l) (clipIn l) 31 refl (runs-refused l (counted (added t)) (lettered (named t)) (fit t .0) (sym (fit t .1) ∙ c .enum-told2 .given .1))
 
 section-length-requires : tie.Need-section-length-requires
 section-length-requires c κs = let b : tie.After-length2 = search in sequences-counted (writable b) (counted (added (told-of b)))
@@ -145,8 +165,8 @@ add-marks-at c =
     let p : tie.After-section-length2 = search in
     record { fits = omega (arith, marks-bound (writable b) (none b), few b .1, sequences-long (writable b) (q .section-length .ensures), programs-long (writable b) (p .section-length2 .ensures), place-programs (clip b), place-cpi (clip b), place-marks (clip b)) }
 
-returns-5 : tie.Need-returns-5
-returns-5 c =
+returns-6 : tie.Need-returns-6
+returns-6 c =
     let b : tie.After-length2 = search in
     let q : tie.After-section-length = search in
     let p : tie.After-section-length2 = search in
@@ -162,18 +182,20 @@ measure-spec =
     (tie.spec
     (λ c κs. search needs)
     returns
-    fields-fit-requires
+    (λ c κs. search needs)
     returns-2
+    fields-fit-requires
+    returns-3
     cpi-length-requires
     (λ c. search needs)
     (λ c. search needs)
-    returns-3
-    (λ c. search needs)
-    (λ c. search needs)
     returns-4
+    (λ c. search needs)
+    (λ c. search needs)
+    returns-5
     section-length-requires
     add-programs-at
     section-length-requires-2
     add-cpi-at
     add-marks-at
-    returns-5)
+    returns-6)

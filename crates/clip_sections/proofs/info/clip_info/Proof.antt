@@ -15,7 +15,7 @@ returns c =
     let packets : tie.After-u32-at2 = search in
     let flags : tie.After-u8-at3 = search in
     let format : tie.After-u32-at3 = search in
-    info-read (now (s .args .file)) (header .read .ensures .version) (stream-type .u8-at .ensures .same) (application-type .u8-at2 .ensures .same) (rate .u32-at .ensures .same)
+    info-read (now (s .args .file)) (header .read .ensures .letters) (header .read .ensures .version) (stream-type .u8-at .ensures .same) (application-type .u8-at2 .ensures .same) (rate .u32-at .ensures .same)
     (packets .u32-at2 .ensures .same) (flags .u8-at3 .ensures .same) (format .u32-at3 .ensures .same)
 
 pub clip-info-spec : {M : Type 1} → statement M
