@@ -1,5 +1,5 @@
 /* What the examples and the tool share: a file loaded whole, read into tables that grow to what they need, and compared
- * with another by its record. */
+ * with its copy by the two records. */
 #ifndef CLIP_FILE_H
 #define CLIP_FILE_H
 
@@ -108,15 +108,22 @@ static inline int same_rows(const void *a, uint32_t a_rows, const void *b, uint3
     return a_rows == b_rows && (a_rows == 0 || memcmp(a, b, a_rows * row_bytes) == 0);
 }
 
+/* Tells whether two readings have equal scalars, the letters among them. */
+static inline int same_scalars(const struct clpi_reading *a, const struct clpi_reading *b)
+{
+    return a->letters == b->letters && a->version == b->version && a->clip_stream_type == b->clip_stream_type &&
+           a->application_type == b->application_type && a->ts_recording_rate == b->ts_recording_rate &&
+           a->number_of_source_packets == b->number_of_source_packets && a->validity_flags == b->validity_flags &&
+           a->format_id == b->format_id;
+}
+
 /* Tells whether two readings were accepted and have the same record apart from the mark count and the extensions:
  * equal scalars, and equal rows of tables 1 to 6. */
 static inline int same_record(
     const struct clpi_reading *a, const struct clpi_tables *s, const struct clpi_reading *b, const struct clpi_tables *t)
 {
-    return !a->refusal && !b->refusal && a->version == b->version && a->clip_stream_type == b->clip_stream_type &&
-           a->application_type == b->application_type && a->ts_recording_rate == b->ts_recording_rate &&
-           a->number_of_source_packets == b->number_of_source_packets && a->validity_flags == b->validity_flags &&
-           a->format_id == b->format_id && same_rows(s->atcs, a->atcs, t->atcs, b->atcs, sizeof *s->atcs) &&
+    return !a->refusal && !b->refusal && same_scalars(a, b) &&
+           same_rows(s->atcs, a->atcs, t->atcs, b->atcs, sizeof *s->atcs) &&
            same_rows(s->stcs, a->stcs, t->stcs, b->stcs, sizeof *s->stcs) &&
            same_rows(s->programs, a->programs, t->programs, b->programs, sizeof *s->programs) &&
            same_rows(s->streams, a->streams, t->streams, b->streams, sizeof *s->streams) &&
@@ -124,15 +131,17 @@ static inline int same_record(
            same_rows(s->entries, a->entries, t->entries, b->entries, sizeof *s->entries);
 }
 
-/* Reads two clips and tells whether they have the same record; what the two readings answered is handed back. */
-static inline int same_clip(
-    const uint8_t *a, size_t a_bytes, const uint8_t *b, size_t b_bytes, struct clpi_reading *p, struct clpi_reading *q)
+/* Reads a file and its copy, and tells whether the copy is what rewriting makes: the file's record, but with no marks
+ * and no extensions, so that what is lost is what the file has of them. What the two readings answered is handed back. */
+static inline int is_copy(
+    const uint8_t *file, size_t file_bytes, const uint8_t *copy, size_t copy_bytes,
+    struct clpi_reading *of_file, struct clpi_reading *of_copy)
 {
     struct clpi_tables s = {0}, t = {0};
     int same;
-    *p = read_clip(a, a_bytes, &s);
-    *q = read_clip(b, b_bytes, &t);
-    same = same_record(p, &s, q, &t);
+    *of_file = read_clip(file, file_bytes, &s);
+    *of_copy = read_clip(copy, copy_bytes, &t);
+    same = same_record(of_file, &s, of_copy, &t) && !of_copy->marks && !of_copy->extensions;
     free_tables(&s);
     free_tables(&t);
     return same;

@@ -37,7 +37,8 @@ int main(void)
     }
     memset(&t, 0, sizeof t);
     memset(&r, 0, sizeof r);
-    r.version = 0x30323030; /* 0200 */
+    r.letters = CLPI_LETTERS_HDMV; /* must be set: 0 is refused by 40 */
+    r.version = 0x30323030;        /* 0200 */
     r.clip_stream_type = 1;
     r.application_type = 1;
     r.ts_recording_rate = 6000000;

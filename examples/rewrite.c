@@ -1,5 +1,5 @@
 /* Rewrites a clip file safely: the new file is written beside its place, read back, compared by its record with the old
- * one, and only then given its name.
+ * one, and only then given its name. It has the old one's letters, but neither its marks nor its extensions.
  *
  *     cc -I include examples/rewrite.c target/staticlib/libclpi.a -o rewrite && ./rewrite samples/one_map.clpi new.clpi */
 #define _POSIX_C_SOURCE 200809L
@@ -21,7 +21,7 @@ static int put_new(const char *path, const uint8_t *old, size_t old_bytes, const
     int done = 0;
     if (!start_file(&f, path) || !write_file(&f, output, output_bytes) || !(copy = load(f.draft, &copy_bytes)))
         perror(path);
-    else if (!same_clip(old, old_bytes, copy, copy_bytes, &of_old, &of_copy))
+    else if (!is_copy(old, old_bytes, copy, copy_bytes, &of_old, &of_copy))
         fprintf(stderr, "%s: the copy does not read as the old file does (refused: old %" PRIu32 ", copy %" PRIu32 ")\n",
                 path, of_old.refusal, of_copy.refusal);
     else if (!(done = place_file(&f)))

@@ -1,5 +1,6 @@
 /* Writes a clip's record from its tables to standard output: reads the file, asks how long the new one is, writes it.
- * Who changes the record does so in between, in the tables and the numbers of the reading.
+ * Who changes the record does so in between, in the tables and the numbers of the reading: sets `letters`, say, to
+ * CLPI_LETTERS_HDMV, where a file that begins with CLPI is for players that want HDMV.
  *
  *     cc -I include examples/write.c target/staticlib/libclpi.a -o write && ./write samples/one_map.clpi >new.clpi */
 #include <inttypes.h>

@@ -202,8 +202,8 @@ struct clpi_extension {
 
 /* ---- reading */
 
-/* The letters with which a clip file begins, four bytes as one number, the first one highest. Discs have HDMV; both are
- * read, and kept in writing. */
+/* The letters with which a clip file begins, four bytes as one number, the first one highest. Discs have HDMV, and there
+ * are players that want it; both are read, and kept in writing. */
 #define CLPI_LETTERS_HDMV 0x48444D56u
 #define CLPI_LETTERS_CLPI 0x434C5049u
 
@@ -306,7 +306,7 @@ static inline struct clpi_reading clpi_read_tables(const uint8_t *file, size_t f
 /* The scalars of a record, as a reading has them. The stream type, the application type and the validity flags have a
  * byte each in the file: CLPI_REFUSED_CELLS where one is over 255. */
 struct clpi_clip_info {
-    uint32_t letters; /* CLPI_LETTERS_HDMV or CLPI_LETTERS_CLPI; any other number, 0 too, is CLPI_REFUSED_RECORD_LETTERS */
+    uint32_t letters; /* CLPI_LETTERS_HDMV or CLPI_LETTERS_CLPI; else, also where it is 0, CLPI_REFUSED_RECORD_LETTERS */
     uint32_t version; /* four bytes, the first one highest: 0x30323030 is 0200 */
     uint32_t clip_stream_type;
     uint32_t application_type;
@@ -337,8 +337,8 @@ struct clpi_writing clpi_write(
     uint8_t *output, size_t output_bytes);
 
 /* The same call on the record that a reading has put into the tables, or on one made by hand: then `r` is all zeros but
- * for the scalars and the rows of tables 1 to 6. A reading that was refused has put nothing there: its refusal is
- * handed on, and nothing is written. */
+ * for the scalars, of which the letters must be set, and the rows of tables 1 to 6. A reading that was refused has put
+ * nothing there: its refusal is handed on, and nothing is written. */
 static inline struct clpi_writing clpi_write_tables(
     const struct clpi_reading *r, const struct clpi_tables *t, uint8_t *output, size_t output_bytes)
 {
@@ -368,9 +368,9 @@ static inline struct clpi_writing clpi_write_tables(
 }
 
 /* Rewrites a file, straight from its bytes: reads it and writes its record, with no tables lent. It tests what reading
- * tests (20, then 1 to 8; never 21), then CLPI_REFUSED_RUNS, then CLPI_REFUSED_OUTPUT_SHORT. The new file reads to the
- * same record apart from the mark count and the extensions, every question on it has the same answer, and rewriting it
- * again changes no byte. */
+ * tests (20, then 1 to 8; never 21), then CLPI_REFUSED_RUNS, then CLPI_REFUSED_OUTPUT_SHORT. The new file begins with
+ * the old one's letters and reads to the same record apart from the mark count and the extensions, every question on it
+ * has the same answer, and rewriting it again changes no byte. */
 struct clpi_writing clpi_rewrite(const uint8_t *file, size_t file_bytes, uint8_t *output, size_t output_bytes);
 
 /* How long the new file is, at most CLPI_MOST_REWRITTEN_BYTES; it may be longer than the old one. `bytes` is 0 where

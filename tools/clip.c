@@ -100,22 +100,26 @@ static int rewritten(const struct image *old, struct image *new)
     return DONE;
 }
 
-/* Tells whether the copy has the old file's record, and what the copy reads to; where one is refused, says which. */
-static int is_same(const struct image *old, const struct image *copy, struct clpi_reading *of_copy)
+/* What OLD and its copy read to. */
+struct readings {
+    struct clpi_reading old, copy;
+};
+
+/* Tells whether the copy has the old file's record, and what the two read to; where one is refused, says which. */
+static int is_same(const struct image *old, const struct image *copy, struct readings *r)
 {
-    struct clpi_reading of_old;
-    int same = same_clip(old->bytes, old->count, copy->bytes, copy->count, &of_old, of_copy);
-    if (of_old.refusal)
-        refused(old->path, of_old.refusal);
-    if (of_copy->refusal)
-        refused(copy->path, of_copy->refusal);
-    if (!same && !of_old.refusal && !of_copy->refusal)
+    int same = is_copy(old->bytes, old->count, copy->bytes, copy->count, &r->old, &r->copy);
+    if (r->old.refusal)
+        refused(old->path, r->old.refusal);
+    if (r->copy.refusal)
+        refused(copy->path, r->copy.refusal);
+    if (!same && !r->old.refusal && !r->copy.refusal)
         fprintf(stderr, "clip: %s: the copy's record is not the old file's\n", copy->path);
     return same;
 }
 
 /* Reads the draft back: its bytes must be those written, and its record the old file's. */
-static int checked(const char *draft, const struct image *old, const struct image *new, struct clpi_reading *r)
+static int checked(const char *draft, const struct image *old, const struct image *new, struct readings *r)
 {
     struct image copy = {new->path, NULL, 0};
     int status = FAILED;
@@ -144,8 +148,8 @@ static int placed(struct new_file *f)
     return status;
 }
 
-/* Writes the new file beside its place, checks it, and gives it its name; hands back what it reads to. */
-static int put_new(const struct image *old, const struct image *new, struct clpi_reading *r)
+/* Writes the new file beside its place, checks it, and gives it its name; hands back what it and OLD read to. */
+static int put_new(const struct image *old, const struct image *new, struct readings *r)
 {
     struct new_file f;
     int status, started;
@@ -165,12 +169,25 @@ static int put_new(const struct image *old, const struct image *new, struct clpi
     return status;
 }
 
-/* Says what was done, with the numbers by which a file that lost its index shows. NEW is there, so that failing to
- * print it is told but changes no status. */
-static void say_done(const struct image *old, const struct image *new, const struct clpi_reading *r)
+/* Says what the old file has and its copy has not, which has no marks and no extensions. */
+static void say_lost(const struct clpi_reading *old)
 {
-    printf("%s: %zu bytes, maps %" PRIu32 ", entries %" PRIu32 ", read back; the record is that of %s\n",
-        new->path, new->count, r->maps, r->entries, old->path);
+    int marks = old->marks > 0, extensions = old->extensions > 0;
+    fputs(marks || extensions ? "the same but for: " : "the same record", stdout);
+    if (marks)
+        printf("marks %" PRIu32 "%s", old->marks, extensions ? ", " : "");
+    if (extensions)
+        printf("extensions %" PRIu32 "%s", old->extensions, old->has_list ? " with the second program list" : "");
+    putchar('\n');
+}
+
+/* Says what was done, with the numbers by which a file that lost its index shows, and what is lost. NEW is there, so
+ * that failing to print it is told but changes no status. */
+static void say_done(const struct image *old, const struct image *new, const struct readings *r)
+{
+    printf("%s: %zu bytes, maps %" PRIu32 ", entries %" PRIu32 ", read back and compared with %s: ",
+        new->path, new->count, r->copy.maps, r->copy.entries, old->path);
+    say_lost(&r->old);
     printed();
 }
 
@@ -178,7 +195,7 @@ static void say_done(const struct image *old, const struct image *new, const str
 static int rewrite(const char *old_path, const char *new_path)
 {
     struct image old = {old_path, NULL, 0}, new = {new_path, NULL, 0};
-    struct clpi_reading r = {0};
+    struct readings r = {{0}, {0}};
     int status;
     catch_signals();
     if (is_there(new_path))

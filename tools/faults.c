@@ -32,14 +32,33 @@ static int is(const char *fault)
     return asked && strcmp(asked, fault) == 0;
 }
 
-/* A new file with another rate, or one that is no clip file. */
+/* One extension without data, in spare bytes of the ClipInfo. */
+static void add_extension(uint8_t *file)
+{
+    static const uint8_t block[24] = {0, 0, 0, 20, 0, 0, 0, 0, 0, 0, 0, 1, 0, 1, 0, 1, 0, 0, 0, 24, 0, 0, 0, 0};
+    memcpy(file + 64, block, sizeof block);
+    file[27] = 64;
+}
+
+/* A new file with another byte, at AT; with the other letters; with a mark, or an extension, of its own. */
+static void change_file(uint8_t *file, size_t bytes)
+{
+    if (is("another record"))
+        file[atoi(getenv("AT"))] ^= 1;
+    if (is("other letters"))
+        memcpy(file, file[0] == 'H' ? "CLPI" : "HDMV", 4);
+    if (is("a mark"))
+        file[bytes - 1] = 1;
+    if (is("an extension"))
+        add_extension(file);
+}
+
+/* Changes what was written. */
 struct clpi_writing __wrap_clpi_rewrite(const uint8_t *file, size_t file_bytes, uint8_t *output, size_t output_bytes)
 {
     struct clpi_writing w = __real_clpi_rewrite(file, file_bytes, output, output_bytes);
-    if (w.refusal == CLPI_OK && is("another record"))
-        output[55] ^= 1;
-    if (w.refusal == CLPI_OK && is("no clip file"))
-        output[0] ^= 1;
+    if (w.refusal == CLPI_OK)
+        change_file(output, w.bytes_written);
     return w;
 }
 
