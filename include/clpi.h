@@ -202,8 +202,8 @@ struct clpi_extension {
 
 /* ---- reading */
 
-/* The letters with which a clip file begins, four bytes as one number, the first one highest. Discs have HDMV, and there
- * are players that want it; both are read, and kept in writing. */
+/* The letters with which a clip file begins, four bytes as one number, the first one highest. Discs have HDMV, and
+ * some players list no file without it. Both are read, and writing keeps them. */
 #define CLPI_LETTERS_HDMV 0x48444D56u
 #define CLPI_LETTERS_CLPI 0x434C5049u
 

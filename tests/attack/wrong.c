@@ -149,12 +149,13 @@ STANDS_BEFORE(struct clpi_writing, write, struct clpi_clip_info info, WRITE_TABL
 {
     uint8_t kept = output_bytes > 0 && is("the last byte not written") ? output[output_bytes - 1] : 0;
     uint32_t letters = info.letters;
+    uint32_t first = is("30 before 40") ? CLPI_REFUSED_CELLS : is("31 before 40") ? CLPI_REFUSED_RUNS : CLPI_OK;
     struct clpi_writing w;
-    if ((letters != CLPI_LETTERS_HDMV && is("40 not tested")) || is("30 before 40"))
+    if (first || (letters != CLPI_LETTERS_HDMV && is("40 not tested")))
         info.letters = CLPI_LETTERS_CLPI;
-    if (is("30 before 40")) {
+    if (first) {
         w = __real_clpi_write(info, a, an, ar, b, bn, br, c, cn, cr, d, dn, dr, e, en, er, f, fn, fr, NULL, 0);
-        if (w.refusal == CLPI_REFUSED_CELLS)
+        if (w.refusal == first)
             return w;
         info.letters = letters;
     }

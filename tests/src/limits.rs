@@ -262,7 +262,10 @@ fn by_packet(runs: u32) -> Vec<(u32, u32)> {
 /// 31: maps with the most runs and one more.
 fn runs(cases: &mut Cases) {
     for (runs, wanted) in [(65_535, 0), (65_536, 31), (65_537, 31)] {
-        cases.add(format!("{runs} runs by their times"), wanted, move |made| made.entries(&[by_time(runs)]));
+        cases.add(format!("{runs} runs by their times"), wanted, move |made| {
+            made.info.letters = CLPI;
+            made.entries(&[by_time(runs)]);
+        });
         cases.add(format!("{runs} runs by their packets"), wanted, move |made| made.entries(&[by_packet(runs)]));
     }
     cases.add("65,535 runs of two entries", 0, |made| {

@@ -1,5 +1,6 @@
-//! A plain reader of the scope document's rules, with a switch for one wrong rule. It is slow and short: each
-//! section is read where its number says, every read may fail, and a failed read is the section's refusal.
+//! A plain reader of the rules of the scope document and of the requests that have landed, with a switch for one wrong
+//! rule. It is slow and short: each section is read where its number says, every read may fail, and a failed read is the
+//! section's refusal.
 
 mod entries;
 mod extensions;

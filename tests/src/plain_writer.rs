@@ -1,5 +1,5 @@
-//! A plain writer of the scope document's rules, with a switch for one wrong rule: first every refusal, then the bytes as
-//! one list. It is slow and short.
+//! A plain writer of the rules of the scope document and of the requests that have landed, with a switch for one wrong
+//! rule: first every refusal, then the bytes as one list. It is slow and short.
 
 pub mod bytes;
 pub mod refusals;

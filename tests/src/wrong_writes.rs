@@ -200,13 +200,12 @@ pub const BY_FILES: &[(WrongWrite, &str)] = &[
 pub const NOT_BY_RECORDS: [WrongWrite; 3] = [TouchedBeforeReading, LengthOfOldFile, LengthBesideRefusal];
 
 /// Those of the rules below that a record made by hand of a seed must catch too: those of the letters.
-pub const ALSO_BY_RECORDS: [WrongWrite; 12] = [
+pub const ALSO_BY_RECORDS: [WrongWrite; 11] = [
     TouchedBefore40,
     LettersBeforeRows,
     LettersBeforeStated,
     LettersBeforeCounts,
     CellsBeforeLetters,
-    RunsBeforeLetters,
     OutputBeforeLetters,
     LettersNotTested,
     ZeroLettersAccepted,

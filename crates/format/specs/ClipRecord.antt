@@ -144,7 +144,7 @@ hdmv = 0x48444D56
 abbrev pub clpi : ℕ
 clpi = 0x434C5049
 
--- either of the two is right
+-- either of the two is right; other letters are 2 in reading and 40 in writing
 abbrev pub areLetters : ℕ → Bool
 areLetters letters = either (eqb letters hdmv) (eqb letters clpi)
 

@@ -1,4 +1,4 @@
--- Document 01 as definitions. A file is a list of numbers below 256.
+-- Document 01 as definitions, with what has landed of 02. A file is a list of numbers below 256.
 -- the words that the sections are told in
 pub mod Bytes
 pub mod Ticks

@@ -26,15 +26,15 @@ read a b c d behind = omega arith
 -- ---- writing
 
 -- a new file begins with the letters of its record
-front : (c : Clip) → take 4 (encode c) ≡ bytesOf 4 (c .scalars .letters)
+front : (c : Clip) {letters : ℕ} → c .scalars .letters ≡ letters → take 4 (encode c) ≡ bytesOf 4 letters
 unfolding encode headBytes bytesOf
-front c = refl
+front c e = ap (bytesOf 4) e
 
 -- so does the new file of a file
 kept : (f : List ℕ) → BeginsRight f → take 4 (rewritten f) ≡ take 4 f
 unfolding recordOf clipOf scalarsOf beAt bytesOf
-kept f (BeginsRight.hdmv behind) = front (recordOf f .clip)
-kept f (BeginsRight.clpi behind) = front (recordOf f .clip)
+kept f (BeginsRight.hdmv behind) = front (recordOf f .clip) refl
+kept f (BeginsRight.clpi behind) = front (recordOf f .clip) refl
 
 -- ---- 40
 
@@ -86,14 +86,16 @@ accepted (a ∷ b ∷ c ∷ d ∷ behind) bytes h = begins a b c d behind bytes 
 
 -- all of them
 pub letters : Letters
-unfolding writeRefusal
+unfolding writeRefusal bytesOf
 letters = record {
   read = read;
+  hdmv-first = λ c e. front c e;
+  clpi-first = λ c e. front c e;
   accepted = accepted;
   kept = kept;
   told-apart = λ f g hf hg other e. other (sym (kept f hf) ∙ ap (take 4) e ∙ kept g hg);
   other = λ c adds h k. rw (adds, neither (c .scalars .letters) h k);
   counts-first = λ c fails. rw fails;
-  hdmv-written = right hdmv refl;
-  clpi-written = right clpi refl;
+  hdmv-right = right hdmv refl;
+  clpi-right = right clpi refl;
 }

@@ -79,7 +79,7 @@ pub record RewritingKeeps (f : List ℕ) : Type 0 where
   pub again : Rewritable (rewritten f)
   pub stable : rewritten (rewritten f) ≡ rewritten f
 
--- ---- what a file's record can look like, so that 1 has a reason: neither 22 nor 40 nor 30 can hold of it
+-- ---- what a file's record can look like, so that 1 has a reason: neither 22 nor 40 nor 30 can hold of an accepted file's
 
 -- of any bytes, accepted or not: the counts add up, every cell fits, languages are lowered; beside 40, which the letters decide, only 31 can refuse it
 pub record FromFile (f : List ℕ) : Type 0 where

@@ -52,7 +52,7 @@ fn order(wrong: WrongWrite) -> &'static [Test] {
         LettersBeforeStated => &[Counts, Letters, Stated, Cells, Runs],
         LettersBeforeCounts => &[Stated, Letters, Counts, Cells, Runs],
         CellsBeforeLetters => &[Stated, Counts, Cells, Letters, Runs],
-        RunsBeforeLetters => &[Stated, Counts, Cells, Runs, Letters],
+        RunsBeforeLetters => &[Stated, Counts, Runs, Letters, Cells],
         OutputBeforeLetters => &[Stated, Counts, Output, Letters, Cells, Runs],
         RunsBeforeCells => &[Stated, Counts, Letters, Runs, Cells],
         OutputBeforeCells => &[Stated, Counts, Letters, Output, Cells, Runs],
