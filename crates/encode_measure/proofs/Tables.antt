@@ -5,7 +5,6 @@ use mathlib.Core.List.{List}
 use mathlib.Core.Bool.{Bool, true, false, not}
 use native.Mathlib.Omega.{arith}
 use lib.ListN.{length}
-use borrow.Author.Tests.{not-true, not-false}
 use Rattle.format.specs.Bytes.{both, unless}
 use Rattle.format.specs.ClipRecord.{areLetters, entryCells}
 use Rattle.format.specs.Tables.{ClipTables, clipIn, isStated, rowsOf, rowRoom, atcCells, stcCells, programCells, streamCells, mapCells}
@@ -27,7 +26,7 @@ use Rattle.encode_cpi.specs.Cpi as cpi
 use Rattle.encode_cpi.proofs.Lengths.{length-said, length-refused}
 use Rattle.encode_measure.specs.declared.Places.{Places}
 use Rattle.encode_measure.specs.Places.{refusalIn, pairsCounted, marksPlace, Ready}
-use Rattle.encode_measure.proofs.Tests.{refusal-is}
+use Rattle.encode_measure.proofs.Tests.{passes-by, fails-by, refusal-is}
 use Rattle.encode_measure.proofs.Parts.{place-programs, place-cpi, place-marks, InOrder, placed-order, good-short}
 
 -- ---- a record that can be written passes every test
@@ -83,24 +82,20 @@ module _ (l : ClipTables) where
   -- counts that do not add up
   pub refused-22 : {r : Bool} → r ≡ pairsCounted bare → not r ≡ true → refusalIn l ≡ 22
   unfolding pairsCounted
-  refused-22 {r} is h =
-      let fails : pairsCounted l ≡ false = sym is ∙ not-true r h in
+  refused-22 is h =
+      let fails : pairsCounted l ≡ false = fails-by is h in
       refusal-is l ∙ rw fails
 
   -- counts that do
   pub counted-by : {r : Bool} → r ≡ pairsCounted bare → not r ≡ false → pairsCounted l ≡ true
   unfolding pairsCounted
-  counted-by {r} is h = sym is ∙ not-false r h
+  counted-by is h = passes-by is h
 
   -- letters that are neither of the two
   pub refused-40 : {r : Bool} → pairsCounted l ≡ true → r ≡ areLetters (l .scalars .letters) → not r ≡ true → refusalIn l ≡ 40
-  refused-40 {r} p is h =
-      let fails : areLetters (l .scalars .letters) ≡ false = sym is ∙ not-true r h in
+  refused-40 p is h =
+      let fails : areLetters (l .scalars .letters) ≡ false = fails-by is h in
       refusal-is l ∙ rw (p, fails)
-
-  -- letters that are one of them
-  pub letters-by : {r : Bool} → r ≡ areLetters (l .scalars .letters) → not r ≡ false → areLetters (l .scalars .letters) ≡ true
-  letters-by {r} is h = sym is ∙ not-false r h
 
   -- every cell but those of the entries fits
   abbrev pub fieldsOf : Bool
@@ -112,13 +107,9 @@ module _ (l : ClipTables) where
 
   -- cells before the entries that do not fit
   pub fields-refused : {r : Bool} → pairsCounted l ≡ true → areLetters (l .scalars .letters) ≡ true → r ≡ fieldsOf → not r ≡ true → refusalIn l ≡ 30
-  fields-refused {r} p q is h =
-      let fails : cellsFit (clipIn l) ≡ false = fields-and-entries l ∙ left-fails allEntriesFit (sym is ∙ not-true r h) in
+  fields-refused p q is h =
+      let fails : cellsFit (clipIn l) ≡ false = fields-and-entries l ∙ left-fails allEntriesFit (fails-by is h) in
       refusal-is l ∙ rw (p, q, fails)
-
-  -- cells that do
-  pub fields-by : {r : Bool} → r ≡ fieldsOf → not r ≡ false → fieldsOf ≡ true
-  fields-by {r} is h = sym is ∙ not-false r h
 
   -- what is told of the maps and entries
   abbrev testedIn : Tested

@@ -1,10 +1,10 @@
 -- The refusals of writing, in the order in which the code tests them.
 use Prim.Native.Nat.{ℕ, _+_, _≤_}
 use mathlib.Core.Path.{_≡_, refl, sym, ap, _∙_}
-use mathlib.Core.Bool.{Bool, true, false}
+use mathlib.Core.Bool.{Bool, true, false, not}
 use native.Mathlib.Omega.{arith}
 use lib.Dec.{eqb}
-use borrow.Author.Tests.{eqb-true}
+use borrow.Author.Tests.{eqb-true, not-true, not-false}
 use Rattle.format.specs.Bytes.{both, pick, unless}
 use Rattle.format.specs.ClipRecord.{Clip, areLetters}
 use Rattle.format.specs.Tables.{ClipTables, clipIn}
@@ -14,6 +14,13 @@ use Rattle.limits.proofs.Clips.{all-counted}
 use Rattle.encode_measure.specs.declared.Measured.{Measured}
 use Rattle.encode_measure.specs.declared.Places.{Places}
 use Rattle.encode_measure.specs.Places.{refusalIn, pairsCounted, programsPlace, cpiPlace, marksPlace, placesOf, measuredBy, Placed}
+
+-- what an answer says of its test, where the code goes on, and where it refuses
+pub passes-by : {r b : Bool} → r ≡ b → not r ≡ false → b ≡ true
+passes-by {r} is h = sym is ∙ not-false r h
+
+pub fails-by : {r b : Bool} → r ≡ b → not r ≡ true → b ≡ false
+fails-by {r} is h = sym is ∙ not-true r h
 
 -- two tests of one number are one test
 unless-both : (a b : Bool) (n later : ℕ) → unless a n (unless b n later) ≡ unless (both a b) n later

@@ -1,12 +1,14 @@
 -- The facts of a record whose counts add up and whose cells fit: what a file's record can look like.
 use Prim.Native.Nat.{ℕ, _≤_}
-use mathlib.Core.Path.{_≡_}
+use mathlib.Core.Path.{_≡_, refl}
 use mathlib.Core.List.{List, [], _∷_, _++_}
-use mathlib.Core.Bool.{true}
+use mathlib.Core.Bool.{Bool, true, false}
+use native.Mathlib.Omega.{arith}
 use lib.ListN.{length}
 use lib.Dec.{eqb}
-use Rattle.format.specs.Bytes.{pick, total}
-use Rattle.format.specs.ClipRecord.{Row, Clip, areLetters, atcStcCount, streamCount, codingType, aspect, language, mapType, entryCount}
+use borrow.Author.Tests.{eqb-true}
+use Rattle.format.specs.Bytes.{either, pick, total}
+use Rattle.format.specs.ClipRecord.{Row, Clip, hdmv, clpi, areLetters, atcStcCount, streamCount, codingType, aspect, language, mapType, entryCount}
 use Rattle.format.specs.Programs.{isVideo}
 use Rattle.format.specs.Rewriting.{runs}
 use Rattle.format.proofs.Fields.{Fit}
@@ -54,6 +56,20 @@ pub record GoodClip (most : ℕ) (c : Clip) : Type 0 where
   pub streams-add : total streamCount (c .programs) ≡ length (c .streams)
   pub maps-few : length (c .maps) ≤ 255
   pub maps-good : Maps most (c .maps) (c .entries)
+
+-- the number of either word
+pub data IsWord : ℕ → Type 0 where
+  is-hdmv : IsWord hdmv
+  is-clpi : IsWord clpi
+
+-- right letters are one of the two
+pub letters-are : (l : ℕ) → areLetters l ≡ true → IsWord l
+letters-are l h = go (eqb l hdmv) (eqb l clpi) refl refl h
+  where
+    go : (a b : Bool) → eqb l hdmv ≡ a → eqb l clpi ≡ b → either a b ≡ true → IsWord l
+    go true b e f h = rw (eqb-true l hdmv e) IsWord.is-hdmv
+    go false true e f h = rw (eqb-true l clpi f) IsWord.is-clpi
+    go false false e f h = let z : _≡_ {A = ℕ} 0 1 = cc in absurd (omega arith)
 
 -- what writing refuses by nothing: right letters, and no map has more than 65,535 runs
 pub record Writable (c : Clip) : Type 0 where

@@ -180,13 +180,13 @@ narrow c g h = record {
 
 -- ---- a file
 
--- one that is accepted begins with right letters
-pub right-letters : (f : List ℕ) → refusalOf f ≡ 0 → lettersRight f ≡ true
+-- one that is accepted has eight bytes, and begins with right letters
+pub right-front : (f : List ℕ) → refusalOf f ≡ 0 → (8 ≤ length f) × (lettersRight f ≡ true)
 unfolding refusalOf
-right-letters f h =
+right-front f h =
     let a = passed (leb (length f) 536870912) 19 _ h in
     let b = passed (leb 8 (length f)) 0 _ (a .1) in
-    passed (lettersRight f) 1 _ (b .1) .0
+    (leb-true 8 (length f) (b .0), passed (lettersRight f) 1 _ (b .1) .0)
 
 module _ (f : List ℕ) (bytes : IsBytes f) where
   -- a number that is read from n bytes fits them

@@ -1,12 +1,12 @@
 -- Bytes stored into a list, one part behind the other; big-endian numbers and their bytes in parts.
-use Prim.Native.Nat.{ℕ, zero, suc, _+_, _*_, _/_, _%_, _^_, _<_}
+use Prim.Native.Nat.{ℕ, zero, suc, _+_, _*_, _/_, _%_, _^_, _<_, _≤_}
 use mathlib.Core.Path.{_≡_, refl, sym, ap, ap₂, _∙_}
 use mathlib.Core.List.{List, [], _∷_, _++_, append-assoc, append-nil}
 use native.Mathlib.Nat.{add-zero, add-suc, add-assoc, mul-assoc, pow-suc, pow-succ', div-one, div-div-eq-div-mul, div-add-mod'}
 use native.Mathlib.Omega.{arith}
-use lib.ListN.{length, getD, set}
-use lib.Seq.{sets}
-use Rattle.format.specs.Bytes.{beAt, bytesOf}
+use lib.ListN.{length, getD, drop, set, length-drop}
+use lib.Seq.{sets, take-suc, getD-drop}
+use Rattle.format.specs.Bytes.{IsBytes, beAt, bytesOf, part}
 use Rattle.format.proofs.Numbers.{bytes-length}
 
 -- ---- stores into any list
@@ -63,6 +63,18 @@ pub be-below : (s : List ℕ) → ((i : ℕ) → getD s i 0 < 256) → (p n : �
 unfolding beAt
 be-below s h p zero = omega arith
 be-below s h p (suc n) = rw pow-suc (omega (arith, be-below s h p n, h (p + n)))
+
+-- the bytes of a number that was read are those that were read
+pub number-part : (f : List ℕ) → IsBytes f → (p n : ℕ) → p + n ≤ length f → bytesOf n (beAt f p n) ≡ part f p n
+unfolding beAt bytesOf
+number-part f bytes p zero h = refl
+number-part f bytes p (suc n) h =
+    let b = getD f (p + n) 0 in
+    let small = bytes (p + n) in
+    let high : (beAt f p n * 256 + b) / 256 ≡ beAt f p n = omega arith in
+    let low : (beAt f p n * 256 + b) % 256 ≡ b = omega arith in
+    let last : getD (drop p f) n 0 ≡ b = getD-drop p f n 0 in
+    rw (high, low, number-part f bytes p n (omega arith), take-suc (drop p f) n 0 (omega (arith, length-drop p f)), last)
 
 -- a number of m + n bytes is that of the first m above that of the last n
 pub be-parts : (s : List ℕ) (p m n : ℕ) → beAt s p (m + n) ≡ beAt s p m * 256 ^ n + beAt s (p + m) n

@@ -2,13 +2,13 @@
 use Prim.Native.Nat.{ℕ, _+_, _^_, _<_, _≤_}
 use mathlib.Core.Path.{_≡_, refl, sym, ap, _∙_}
 use mathlib.Core.List.{List, [], _∷_, _++_, append-nil, map}
-use mathlib.Core.Bool.{Bool, true, false}
+use mathlib.Core.Bool.{true, false}
 use native.Mathlib.Omega.{arith}
 use lib.ListN.{length, getD, length-append}
-use lib.Dec.{leb, eqb, lit<}
-use borrow.Author.Tests.{le-leb, eqb-true}
-use Rattle.format.specs.Bytes.{either, beAt, fieldBytes, fieldsAt}
-use Rattle.format.specs.ClipRecord.{Clip, hdmv, clpi, areLetters, lettersRight, sequencesStart, programsStart, cpiStart, marksStart, scalarsOf, clipInfoIn, atcsFrom, stcsFrom, sequencesEnd, marksFrom, marksIn}
+use lib.Dec.{leb, lit<}
+use borrow.Author.Tests.{le-leb}
+use Rattle.format.specs.Bytes.{beAt, fieldBytes, fieldsAt}
+use Rattle.format.specs.ClipRecord.{Clip, lettersRight, sequencesStart, programsStart, cpiStart, marksStart, scalarsOf, clipInfoIn, atcsFrom, stcsFrom, sequencesEnd, marksFrom, marksIn}
 use Rattle.format.specs.EntryPoints.{mapsFrom, entriesFrom, cpiIn, mapsIn}
 use Rattle.format.specs.Extensions.{extensionRows, extensionsFrom, listData, listIn}
 use Rattle.format.specs.Programs.{programsFrom, streamsFrom, programsEnd, loweredStream, loweredClip}
@@ -17,20 +17,16 @@ use Rattle.format.specs.Refusals.{refusalOf}
 use Rattle.format.specs.Rewriting.{sequencesBytes, programsBytes, cpiBytes, headWidths, headValues, headBytes, marksBytes, encode}
 use Rattle.format.proofs.Cpi.{is-present, cpi-back}
 use Rattle.format.proofs.Fields.{Fit, one}
-use Rattle.format.proofs.Good.{Writable}
+use Rattle.format.proofs.Good.{IsWord, letters-are, Writable}
 use Rattle.format.proofs.Lengths.{sequences-bound, programs-bound, cpi-bound}
 use Rattle.format.proofs.Numbers.{Stands, left, right, bytes-length, Fill, fill, fields-back, fields-length}
 use Rattle.format.proofs.Sections.{sequences-back, programs-back}
 use Rattle.format.proofs.Tests.{true-both, pass}
 
--- right letters are a number of 32 bits
-letters-below : (l : ℕ) → areLetters l ≡ true → l < 2 ^ 32
-letters-below l h = go (eqb l hdmv) (eqb l clpi) refl refl h
-  where
-    go : (a b : Bool) → eqb l hdmv ≡ a → eqb l clpi ≡ b → either a b ≡ true → l < 2 ^ 32
-    go true b e f h = omega (arith, eqb-true l hdmv e)
-    go false true e f h = omega (arith, eqb-true l clpi f)
-    go false false e f h = let z : _≡_ {A = ℕ} 0 1 = cc in absurd (omega arith)
+-- either word is a number of 32 bits
+word-below : {l : ℕ} → IsWord l → l < 2 ^ 32
+word-below IsWord.is-hdmv = lit< tt
+word-below IsWord.is-clpi = lit< tt
 
 -- each value of the first 220 bytes fits its field: the letters and scalars of a record that can be written do, and so do starts below 2 ^ 32
 head-fill : (c : Clip) (pr cp mk : ℕ) → Writable c → pr < 2 ^ 32 → cp < 2 ^ 32 → mk < 2 ^ 32 → Fill headWidths (headValues (c .scalars) pr cp mk)
@@ -39,7 +35,7 @@ head-fill c pr cp mk w h0 h1 h2 = go (w .good .scalars)
     go : Fit (32 ∷ 8 ∷ 8 ∷ 32 ∷ 32 ∷ 8 ∷ 32 ∷ []) (c .scalars .version ∷ c .scalars .streamType ∷ c .scalars .applicationType ∷ c .scalars .rate ∷ c .scalars .packets ∷ c .scalars .validityFlags ∷ c .scalars .formatId ∷ [])
         → Fill headWidths (headValues (c .scalars) pr cp mk)
     go (one v0 (one v1 (one v2 (one v3 (one v4 (one v5 (one v6 Fit.none))))))) =
-        fill 4 (c .scalars .letters) (letters-below (c .scalars .letters) (w .letters)) (fill 4 (c .scalars .version) v0 (fill 4 220 (lit< tt) (fill 4 pr h0 (fill 4 cp h1 (fill 4 mk h2 (fill 4 0 (lit< tt)
+        fill 4 (c .scalars .letters) (word-below (letters-are (c .scalars .letters) (w .letters))) (fill 4 (c .scalars .version) v0 (fill 4 220 (lit< tt) (fill 4 pr h0 (fill 4 cp h1 (fill 4 mk h2 (fill 4 0 (lit< tt)
         (fill 12 0 (lit< tt) (fill 4 176 (lit< tt) (fill 2 0 (lit< tt) (fill 1 (c .scalars .streamType) v1 (fill 1 (c .scalars .applicationType) v2 (fill 4 0 (lit< tt)
         (fill 4 (c .scalars .rate) v3 (fill 4 (c .scalars .packets) v4 (fill 128 0 (lit< tt) (fill 1 (c .scalars .validityFlags) v5 (fill 1 0 (lit< tt) (fill 4 (c .scalars .formatId) v6
         (fill 26 0 (lit< tt) Fill.none)))))))))))))))))))

@@ -1,14 +1,14 @@
 -- Parts of a file: what stands in fields, or in rows of fields one behind the other, is stored as the very bytes that were read.
-use Prim.Native.Nat.{ℕ, zero, suc, _+_, _*_, _-_, _/_, _%_, _≤_}
+use Prim.Native.Nat.{ℕ, zero, suc, _+_, _-_, _≤_}
 use mathlib.Core.Path.{_≡_, refl, sym, ap₂, _∙_}
 use mathlib.Core.List.{List, [], _∷_, _++_}
 use native.Mathlib.Nat.{le-trans}
 use native.Mathlib.Omega.{arith}
-use lib.ListN.{length, getD, drop, length-drop}
-use lib.Seq.{take-suc, getD-drop}
-use Rattle.format.specs.Bytes.{IsBytes, beAt, bytesOf, fieldBytes, fieldsAt, widthOf, gather, endOf, part}
+use lib.ListN.{length}
+use Rattle.format.specs.Bytes.{IsBytes, fieldBytes, fieldsAt, widthOf, gather, endOf, part}
 use Rattle.format.proofs.Loops.{end-ge}
 use Rattle.format.proofs.Lists.{part-two}
+use Rattle.format.proofs.Stores.{number-part}
 
 -- the parts from p to q and from q to e are the one from p to e
 part-upto : (f : List ℕ) {p q e : ℕ} → p ≤ q → q ≤ e → part f p (q - p) ++ part f q (e - q) ≡ part f p (e - p)
@@ -20,23 +20,11 @@ part-upto f {p} {q} {e} h k =
 -- ---- fields
 
 module _ (f : List ℕ) (bytes : IsBytes f) where
-  -- the bytes of a number that was read are those that were read
-  pub number-part : (p n : ℕ) → p + n ≤ length f → bytesOf n (beAt f p n) ≡ part f p n
-  unfolding beAt bytesOf
-  number-part p zero h = refl
-  number-part p (suc n) h =
-      let b = getD f (p + n) 0 in
-      let small = bytes (p + n) in
-      let high : (beAt f p n * 256 + b) / 256 ≡ beAt f p n = omega arith in
-      let low : (beAt f p n * 256 + b) % 256 ≡ b = omega arith in
-      let last : getD (drop p f) n 0 ≡ b = getD-drop p f n 0 in
-      rw (high, low, number-part p n (omega arith), take-suc (drop p f) n 0 (omega (arith, length-drop p f)), last)
-
   -- fields one behind the other
   pub fields-part : (ws : List ℕ) (p : ℕ) → p + widthOf ws ≤ length f → fieldBytes ws (fieldsAt f p ws) ≡ part f p (widthOf ws)
   fields-part [] p h = refl
   fields-part (w ∷ ws) p h =
-      ap₂ (λ (x y : List ℕ). x ++ y) (number-part p w (omega arith)) (fields-part ws (p + w) (omega arith)) ∙ sym (part-two f p w (widthOf ws))
+      ap₂ (λ (x y : List ℕ). x ++ y) (number-part f bytes p w (omega arith)) (fields-part ws (p + w) (omega arith)) ∙ sym (part-two f p w (widthOf ws))
 
 -- ---- items one behind the other
 

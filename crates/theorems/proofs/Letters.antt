@@ -1,18 +1,19 @@
 -- The letters: read and written as the first of the head's fields, and tested by the two numbers.
-use Prim.Native.Nat.{ℕ, _+_, _*_, _^_, _<_}
-use mathlib.Core.Path.{_≡_, refl, sym, ap, _∙_}
-use mathlib.Core.List.{List, [], _∷_}
+use Prim.Native.Nat.{ℕ, _+_, _*_, _^_}
+use mathlib.Core.Path.{_≡_, refl, sym, ap, subst, _∙_}
+use mathlib.Core.List.{List, _∷_, _++_}
 use mathlib.Core.Bool.{Bool, true, false}
 use native.Mathlib.Omega.{arith}
-use lib.ListN.{take}
-use lib.Dec.{eqb}
-use borrow.Author.Tests.{eqb-true, ne-eqb}
-use Rattle.format.specs.Bytes.{IsBytes, either, unless, beAt, bytesOf}
-use Rattle.format.specs.ClipRecord.{Clip, hdmv, clpi, areLetters, lettersRight, scalarsOf}
+use lib.ListN.{take, drop, take-append-drop}
+use borrow.Author.Tests.{ne-eqb}
+use Rattle.format.specs.Bytes.{IsBytes, unless, beAt, bytesOf}
+use Rattle.format.specs.ClipRecord.{Clip, hdmv, clpi, areLetters, lettersOf, lettersRight, scalarsOf}
 use Rattle.format.specs.Reading.{clipOf, recordOf}
 use Rattle.format.specs.Rewriting.{headBytes, encode}
 use Rattle.format.specs.Refusals.{refusalOf, countsAdd, cellsFit, runsFit, writeRefusal}
-use Rattle.format.proofs.Read.{right-letters}
+use Rattle.format.proofs.Good.{IsWord, letters-are}
+use Rattle.format.proofs.Read.{right-front}
+use Rattle.format.proofs.Stores.{number-part}
 use Rattle.theorems.specs.Rewriting.{rewritten}
 use Rattle.theorems.specs.Letters.{BeginsRight, Letters}
 
@@ -57,32 +58,17 @@ right l h c e r = let pass : areLetters (c .scalars .letters) ≡ true = ap areL
 -- ---- files
 
 -- four bytes whose number is a word's are the word's
-begins : (a b c d : ℕ) (behind : List ℕ) → IsBytes (a ∷ b ∷ c ∷ d ∷ behind) → lettersRight (a ∷ b ∷ c ∷ d ∷ behind) ≡ true → BeginsRight (a ∷ b ∷ c ∷ d ∷ behind)
-unfolding lettersRight beAt
-begins a b c d behind bytes h = go (eqb ((((0 * 256 + a) * 256 + b) * 256 + c) * 256 + d) hdmv) (eqb ((((0 * 256 + a) * 256 + b) * 256 + c) * 256 + d) clpi) refl refl h
-  where
-    go : (x y : Bool) → eqb ((((0 * 256 + a) * 256 + b) * 256 + c) * 256 + d) hdmv ≡ x → eqb ((((0 * 256 + a) * 256 + b) * 256 + c) * 256 + d) clpi ≡ y
-        → either x y ≡ true → BeginsRight (a ∷ b ∷ c ∷ d ∷ behind)
-    go true y e f k =
-        let same = eqb-true ((((0 * 256 + a) * 256 + b) * 256 + c) * 256 + d) hdmv e in
-        let small : (a < 256) × (b < 256) × (c < 256) × (d < 256) = (bytes 0, bytes 1, bytes 2, bytes 3) in
-        let four : (a ≡ 0x48) × (b ≡ 0x44) × (c ≡ 0x4D) × (d ≡ 0x56) = (omega arith, omega arith, omega arith, omega arith) in
-        rw (four .0, four .1, four .2, four .3) (BeginsRight.hdmv behind)
-    go false true e f k =
-        let same = eqb-true ((((0 * 256 + a) * 256 + b) * 256 + c) * 256 + d) clpi f in
-        let small : (a < 256) × (b < 256) × (c < 256) × (d < 256) = (bytes 0, bytes 1, bytes 2, bytes 3) in
-        let four : (a ≡ 0x43) × (b ≡ 0x4C) × (c ≡ 0x50) × (d ≡ 0x49) = (omega arith, omega arith, omega arith, omega arith) in
-        rw (four .0, four .1, four .2, four .3) (BeginsRight.clpi behind)
-    go false false e f k = let z : _≡_ {A = ℕ} 0 1 = cc in absurd (omega arith)
+begins : (f : List ℕ) {l : ℕ} → IsWord l → bytesOf 4 l ≡ take 4 f → BeginsRight f
+unfolding bytesOf
+begins f IsWord.is-hdmv e = subst BeginsRight (ap (λ (w : List ℕ). w ++ drop 4 f) e ∙ take-append-drop 4 f) (BeginsRight.hdmv (drop 4 f))
+begins f IsWord.is-clpi e = subst BeginsRight (ap (λ (w : List ℕ). w ++ drop 4 f) e ∙ take-append-drop 4 f) (BeginsRight.clpi (drop 4 f))
 
--- a file of under four bytes is not accepted
+-- those of an accepted file have such a number
 accepted : (f : List ℕ) → IsBytes f → refusalOf f ≡ 0 → BeginsRight f
-unfolding refusalOf
-accepted [] bytes h = absurd (omega (arith, h))
-accepted (a ∷ []) bytes h = absurd (omega (arith, h))
-accepted (a ∷ b ∷ []) bytes h = absurd (omega (arith, h))
-accepted (a ∷ b ∷ c ∷ []) bytes h = absurd (omega (arith, h))
-accepted (a ∷ b ∷ c ∷ d ∷ behind) bytes h = begins a b c d behind bytes (right-letters (a ∷ b ∷ c ∷ d ∷ behind) h)
+unfolding lettersRight
+accepted f bytes h =
+    let front = right-front f h in
+    begins f (letters-are (lettersOf f) (front .1)) (number-part f bytes 0 4 (omega (arith, front .0)))
 
 -- all of them
 pub letters : Letters

@@ -15,7 +15,7 @@ use Rattle.format.specs.Refusals.{refusalOf, accepted, readAnswer, statedOf, ta
 use Rattle.format.proofs.Lists.{All}
 use Rattle.theorems.specs.Rewriting.{Rewritable, rewritten, withoutExtensions, handedOver, Succeeds, RewritingKeeps, FromFile, Made}
 use Rattle.format.proofs.Good.{GoodClip, Writable}
-use Rattle.format.proofs.Read.{good-clip, narrow, right-letters, lowered-streams}
+use Rattle.format.proofs.Read.{good-clip, narrow, right-front, lowered-streams}
 use Rattle.format.proofs.Write.{encode-bytes, counts, cells, runs-fit, written as not-refused}
 use Rattle.format.proofs.Whole.{is-short, is-accepted, reads-back, record-back}
 use Rattle.format.proofs.Maker.{good-made}
@@ -51,7 +51,7 @@ from-file f bytes =
       fits = b;
       lowered = low-of f bytes;
       only-40-and-31 = rw (a, letters-of f, b);
-      only-31 = λ accepts. rw (a, letters-of f, right-letters f accepts, b);
+      only-31 = λ accepts. rw (a, letters-of f, right-front f accepts .1, b);
     }
 
 -- ---- a record made by hand
@@ -95,7 +95,7 @@ module _ (f : List ℕ) (h : Rewritable f) where
 
   -- and the letters are right, so the record can be written
   writable : Writable (recordOf f .clip)
-  writable = record { letters = letters-of f ∙ right-letters f (h .accepted); good = good }
+  writable = record { letters = letters-of f ∙ right-front f (h .accepted) .1; good = good }
 
   -- 3. the new file reads to the old record with its languages lowered, which they were
   same-record : recordOf (rewritten f) ≡ withoutExtensions (recordOf f)

@@ -11,9 +11,9 @@ use Rattle.format.specs.Rewriting.{cpiBytes}
 use Rattle.clip_information.specs.Read.{scalarsBy}
 use Rattle.limits.specs.Stated.{statedTables}
 use Rattle.encode_measure.specs.Places.{refusalIn, pairsCounted}
-use Rattle.encode_measure.proofs.Tests.{refused-by, places-by}
+use Rattle.encode_measure.proofs.Tests.{passes-by, refused-by, places-by}
 use Rattle.encode_measure.proofs.Parts.{place-programs, place-cpi, place-marks}
-use Rattle.encode_measure.proofs.Tables.{refused-22, counted-by, refused-40, letters-by, fieldsOf, fields-refused, fields-by, fields-there, lengthIn, entries-refused, entries-fit, runs-refused, runs-few, sequences-counted, programs-counted, sequences-long, programs-long, cpi-there, cpi-counted, none-refused, marks-bound}
+use Rattle.encode_measure.proofs.Tables.{refused-22, counted-by, refused-40, fieldsOf, fields-refused, fields-there, lengthIn, entries-refused, entries-fit, runs-refused, runs-few, sequences-counted, programs-counted, sequences-long, programs-long, cpi-there, cpi-counted, none-refused, marks-bound}
 use borrow.Author.Needs.{needs}
 use Rattle.encode_measure.proofs.measure.Statement.{statement}
 use Rattle.encode_measure.proofs.measure.Tie as tie
@@ -50,13 +50,13 @@ counted e =
 lettered : (e : tie.Else2) → areLetters (tables (start-of (counted-of e)) .scalars .letters) ≡ true
 lettered e =
     let k : tie.After-is-clip = search in
-    letters-by (tables (start-of (counted-of e))) (k .is-clip .ensures) (e .if2 .left)
+    passes-by (k .is-clip .ensures) (e .if2 .left)
 
 -- every cell but those of the entries fits
 fields : (e : tie.Else3) → fieldsOf (tables (start-of (counted-of (lettered-of e)))) ≡ true
 fields e =
     let f : tie.After-fields-fit = search in
-    fields-by (tables (start-of (counted-of (lettered-of e)))) (f .fields-fit .ensures) (e .if3 .left)
+    passes-by (f .fields-fit .ensures) (e .if3 .left)
 
 -- the entries fit
 module _ (t : tie.After-length) where
