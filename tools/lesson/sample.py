@@ -1,8 +1,8 @@
 """The sample files of docs/MINUTES.md: one clip laid out plainly, backwards and overlapping."""
 
-LATEST_END = 41 * 60 * 45000 + 30 * 45000  # 41 minutes and 30 seconds of 45 kHz ticks
-FIRST_START = 60 * 45000
-EARLIER_END = 10 * 60 * 45000
+# two lectures, each by a clock of its own: start and end in 45 kHz ticks, 40 min 30 s and 10 min 40 s apart
+FIRST = (54 * 45000, (41 * 60 + 24) * 45000)
+LATER = (15 * 45000, (10 * 60 + 55) * 45000)
 SECOND = 31250  # packets of 192 bytes in a second, at 6,000,000 bytes a second
 
 # (time in 90 kHz ticks, packet): three pairs of entries, a second apart; the last one is at minute 40
@@ -27,8 +27,8 @@ def section(count, items):
 
 
 def sequences():
-    """One ATC with two STCs; the first ends later, the second starts at 0."""
-    stcs = [(0x1001, 0, FIRST_START, LATEST_END), (0x1001, 2430 * SECOND, 0, EARLIER_END)]
+    """One ATC with two STCs: where the second begins, its clock begins again."""
+    stcs = [(0x1001, 0, *FIRST), (0x1001, 2430 * SECOND, *LATER)]
     rows = b"".join(be(2, pid) + be(4, packet) + be(4, start) + be(4, end) for pid, packet, start, end in stcs)
     return section(1, be(4, 0) + bytes([len(stcs), 0]) + rows)
 
@@ -71,7 +71,7 @@ AUDIO_MAP = (0x1100, 3, 1, 2)
 def front(version, starts, unused=bytes(12)):
     """The header and the ClipInfo. Starts: sequences, programs, CPI, marks, extensions."""
     head = b"HDMV" + version + b"".join(be(4, s) for s in starts) + unused
-    info = be(4, 176) + bytes([0, 0, 1, 1]) + bytes(4) + be(4, 192 * SECOND) + be(4, 3030 * SECOND)
+    info = be(4, 176) + bytes([0, 0, 1, 1]) + bytes(4) + be(4, 192 * SECOND) + be(4, 3070 * SECOND)
     info += bytes(188 - CLIP_INFO - len(info)) + bytes([0x80, 0]) + b"HDMV"
     return head + info + bytes(SECTIONS - len(head) - len(info))
 
@@ -93,7 +93,7 @@ def overlapping():
     index = cpi([VIDEO_MAP, AUDIO_MAP], b"".join(fine[:3]))
     index += b"".join(fine[3:5])
     shared = SECTIONS + len(index)
-    stc = bytes(2) + be(4, FIRST_START) + be(4, LATEST_END) + bytes(2)
+    stc = bytes(2) + be(4, FIRST[0]) + be(4, FIRST[1]) + bytes(2)
     return front(bytes([0, 3, 0, 0]), [0, shared, SECTIONS, shared, 0], stc) + index + fine[5] + programs()[4:]
 
 

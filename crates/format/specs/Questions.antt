@@ -8,7 +8,7 @@ use lib.Dec.{leb, ltb, eqb}
 use lib.IntN.{pos}
 use lib.Ieee.{Float, nan, inf, fin, binary64, up, down, ofInt, div, ofBits, toBits}
 use Rattle.format.specs.Bytes.{both, either, pick, every, total}
-use Rattle.format.specs.Ticks.{Ticks45, Ticks90, doubled, less45, less90, minutes}
+use Rattle.format.specs.Ticks.{Ticks45, Ticks90, doubled, less45, less90, plus90, later90, minutes}
 use Rattle.format.specs.ClipRecord.{Row, Clip, atcStcCount, offsetId, stcPacket, stcStart, stcEnd, pmtPid, streamPid, codingType, mapPid, mapType, entryCount, time, packet, entryTime, entryCells}
 use Rattle.format.specs.Programs.{isVideo}
 use Rattle.format.specs.Tables.{ClipTables, isStated, addUp, isRow, clipIn, HoldsRows, atcCells, stcCells, programCells, streamCells, mapCells}
@@ -31,7 +31,7 @@ pub data Question : Type 0 where
   presentationSpan90k : Question  -- 90 kHz ticks
   indexedSpan90k : (map : ℕ) → Question  -- 90 kHz ticks
   transferDurationSecs : Question  -- seconds, or no rate
-  minutesRemaining : (at : Ticks90) → Question  -- minutes
+  minutesRemaining : (stc : ℕ) (at : Ticks90) → Question  -- minutes
   seekSpn : (map : ℕ) (at : Ticks90) → Question  -- the packet of the entry at or before, or none
   nextSeekSpn : (map : ℕ) (at : Ticks90) → Question  -- the packet of the entry after, or none
   primarySeekSpn : (at : Ticks90) → Question  -- the same two in the primary map, or none
@@ -227,9 +227,18 @@ unfoldable pub presentationSpan : List Row → Ticks90
 presentationSpan [] = record { ticks = 0 }
 presentationSpan (s ∷ later) = less90 (doubled (latestEnd (s ∷ later))) (doubled (leastStart (stcStart s) later))
 
--- twice the latest STC end minus the time, not below 0, in minutes rounded down
-unfoldable pub minutesLeft : List Row → Ticks90 → ℕ
-minutesLeft stcs at = minutes (less90 (doubled (latestEnd stcs)) at)
+-- what is left of an STC at a time: its end less the time, a time before its start taken as the start, not below 0
+abbrev pub leftOf : Row → Ticks90 → Ticks90
+leftOf stc at = less90 (doubled (stcEnd stc)) (later90 at (doubled (stcStart stc)))
+
+-- the durations of STCs, added up by the 90 kHz clock
+abbrev pub durationsOf : List Row → Ticks90
+durationsOf [] = record { ticks = 0 }
+durationsOf (s ∷ later) = plus90 (doubled (durationOf s)) (durationsOf later)
+
+-- minutes remaining: what is left of an STC at a time, plus the durations of all later ones, rounded down
+unfoldable pub minutesLeft : Row → List Row → Ticks90 → ℕ
+minutesLeft stc later at = minutes (plus90 (leftOf stc at) (durationsOf later))
 
 -- ---- streams: the first in file order
 
@@ -328,7 +337,7 @@ answer (duration90k stc) c = ofStc (c .stcs) stc (λ s. ticks90 (doubled (durati
 answer presentationSpan90k c = ticks90 (presentationSpan (c .stcs))
 answer (indexedSpan90k m) c = ofMap (c .maps) (c .entries) m (λ es. ticks90 (spanOf es))
 answer transferDurationSecs c = transferSecs (c .scalars .rate) (c .scalars .packets)
-answer (minutesRemaining at) c = number (minutesLeft (c .stcs) at)
+answer (minutesRemaining stc at) c = ofStc (c .stcs) stc (λ s. number (minutesLeft s (drop (suc stc) (c .stcs)) at))
 answer (seekSpn m at) c = ofMap (c .maps) (c .entries) m (λ es. seek es (at .ticks))
 answer (nextSeekSpn m at) c = ofMap (c .maps) (c .entries) m (λ es. nextSeek es (at .ticks))
 answer (primarySeekSpn at) c = ofPrimaryMap (c .maps) (c .entries) (λ es. seek es (at .ticks))
@@ -371,7 +380,7 @@ partsOf (duration90k stc) = stcs ∷ []
 partsOf presentationSpan90k = stcs ∷ []
 partsOf (indexedSpan90k m) = maps ∷ entries ∷ []
 partsOf transferDurationSecs = scalars ∷ []
-partsOf (minutesRemaining at) = stcs ∷ []
+partsOf (minutesRemaining stc at) = stcs ∷ []
 partsOf (seekSpn m at) = maps ∷ entries ∷ []
 partsOf (nextSeekSpn m at) = maps ∷ entries ∷ []
 partsOf (primarySeekSpn at) = maps ∷ entries ∷ []

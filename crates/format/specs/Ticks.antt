@@ -1,5 +1,5 @@
 -- Times: the file's STC times count 45 kHz ticks, entry times and the questions 90 kHz ticks.
-use Prim.Native.Nat.{ℕ, _*_, _-_, _/_}
+use Prim.Native.Nat.{ℕ, _+_, _*_, _-_, _/_, max}
 
 -- a time in 45 kHz ticks
 pub record Ticks45 : Type 0 where
@@ -19,6 +19,14 @@ less45 a b = record { ticks = a .ticks - b .ticks }
 
 abbrev pub less90 : Ticks90 → Ticks90 → Ticks90
 less90 a b = record { ticks = a .ticks - b .ticks }
+
+-- two times added up
+abbrev pub plus90 : Ticks90 → Ticks90 → Ticks90
+plus90 a b = record { ticks = a .ticks + b .ticks }
+
+-- the later of two times
+abbrev pub later90 : Ticks90 → Ticks90 → Ticks90
+later90 a b = record { ticks = max (a .ticks) (b .ticks) }
 
 -- whole minutes of 5,400,000 ticks at 90 kHz, rounded down
 abbrev pub minutes : Ticks90 → ℕ
