@@ -1,5 +1,5 @@
 -- What is left of the STC is added up first, then each turn adds the duration of a later one.
-use Prim.Native.Nat.{ℕ, _+_, _-_, _^_, _<_, _≤_}
+use Prim.Native.Nat.{ℕ, _+_, _-_, _^_, _<_}
 use native.Mathlib.Omega.{arith}
 use denote.Ref.{now}
 use Rattle.ticks.specs.Times.{as45, as90}
@@ -8,8 +8,9 @@ use borrow.Author.Needs.{needs}
 use Rattle.sequence_queries.proofs.minutes_from.Statement.{statement}
 use Rattle.sequence_queries.proofs.minutes_from.Tie as tie
 
+-- what is added up keeps to the whole that the loop began with
 abbrev Inv-loop : tie.InvT-loop
-Inv-loop stcs rows stc left₀ k₀ left k = (stc < k) × (k ≤ rows) × ((whole : ℕ) → Added stcs rows whole k₀ left₀ → Added stcs rows whole k left)
+Inv-loop stcs rows stc left₀ k₀ left k = (whole : ℕ) → Added stcs rows whole k₀ left₀ → Added stcs rows whole k left
 
 abbrev μ-loop : tie.MeasureT-loop
 μ-loop stcs rows stc left₀ k₀ left k = rows - k
@@ -26,8 +27,8 @@ plus-requires c κs =
     let is = none .together in
     (none .below, omega arith)
 
-add-k : tie.Need-add-k Inv-loop μ-loop
-add-k c = search needs
+next-stc : tie.Need-add-k Inv-loop μ-loop
+next-stc c = search needs
 
 -- what the types of two calls' answers say: a u64 has 64 bits, a u32 has 32
 left-fits : (c : tie.After-row-left Inv-loop μ-loop) → as90 (c .row-left .result) .ticks < 2 ^ 64
@@ -44,7 +45,7 @@ first c =
     added-first (now (a .stcs)) (a .rows) (a .stc) (as90 (a .at)) (c .before .before .none .ensures) (c .before .row-left .ensures) (left-fits (c .before)) (c .plus .ensures)
 
 loop-holds : tie.Need-loop-holds Inv-loop μ-loop
-loop-holds c = (omega arith, omega arith, λ whole i. i)
+loop-holds c = λ whole i. i
 
 row-duration-requires : tie.Need-row-duration-requires Inv-loop μ-loop
 row-duration-requires c κs = search needs
@@ -56,7 +57,7 @@ plus-requires-2 : tie.Need-plus-requires-2 Inv-loop μ-loop
 plus-requires-2 c κs =
     let l = c .before .before .before in
     let a = l .before .before .before .before .before .args in
-    few-minutes (now (a .stcs)) (a .rows) (omega arith) (l .loop .inv .2 _ (first (l .before)))
+    few-minutes (now (a .stcs)) (a .rows) (omega arith) (l .loop .inv _ (first (l .before)))
 
 add-k-2 : tie.Need-add-k-2 Inv-loop μ-loop
 add-k-2 c = search needs
@@ -69,13 +70,13 @@ loop-again c =
     let d = c .before .before in
     let l = d .before .before in
     let a = l .before .before .before .before .before .args in
-    (omega arith, omega arith, λ whole i. added-turn (now (a .stcs)) (a .rows) whole (l .loop .k) (omega arith) (d .row-duration .ensures) (duration-fits d) (c .before .doubled .ensures) (c .plus2 .ensures) (l .loop .inv .2 whole i))
+    λ whole i. added-turn (now (a .stcs)) (a .rows) whole (l .loop .k) (omega arith) (d .row-duration .ensures) (duration-fits d) (c .before .doubled .ensures) (c .plus2 .ensures) (l .loop .inv whole i)
 
 returns : tie.Need-returns Inv-loop μ-loop
 returns c =
     let l = c .before in
     let a = l .before .before .before .before .before .args in
-    added-done (now (a .stcs)) (a .rows) (l .loop .k) (a .stc) (as90 (a .at)) (c .loop-test .left) (l .loop .inv .2 _ (first (l .before)))
+    added-done (now (a .stcs)) (a .rows) (l .loop .k) (a .stc) (as90 (a .at)) (c .loop-test .left) (l .loop .inv _ (first (l .before)))
 
 pub minutes-from-spec : {M : Type 1} → statement M
 minutes-from-spec =
@@ -86,7 +87,7 @@ minutes-from-spec =
     none-requires
     row-left-requires
     plus-requires
-    add-k
+    next-stc
     loop-holds
     row-duration-requires
     doubled-requires
