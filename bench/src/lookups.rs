@@ -18,10 +18,10 @@ const ROUNDS: usize = 15;
 
 /// The answer of a question.
 #[repr(C)]
-struct Answer {
-    refusal: u32,
-    found: u32,
-    value: u64,
+pub struct Answer {
+    pub refusal: u32,
+    pub found: u32,
+    pub value: u64,
 }
 
 /// A question of this library on the entries of a map.

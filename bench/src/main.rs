@@ -1,7 +1,8 @@
 //! Reading measured side by side in one process: this library, the Rust, libbluray, and copies of the bytes that are read and stored.
-//! Then writing and rewriting, and lookups of entries by their times.
+//! Then writing and rewriting, lookups of entries by their times, and the minutes remaining.
 mod file;
 mod lookups;
+mod minutes;
 mod writing;
 
 use oracle::bdmv::clpi::ClipInformation;
@@ -104,7 +105,7 @@ fn measure(name: &str, maps: usize, rows: usize, rounds: usize, turns: usize) {
 }
 
 /// A map with as many entries as two hours have seconds, and the largest maps that a file can have; each read, then written and rewritten,
-/// then one map of each asked for times.
+/// then one map of each asked for times; last, the most STCs that a file can have.
 fn main() {
     measure("film", 1, 7_200, 15, 50);
     measure("large file", 4, 262_143, 9, 2);
@@ -112,4 +113,5 @@ fn main() {
     writing::measure("large file", 4, 262_143, file::SECONDS, 9, 2);
     lookups::measure("film", 7_200, file::SECONDS);
     lookups::measure("largest map", 262_143, file::CLOSE);
+    minutes::measure(65_025);
 }
