@@ -2,7 +2,6 @@
 #ifndef MINUTES_H
 #define MINUTES_H
 
-#include <errno.h>
 #include <inttypes.h>
 #include <stdio.h>
 #include <stdlib.h>
@@ -39,19 +38,19 @@ static int is_digit(char c)
     return c >= '0' && c <= '9';
 }
 
-/* The first part of a position, one digit or more; goes on behind it. */
+/* The first part of a position, one digit or more: 2^64 - 1 where that is passed; goes on behind it. */
 static int first_part(const char **word, uint64_t *value)
 {
     char *end;
     if (!is_digit(**word))
         return 0;
-    errno = 0;
     *value = strtoull(*word, &end, 10);
     *word = end;
-    return !errno;
+    return 1;
 }
 
-/* A later part, a colon and two digits below 60: makes minutes of hours, or seconds of minutes; goes on behind it. */
+/* A later part, a colon and two digits below 60: makes minutes of hours, or seconds of minutes, unless these pass 2^64 - 1;
+ * goes on behind it. */
 static int later_part(const char **word, uint64_t *value)
 {
     const char *w = *word;
