@@ -26,7 +26,7 @@ def listed(items):
 def clock(ticks):
     """90 kHz ticks as minutes and seconds."""
     minutes, rest = divmod(ticks, MINUTE)
-    seconds = f"{rest / 90000:.3f}".rstrip("0").rstrip(".")
+    seconds = f"{rest / 90000:.4f}".rstrip("0").rstrip(".")
     return f"{minutes} min {seconds} s"
 
 
@@ -43,6 +43,7 @@ def in_minutes(ticks):
 
 
 def with_minutes(ticks):
+    """A number of ticks, and the same as whole minutes and a rest."""
     return f"{length90(ticks)} = {in_minutes(ticks)}"
 
 

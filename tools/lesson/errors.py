@@ -27,6 +27,7 @@ def command(*place):
 
 
 def entry(k):
+    """The line of the listing."""
     return Asked(f"entry {k}", lambda r: "`ep {time} {packet}`".format(**shown_entry(r.maps[0]["entries"][k])), None)
 
 
@@ -74,6 +75,7 @@ def changes():
 
 
 def changed(file, change):
+    """A file with one byte changed."""
     return file[:change.at] + bytes([change.byte]) + file[change.at + 1:]
 
 
@@ -85,12 +87,14 @@ def change_rows(old, of):
 
 
 def change_table(old):
+    """What is asked before each change."""
     rows = [(number, change.at, f"`{old[change.at]:02X}`", f"`{change.byte:02X}`", words, before)
             for number, change, words, before in change_rows(old, lambda file, _: file)]
     return table(["", "offset", "from", "to", "what is asked", "before"], rows)
 
 
 def change_answers(old):
+    """And after it."""
     rows = [(number, change.at, f"`{change.byte:02X}`", words, after) for number, change, words, after in change_rows(old, changed)]
     return table(["", "offset", "to", "what is asked", "after"], rows)
 
@@ -123,15 +127,17 @@ def figure_errors(r):
          [(PLAIN, start), (PLAIN, forty)]),
         ("the later STCs forgotten", reading.LaterForgotten, "sequence_queries/must-fail/later_rows_forgotten",
          [(PLAIN, start), (PLAIN, end)]),
-        ("the STCs before counted too", reading.EarlierCounted, "sequence_queries/must-fail/rows_from_the_first",
-         [(PLAIN, later_start), (PLAIN, later_end)]),
+        ("the STCs before counted too", reading.EarlierCounted, None, [(PLAIN, later_start), (PLAIN, later_end)]),
+        ("or the durations added from the first STC on", reading.AllCounted, "sequence_queries/must-fail/rows_from_the_first",
+         [(PLAIN, later_start)]),
         ("a time before the start not raised to it", reading.TimeNotRaised, "sequence_queries/must-fail/time_not_raised",
          [(PLAIN, minutes_at(0, 0, "before its start"))]),
         ("the time taken off the latest end of all STCs", reading.LatestEnd, "sequence_queries/must-fail/latest_end",
          [(PLAIN, start), (PLAIN, end), (PLAIN, later_start), (PLAIN, later_end)]),
         ("minutes rounded for each STC, then added", reading.RoundedRowByRow, "sequence_queries/must-fail/rounded_row_by_row",
          [(PLAIN, start), (PLAIN, walk)]),
-        ("an end before its start counted as negative", reading.NegativeDuration, None, [(CROSSED, start)]),
+        ("an end before its start counted as negative", reading.NegativeDuration,
+         "sequence_queries/must-fail/rows_from_the_first`, `below_zero", [(CROSSED, start)]),
     ]
 
 
@@ -193,12 +199,12 @@ def why_minutes(file, crossed):
     """Of the figure."""
     r, latest, bad = Reading(file), reading.LatestEnd(file), Reading(crossed)
     undoubled = reading.TicksNotDoubled(file).left(0, r.start(0))
-    unraised = reading.TimeNotRaised(file).left(0, 0)
+    unraised, every = reading.TimeNotRaised(file).left(0, 0), reading.AllCounted(file).left(1, r.start(1))
     jump, over = latest.left(1, r.start(1)), latest.left(1, r.end(1))
     *_, start, end = bad.stcs[1]
     negative = reading.NegativeDuration(crossed).left(0, r.start(0))
     return {
-        "why_undoubled": with_minutes(undoubled), "why_unraised": with_minutes(unraised),
+        "why_undoubled": with_minutes(undoubled), "why_every": with_minutes(every), "why_unraised": with_minutes(unraised),
         "why_jump": with_minutes(jump), "why_over": with_minutes(over), "why_before_jump": latest.minutes(0, r.end(0)),
         "why_after_jump": latest.minutes(1, r.start(1)), "why_at_end": latest.minutes(1, r.end(1)),
         "why_rest0": r.left_of(0, 0) % MINUTE // 90000, "why_rest1": r.left_of(1, 0) % MINUTE // 90000,

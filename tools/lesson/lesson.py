@@ -144,6 +144,9 @@ def names():
             path = f"crates/{path}.edit"
         if not (ROOT / path).exists() and "CRATE" not in path:
             yield f"no file {path}"
+    for path, part in re.findall(r"`([\w/-]+/must-fail/\w+)`, `(\w+)`", text):
+        if f"\n# {part}: " not in (ROOT / f"crates/{path}.edit").read_text():
+            yield f"no part {part} in {path}.edit"
 
 
 # digits that are words: clocks, names, a list's own numbers

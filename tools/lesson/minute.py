@@ -22,6 +22,8 @@ def atc_fields(at, k):
 
 
 def stc_fields(at, k):
+    """Of STC k, whose start and end are times on its own clock."""
+
     def shown(ticks):
         return place45(ticks, k)
 
@@ -63,6 +65,7 @@ def second_of(r, stc, at):
 
 
 def minutes_table(r, asked):
+    """The figure at places, with what it is added up from."""
     rows = []
     for stc, at, words in asked:
         place90(at, stc)
@@ -148,4 +151,5 @@ def forty_values(r):
 
 
 def values(r):
+    """Every name of the walk with what stands for it."""
     return {**header_values(r), **stc_values(r, 0), **stc_values(r, 1), **figure_values(r), **forty_values(r)}

@@ -1,4 +1,5 @@
 """Checks of docs/MINUTES.md that run ./clip: each yields what it prints otherwise than the page shows."""
+import functools
 import pathlib
 import re
 import subprocess
@@ -22,8 +23,16 @@ def printed(command, folder=ROOT):
     return run.stdout if run.returncode == 0 else f"status {run.returncode}: {run.stdout}{run.stderr}"
 
 
+@functools.cache
+def built():
+    """The program that ./clip runs, once ./clip has built it and the listing program."""
+    printed([ROOT / "clip", "list", ROOT / "samples/lecture.clpi"])
+    return ROOT / "target/tools/clip"
+
+
 def clip(*arguments):
-    return printed([ROOT / "clip", *map(str, arguments)])
+    """What ./clip prints."""
+    return printed([built(), *map(str, arguments)])
 
 
 def figure(r, stc, at):

@@ -177,6 +177,7 @@ class Reading:
         return self.doubled(self.stcs[stc][3])
 
     def end(self, stc):
+        """And its end."""
         return self.doubled(self.stcs[stc][4])
 
     def left_of(self, stc, at):
@@ -225,6 +226,13 @@ class LaterForgotten(Reading):
 class EarlierCounted(Reading):
     def others(self, stc):
         return self.stcs[:stc] + self.stcs[stc + 1:]
+
+
+class AllCounted(Reading):
+    """Adds every duration, that of the STC asked about too."""
+
+    def others(self, stc):
+        return self.stcs
 
 
 class TimeNotRaised(Reading):

@@ -13,6 +13,7 @@ EVERY = {0: 600, 1: 300}  # seconds between the marks of each clock
 NEAR = 180  # seconds before an end in which no other mark is set
 TICKS = 90000
 BLUE = LINE["sequences"]
+DASHED = ' stroke-dasharray="6 4"'
 NUMBERS = ' font-family="DejaVu Sans Mono, Consolas, monospace"'
 
 
@@ -25,6 +26,7 @@ class Scale:
         self.most = r.minutes(0, 0)
 
     def begins(self, stc):
+        """The second from the very start at which an STC begins."""
         return sum(self.longs[:stc])
 
     def x(self, second):
@@ -38,14 +40,17 @@ class Scale:
 
 
 def words(seconds):
+    """Minutes and seconds."""
     return f"{seconds // 60}:{seconds % 60:02}"
 
 
 def line(x1, y1, x2, y2, colour, more=""):
+    """A straight line."""
     return f'<line x1="{x1:.1f}" y1="{y1:.1f}" x2="{x2:.1f}" y2="{y2:.1f}" stroke="{colour}"{more}/>'
 
 
 def centred(x, y, label, size=10, colour=GREY, more=""):
+    """Words in the middle of which x is."""
     return text(round(x, 1), round(y, 1), label, size, colour, ' text-anchor="middle"' + more)
 
 
@@ -55,6 +60,7 @@ def right_of(x, y, label, size=10, colour=GREY, more=""):
 
 
 def bar(x1, x2, y, fill, colour):
+    """A stretch of time."""
     return f'<rect x="{x1:.1f}" y="{y - 7}" width="{x2 - x1:.1f}" height="14" fill="{fill}" stroke="{colour}"/>'
 
 
@@ -100,6 +106,7 @@ def steps(r, scale, reading, stc):
 
 
 def stairs(points, scale, colour, more=""):
+    """A line through the corners of a figure."""
     corners = " ".join(f"{scale.x(second):.1f},{scale.y(minutes):.1f}" for second, minutes in points)
     return f'<polyline points="{corners}" fill="none" stroke="{colour}" stroke-width="1.6"{more}/>'
 
@@ -125,9 +132,8 @@ def dot(second, minutes, scale, colour, label, dx, dy):
 def figure(r, wrong, scale):
     """The right figure, and the one that is taken off the latest end."""
     border, whole = scale.begins(1), scale.whole
-    dashed = ' stroke-dasharray="6 4"'
     old = [steps(r, scale, wrong, k) for k in (0, 1)]
-    shapes = axis(scale) + [stairs(old[0] + old[1], scale, RED, dashed)]
+    shapes = axis(scale) + [stairs(old[0] + old[1], scale, RED, DASHED)]
     shapes.append(stairs(steps(r, scale, r, 0) + steps(r, scale, r, 1), scale, BLUE))
     at = [(0, 0, r.start(0)), (border, 0, r.end(0)), (border, 1, r.start(1)), (whole, 1, r.end(1))]
     right, jump = [r.minutes(stc, time) for _, stc, time in at], [wrong.minutes(stc, time) for _, stc, time in at]
@@ -142,7 +148,7 @@ def figure(r, wrong, scale):
 
 NOTES = [
     (BLUE, "", "the minutes remaining: no jump where the second clock begins"),
-    (RED, ' stroke-dasharray="6 4"', "an error: the time taken off the latest end of all STCs, whatever clock it is on"),
+    (RED, DASHED, "an error: the time taken off the latest end of all STCs, whatever clock it is on"),
 ]
 
 

@@ -19,14 +19,17 @@ def place45(ticks, stc):
 
 
 def place90(ticks, stc):
+    """A place as the player and the entries have it."""
     return time(ticks, 90000, f"on the clock of STC {stc}")
 
 
 def length45(ticks):
+    """How long something is, in 45 kHz ticks."""
     return time(ticks, 45000, LENGTH)
 
 
 def length90(ticks):
+    """And in 90 kHz ticks."""
     return time(ticks, 90000, LENGTH)
 
 
