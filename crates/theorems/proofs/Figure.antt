@@ -1,17 +1,17 @@
 -- Durations, spans and the figure: by the laws of differences, and over the STCs one after the other.
 use Prim.Native.Nat.{ℕ, suc, _+_, _*_, _-_, _/_, _≤_, _<_, max, min}
-use mathlib.Core.Path.{_≡_, refl, ap, _∙_}
-use mathlib.Core.List.{List, [], _∷_, _++_, map, List·Memᴰ·head, List·Memᴰ·tail}
+use mathlib.Core.Path.{_≡_, refl, sym, ap, _∙_}
+use mathlib.Core.List.{List, [], _∷_, _++_, map, append-assoc, List·Memᴰ·head, List·Memᴰ·tail}
 use mathlib.Core.Bool.{Bool, true, false}
 use native.Mathlib.Omega.{arith}
-use lib.ListN.{length, getD, drop, length-map}
+use lib.ListN.{length, getD, drop, length-map, length-append}
 use lib.Dec.{leb}
 use borrow.Author.Tests.{leb-true, leb-false, lt-ltb, le-ltb}
 use Rattle.format.specs.Ticks.{Ticks90}
 use Rattle.format.specs.ClipRecord.{Row, stcStart}
 use Rattle.format.specs.Questions.{refused, number, ticks45, ticks90, minutesRemaining, presentationSpan90k, duration45k, duration90k, latestEnd, leastStart, presentationSpan, durationsOf, minutesLeft, ofStc, answer}
 use Rattle.format.proofs.Lists.{none, more, all-map}
-use Rattle.theorems.specs.Figure.{Stc, stcRow, WithStcs, IsLess, SameTime, IsLatestEnd, IsLeastStart, WholeMinutes, IsSpan, IsLeft, Durations, IsRemaining, Figure}
+use Rattle.theorems.specs.Figure.{Stc, stcRow, WithStcs, IsLess, SameTime, IsLatestEnd, IsLeastStart, WholeMinutes, IsSpan, IsLeft, Durations, IsRemaining, lectures, Worked, Figure}
 
 -- ---- words
 
@@ -102,11 +102,11 @@ durations before s behind c =
     (rw (c .rows, l, e), rw (c .rows, l, e))
 
 -- a row behind the last is refused
-no-duration : (stcs : List Stc) (c : WithStcs stcs) (k : ℕ) (at : Ticks90) → length stcs ≤ k
+no-stc-is : (stcs : List Stc) (c : WithStcs stcs) (k : ℕ) (at : Ticks90) → length stcs ≤ k
     → (answer (duration45k k) (c .clip) ≡ refused 22) × (answer (duration90k k) (c .clip) ≡ refused 22)
     × (answer (minutesRemaining k at) (c .clip) ≡ refused 22)
 unfolding answer ofStc
-no-duration stcs c k at h =
+no-stc-is stcs c k at h =
     let l = le-ltb k (length (map stcRow stcs)) (omega (arith, length-map stcs stcRow)) in
     (rw (c .rows, l), rw (c .rows, l), rw (c .rows, l))
 
@@ -159,16 +159,22 @@ rows-behind : (before : List Stc) (s : Stc) (later : List Stc) → drop (suc (le
 rows-behind [] s later = refl
 rows-behind (x ∷ before) s later = rows-behind before s later
 
--- the figure
+-- the figure of the STC behind some others
+figure-is : (before : List Stc) (s : Stc) (later : List Stc) (c : WithStcs (before ++ (s ∷ later))) (at : Ticks90)
+    → answer (minutesRemaining (length before) at) (c .clip) ≡ number ((2 * s .end - max (at .ticks) (2 * s .start) + durationsOf (map stcRow later) .ticks) / 5400000)
+unfolding answer ofStc minutesLeft
+figure-is before s later c at =
+    let l = lt-ltb (length before) (length (map stcRow (before ++ (s ∷ later)))) (is-there stcRow before s later) in
+    rw (c .rows, l, row-there before s later, rows-behind before s later)
+
+-- it is what is left of the STC and the durations of the later ones, in whole minutes
 remaining-is : (before : List Stc) (s : Stc) (later : List Stc) (c : WithStcs (before ++ (s ∷ later))) (at : Ticks90)
     → (n : ℕ) × (answer (minutesRemaining (length before) at) (c .clip) ≡ number n) × IsRemaining s later (at .ticks) n
-unfolding answer ofStc minutesLeft
 remaining-is before s later c at =
-    let l = lt-ltb (length before) (length (map stcRow (before ++ (s ∷ later)))) (is-there stcRow before s later) in
     let left = 2 * s .end - max (at .ticks) (2 * s .start) in
     let others = durationsOf (map stcRow later) .ticks in (
       (left + others) / 5400000,
-      rw (c .rows, l, row-there before s later, rows-behind before s later),
+      figure-is before s later c at,
       record {
         left = left;
         is-left = left-is s (at .ticks);
@@ -177,6 +183,44 @@ remaining-is before s later c at =
         minutes-are = whole (left + others);
       },
     )
+
+-- an STC that is over leaves what the next one has at its start
+next-is : (s next : Stc) (later at at′ : ℕ) → 2 * s .end ≤ at → at′ ≤ 2 * next .start
+    → 2 * s .end - max at (2 * s .start) + (2 * (next .end - next .start) + later) ≡ 2 * next .end - max at′ (2 * next .start) + later
+next-is s next later at at′ over early = omega arith
+
+-- so the figure is the same there
+steady-is : (before : List Stc) (s next : Stc) (later : List Stc) (c : WithStcs (before ++ (s ∷ next ∷ later))) (at at′ : Ticks90) (end start : ℕ)
+    → SameTime (s .end) end → end ≤ at .ticks → SameTime (next .start) start → at′ .ticks ≤ start
+    → answer (minutesRemaining (length before) at) (c .clip) ≡ answer (minutesRemaining (suc (length before)) at′) (c .clip)
+steady-is before s next later c at at′ end start e over b early =
+    let moved : WithStcs ((before ++ (s ∷ [])) ++ (next ∷ later)) = record { clip = c .clip; rows = rw (append-assoc before (s ∷ []) (next ∷ later)) (c .rows) } in
+    let row : length (before ++ (s ∷ [])) ≡ suc (length before) = length-append before (s ∷ []) ∙ omega arith in
+    figure-is before s (next ∷ later) c at
+    ∙ ap (λ (n : ℕ). number (n / 5400000)) (next-is s next (durationsOf (map stcRow later) .ticks) (at .ticks) (at′ .ticks) (omega arith) (omega arith))
+    ∙ sym (rw row at (figure-is (before ++ (s ∷ [])) next later moved at′))
+
+-- the worked cases, each by the figure of its STC
+worked-are : (c : WithStcs lectures) → Worked c
+worked-are c =
+    let first = figure-is [] _ _ c in
+    let middle = figure-is (_ ∷ []) _ _ c in
+    let final = figure-is (_ ∷ _ ∷ []) _ _ c in
+    record {
+      before = first _;
+      start = first _;
+      last = first _;
+      next = first _;
+      end = first _;
+      past = first _;
+      empty = middle _;
+      later-before = final _;
+      later-start = final _;
+      later-last = final _;
+      later-next = final _;
+      later-end = final _;
+      latest = final _;
+    }
 
 -- without STCs there is no span
 no-span-is : (c : WithStcs []) → answer presentationSpan90k (c .clip) ≡ ticks90 (record { ticks = 0 })
@@ -191,8 +235,10 @@ figure = record {
       let d = durations before s behind c in
       let t = s .end - s .start in
       (t, 2 * t, d .0, d .1, record { is-45 = less-is (s .end) (s .start); is-90 = twice t });
-  no-stc = no-duration;
+  no-stc = no-stc-is;
   span = span-is;
   no-span = no-span-is;
   remaining = remaining-is;
+  steady = steady-is;
+  worked = worked-are;
 }

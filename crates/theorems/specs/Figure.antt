@@ -1,5 +1,5 @@
 -- Durations, the presentation span and the front figure in words: a clock's rate, the latest end, the least start, whole minutes.
-use Prim.Native.Nat.{ℕ, _+_, _*_, _≤_}
+use Prim.Native.Nat.{ℕ, suc, _+_, _*_, _≤_}
 use mathlib.Core.Path.{_≡_}
 use mathlib.Core.List.{List, [], _∷_, _++_, map, List·Memᴰ}
 use lib.ListN.{length}
@@ -99,6 +99,37 @@ pub record IsRemaining (s : Stc) (later : List Stc) (at minutes : ℕ) : Type 0 
   pub others-are : Durations later others
   pub minutes-are : WholeMinutes (left + others) minutes
 
+-- ---- worked cases
+
+-- two lectures whose clocks each begin again, of 40 min 30 s and 10 min 40 s, with an STC between them that ends before it starts
+abbrev pub lectures : List Stc
+lectures =
+    record { pid = 4097; packet = 0; start = 2430000; end = 111780000 }
+    ∷ record { pid = 4097; packet = 70000000; start = 4500000; end = 1800000 }
+    ∷ record { pid = 4097; packet = 75937500; start = 675000; end = 29475000 }
+    ∷ []
+
+-- the figure of them at a time of one
+abbrev pub Shows : WithStcs lectures → (stc at minutes : ℕ) → Type 0
+Shows c stc at minutes = answer (minutesRemaining stc (record { ticks = at })) (c .clip) ≡ number minutes
+
+-- before the first start and at it; a tick before and a tick behind the last at which 51 whole minutes are left; at the first end and behind it
+-- the STC without a duration; before the last start, at it, at its end, and as late as can be
+pub record Worked (c : WithStcs lectures) : Type 0 where
+  pub before : Shows c 0 0 51
+  pub start : Shows c 0 4860000 51
+  pub last : Shows c 0 5760000 51
+  pub next : Shows c 0 5760001 50
+  pub end : Shows c 0 223560000 10
+  pub past : Shows c 0 223560001 10
+  pub empty : Shows c 1 0 10
+  pub later-before : Shows c 2 0 10
+  pub later-start : Shows c 2 1350000 10
+  pub later-last : Shows c 2 4950000 10
+  pub later-next : Shows c 2 4950001 9
+  pub later-end : Shows c 2 58950000 0
+  pub latest : Shows c 2 18446744073709551615 0
+
 -- ---- all of it
 
 -- the statements together, of any record
@@ -119,3 +150,8 @@ pub record Figure : Type 0 where
   -- the front figure at a time of an STC, with the STCs behind it, whatever stands before
   pub remaining : (before : List Stc) (s : Stc) (later : List Stc) (c : WithStcs (before ++ (s ∷ later))) (at : Ticks90)
       → (n : ℕ) × (answer (minutesRemaining (length before) at) (c .clip) ≡ number n) × IsRemaining s later (at .ticks) n
+  -- it falls without a jump: at the end of an STC or later it is what it is at the start of the next one or before, whatever their clocks say
+  pub steady : (before : List Stc) (s next : Stc) (later : List Stc) (c : WithStcs (before ++ (s ∷ next ∷ later))) (at at′ : Ticks90) (end start : ℕ)
+      → SameTime (s .end) end → end ≤ at .ticks → SameTime (next .start) start → at′ .ticks ≤ start
+      → answer (minutesRemaining (length before) at) (c .clip) ≡ answer (minutesRemaining (suc (length before)) at′) (c .clip)
+  pub worked : (c : WithStcs lectures) → Worked c
