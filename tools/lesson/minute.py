@@ -99,7 +99,7 @@ def header_values(r):
     stc0, stc1 = r.stcs[0][0], r.stcs[1][0]
     low, end = file[11], file[stc0 + 10:stc0 + 14]
     return {
-        "zero": 0, "one": 1, "two": 2, "four": 4, "six": 6, "file_bytes": len(file),
+        "zero": 0, "one": 1, "four": 4, "six": 6, "file_bytes": len(file),
         "sequences": sequences, "sequences_bytes": programs - sequences, "dump_starts": dump(file, starts_fields()),
         "sequences_low": f"{low:02X}", "sequences_sum": f"{low // 16} × 16 + {low % 16} = {low}",
         "dump_sequences": dump(file, sequences_fields(sequences) + atc_fields(sequences + 6, 0)), "seq_line": line_of(r, "seq"),
