@@ -25,7 +25,7 @@ library = target/staticlib/libclpi.a
 lister = target/bin/list_clip
 rattle = crates.txt $(shell find crates -name '*.rt' -o -name '*.antt')
 examples = $(notdir $(wildcard examples/*.c examples/*.h))
-sources = tools/clip.c tools/list.h tools/words.h examples/clip_file.h examples/new_file.h include/clpi.h
+sources = tools/clip.c tools/list.h tools/minutes.h tools/words.h examples/clip_file.h examples/new_file.h include/clpi.h
 
 all: $(library) $(lister) target/install/clip
 

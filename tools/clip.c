@@ -13,6 +13,7 @@
 #include "clip_file.h"
 #include "clpi.h"
 #include "list.h"
+#include "minutes.h"
 #include "new_file.h"
 #include "words.h"
 
@@ -212,30 +213,6 @@ static int rewrite(const char *old_path, const char *new_path)
     return status;
 }
 
-/* clip minutes FILE TIME */
-static int minutes(const char *path, uint64_t at)
-{
-    struct clpi_tables t = {0};
-    struct clpi_reading r;
-    struct clpi_answer left;
-    size_t bytes;
-    int status = DONE;
-    uint8_t *file = load(path, &bytes);
-    if (!file)
-        return failed(path);
-    r = read_clip(file, bytes, &t);
-    if (r.refusal) {
-        status = refused(path, r.refusal);
-    } else {
-        left = clpi_minutes_remaining((const uint8_t *)t.stcs, t.stcs_room * sizeof *t.stcs, r.stcs, at);
-        printf("%" PRIu64 "\n", left.value);
-        status = printed();
-    }
-    free_tables(&t);
-    free(file);
-    return status;
-}
-
 /* Tells whether a word asks for help. */
 static int asks_help(const char *word)
 {
@@ -261,14 +238,13 @@ static int wrong_word(int words, char **argv)
     else if (words == 3 && strcmp(argv[1], "rewrite") == 0)
         fprintf(stderr, "clip: '%s' looks like a switch: for a file of that name, say './%s'\n", argv[3], argv[3]);
     else if (words == 3 && strcmp(argv[1], "minutes") == 0)
-        fprintf(stderr, "clip: '%s' is no time: a whole number of 90 kHz ticks, at most %" PRIu64 "\n", argv[3], UINT64_MAX);
+        fprintf(stderr, "clip: '%s': a time needs its STC: clip minutes FILE STC TIME\n", argv[3]);
     return wrong_use();
 }
 
 int main(int argc, char **argv)
 {
     const char *command = argc > 1 ? argv[1] : "";
-    uint64_t at;
     if ((argc == 2 || argc == 3) && (strcmp(command, "help") == 0 || asks_help(command)))
         return help(argv[2]);
     if (argc == 3 && asks_help(argv[2]))
@@ -279,7 +255,9 @@ int main(int argc, char **argv)
         return list(argv[2]);
     if (argc == 4 && strcmp(command, "rewrite") == 0 && argv[3][0] != '-')
         return rewrite(argv[2], argv[3]);
-    if (argc == 4 && strcmp(command, "minutes") == 0 && number(argv[3], &at))
-        return minutes(argv[2], at);
+    if (argc == 3 && strcmp(command, "minutes") == 0)
+        return minutes(argv[2], "0", "0");
+    if (argc == 5 && strcmp(command, "minutes") == 0)
+        return minutes(argv[2], argv[3], argv[4]);
     return wrong_word(argc - 1, argv);
 }

@@ -20,6 +20,8 @@ static const char *words_for(uint32_t refusal)
     switch (refusal) {
     case CLPI_REFUSED_TABLE_SHORT:
         return "there is no memory for a table as long as the file's rows need";
+    case CLPI_REFUSED_ROWS:
+        return "the file has no such STC (clip minutes)";
     default:
         return clpi_refusal_words(refusal);
     }
@@ -46,7 +48,7 @@ static const uint32_t refusals[] = {
 
 /* Whose fault they are. */
 static const char refusals_told[] =
-    "1 to 8 are faults of the file. 22, 23, 30 and 40 come from the library alone, to\n"
+    "1 to 8 are faults of the file. 23, 30 and 40 come from the library alone, to\n"
     "programs that call it.\n";
 /* end of what tools/refusals makes */
 
@@ -79,11 +81,11 @@ static int printed(void)
 /* ---- help */
 
 static const char usage[] =
-    "usage: clip list [FILE]         print the listing of a clip file, or of standard input\n"
-    "       clip rewrite OLD NEW     write the record of OLD as a new file; NEW must not be there yet\n"
-    "       clip minutes FILE TIME   print the minutes remaining at a time in 90 kHz ticks\n"
-    "       clip help [WHAT]         say more of list, rewrite, minutes or refusals\n"
-    "       clip --version           print the version\n";
+    "usage: clip list [FILE]              print the listing of a clip file, or of standard input\n"
+    "       clip rewrite OLD NEW          write the record of OLD as a new file; NEW must not be there yet\n"
+    "       clip minutes FILE [STC TIME]  print the minutes remaining at the start, or at a time of an STC\n"
+    "       clip help [WHAT]              say more of list, rewrite, minutes or refusals\n"
+    "       clip --version                print the version\n";
 
 static const char overview[] =
     "\n"
@@ -93,14 +95,16 @@ static const char overview[] =
     "\n"
     "Exit status:\n"
     "  0  all is done\n"
-    "  1  the file is refused: standard error has the number and words for it\n"
+    "  1  the file is refused, or has no such STC: standard error has the number and\n"
+    "     words for it\n"
     "  2  the arguments are wrong, or NEW is there already\n"
     "  3  the system failed (no such file, no space), or the copy is not what it must be\n"
     "\n"
     "Examples:\n"
     "  clip list 00001.clpi\n"
     "  clip rewrite 00001.clpi 00001.new\n"
-    "  clip minutes 00001.clpi 216000000     40 x 60 x 90000: minute 40 from 0\n"
+    "  clip minutes 00001.clpi               at the clip's start\n"
+    "  clip minutes 00001.clpi 0 +40:00      40 minutes from the start of STC 0\n"
     "\n"
     "The manual page is clip(1).\n";
 
@@ -172,21 +176,38 @@ static const char help_rewrite[] =
     "The second gives up the old file. Look first at the line that the first prints.\n";
 
 static const char help_minutes[] =
-    "usage: clip minutes FILE TIME\n"
+    "usage: clip minutes FILE\n"
+    "       clip minutes FILE STC TIME\n"
     "\n"
-    "Prints the minutes remaining at TIME: up to the latest end of the file's STC\n"
-    "sequences, rounded down. It is 0 after that end, and in a file without such\n"
-    "sequences. TIME is in 90 kHz ticks, of which a minute has 5400000: a whole\n"
-    "number from 0 to 18446744073709551615. It is a time on the clock of these\n"
-    "sequences, as 'ep' lines have it, and not counted from the clip's start.\n"
+    "Prints the minutes remaining in a clip, at its start or at a place in it. A clip\n"
+    "is made of STC sequences, each with a clock of its own; a place is one of them\n"
+    "and a time on its clock. What remains there is the end of that STC less the time,\n"
+    "plus the durations of all later STCs. The sum is rounded down to whole minutes.\n"
+    "\n"
+    "STC is a number, counted from 0 in the order of the file. 'clip list' tells how\n"
+    "many there are, by the second number of its 'seq' line. A file that has no such\n"
+    "STC, or none at all, is refused by 22.\n"
+    "\n"
+    "TIME is one of these:\n"
+    "  27000000  90 kHz ticks, 90000 a second, on the clock of that STC, as the times\n"
+    "            of its 'ep' lines are; at most 18446744073709551615\n"
+    "  +40:00    minutes and seconds from the start of that STC; the minutes may be\n"
+    "            any number, as in +75:30\n"
+    "  +1:15:30  hours, minutes and seconds from the start of that STC\n"
+    "A clock seldom starts at 0. A time before the start of its STC is taken as the\n"
+    "start, so 0 asks there. At the end of an STC, or past it, the later ones remain,\n"
+    "as at the start of the next: the figure falls from STC to STC without a jump.\n"
     "\n"
     "FILE is only read.\n"
     "\n"
-    "Exit status: 0 the figure is printed, 1 the file is refused, 2 the arguments are\n"
-    "wrong, 3 the system failed.\n"
+    "Exit status: 0 the figure is printed, 1 the file is refused or has no such STC,\n"
+    "2 the arguments are wrong, 3 the system failed.\n"
     "\n"
-    "Example, at minute 40 of a clip whose clock starts at 0: 40 x 60 x 90000 ticks:\n"
-    "  clip minutes 00001.clpi 216000000\n";
+    "Examples: at the start of a clip; 40 minutes from the start of its first STC; and\n"
+    "where the clock of its second STC shows 27000000 ticks, which are 5 minutes:\n"
+    "  clip minutes 00001.clpi\n"
+    "  clip minutes 00001.clpi 0 +40:00\n"
+    "  clip minutes 00001.clpi 1 27000000\n";
 
 /* Prints the refusals and their words. */
 static int help_refusals(void)
@@ -195,10 +216,11 @@ static int help_refusals(void)
     for (size_t i = 0; i < sizeof refusals / sizeof *refusals; i++)
         printf("  %2" PRIu32 "  %s\n", refusals[i], words_for(refusals[i]));
     printf("\n%s\n"
-           "An entry index or marks that start at 0, or at or past the file's end, are no\n"
-           "fault: the file has none. 'clip list' has lower limits for 20 and 21, which\n"
-           "'clip help list' tells. What the system can't do is told in the system's words,\n"
-           "without a number.\n",
+           "By 22 'clip minutes' refuses an STC that the file has not, and nothing else is\n"
+           "wrong with it. An entry index or marks that start at 0, or at or past the file's\n"
+           "end, are no fault: the file has none. 'clip list' has lower limits for 20 and 21,\n"
+           "which 'clip help list' tells. What the system can't do is told in the system's\n"
+           "words, without a number.\n",
            refusals_told);
     return printed();
 }

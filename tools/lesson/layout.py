@@ -1,5 +1,7 @@
-"""The picture of docs/MINUTES.md: the three sample files as bars of their bytes, drawn from what the reading finds."""
+"""The first picture of docs/MINUTES.md: the three sample files as bars of their bytes, drawn from what the reading finds."""
 from html import escape
+
+from times import place45
 
 PIXELS = 4  # a byte's height
 TOP = 92  # where byte 0 is
@@ -81,7 +83,7 @@ def sequence_parts(r):
     for k, (at, _, stcs, _) in enumerate(r.atcs):
         yield "sequences", at, 6, [f"ATC {k}: " + counted(stcs, "STC")]
     for k, (at, _, _, first, end) in enumerate(r.stcs):
-        yield "sequences", at, 14, [f"STC {k}", f"start {first:,}", f"end {end:,}"]
+        yield "sequences", at, 14, [f"STC {k}", f"start {place45(first, k)}", f"end {place45(end, k)}"]
 
 
 def program_parts(r):

@@ -1,19 +1,18 @@
-"""Makes the sample files, the picture and docs/MINUTES.md, or checks that they are what would be made, that every name in
-the page is there, and that the programs print what the page shows."""
-import pathlib
+"""Makes the sample files, the pictures and docs/MINUTES.md, or checks that they are what would be made, that every name in
+the page is there, that its numbers are told apart, and that the programs print what the page shows."""
 import re
-import subprocess
 import sys
-import tempfile
 
 import errors
 import layout
 import page
+import programs
 import sample
+import timelines
+import times
 from blocks import unpacked
+from programs import ROOT
 from reading import MINUTE, OneBehindTheOther, Reading
-
-ROOT = pathlib.Path(__file__).resolve().parents[2]
 
 
 def made():
@@ -21,6 +20,7 @@ def made():
     files = sample.files()
     results = {f"samples/{name}.clpi": data for name, data in files.items()}
     results["docs/layout.svg"] = layout.picture([Reading(data) for data in files.values()]).encode()
+    results["docs/timelines.svg"] = timelines.picture(files["lecture"]).encode()
     results["docs/MINUTES.md"] = page.page(files, ROOT).encode()
     return results
 
@@ -36,71 +36,46 @@ def differences():
             yield f"{path} is not what tools/lesson/make makes"
 
 
-def clip(*arguments):
-    run = subprocess.run([ROOT / "clip", *map(str, arguments)], stdout=subprocess.PIPE, stderr=subprocess.PIPE, text=True)
-    return run.stdout if run.returncode == 0 else f"status {run.returncode}: {run.stderr}"
-
-
-def outputs():
-    """Programs that print something else than the page shows, on the files that are in the repository."""
-    times = page.times(Reading(sample.files()["lecture"]))
-    for name in sample.files():
-        file = ROOT / "samples" / f"{name}.clpi"
-        r = Reading(file.read_bytes())
-        printed = clip("list", file)
-        if printed != r.listing():
-            yield f"clip list {file.name}: {printed!r}, and by the page {r.listing()!r}"
-        for at, _ in times:
-            printed = clip("minutes", file, at)
-            if printed != f"{r.minutes(at)}\n":
-                yield f"clip minutes {file.name} {at}: {printed!r}, and by the page {r.minutes(at)}"
-
-
-def rewritten(data):
-    """What rewriting makes of a file with these bytes; nothing where it fails."""
-    with tempfile.TemporaryDirectory() as folder:
-        old, new = pathlib.Path(folder, "old"), pathlib.Path(folder, "new")
-        old.write_bytes(data)
-        clip("rewrite", old, new)
-        return new.read_bytes() if new.exists() else b""
-
-
-def rewritings():
-    """New files of another length or language than the page says, equal where it says different, or the other way."""
-    files = sample.files()
-    new = {name: rewritten(data) for name, data in files.items()}
-    for name, data in new.items():
-        if len(data) != page.rewritten_bytes(Reading(files[name])) or b"eng" not in data or b"ENG" in data:
-            yield f"clip rewrite {name}.clpi: another new file than the page tells of"
-    same = [data == new["lecture"] for data in new.values()]
-    same += [rewritten(errors.changed(files["lecture"], *errors.CHANGES[k][:2])) == new["lecture"] for k in (4, 6, 7)]
-    if same != [True, True, False, True, True, False]:
-        yield "the new files are not equal and different as the page says"
-
-
-def changes():
-    """Programs that print something else than the page tells of a changed file."""
-    for at, byte, asked in errors.CHANGES:
-        data = errors.changed(sample.files()[errors.PLAIN], at, byte)
-        r = Reading(data)
-        with tempfile.NamedTemporaryFile() as file:
-            file.write(data)
-            file.flush()
-            if clip("list", file.name) != r.listing() or clip("minutes", file.name, 0) != f"{r.minutes(0)}\n":
-                yield f"byte {at} changed to {byte}: ./clip prints something else than the page has"
-
-
 def wrong_numbers():
-    """Errors that give the right number, and files that are not as alike as the page says."""
+    """Errors that give the right number or are not explained, and files that are not as alike as the page says."""
     files = sample.files()
-    for _, words, name, what, right, wrong, _ in errors.error_rows(files):
+    for _, words, name, asked, right, wrong, _ in errors.error_rows(files):
         if right == wrong:
-            yield f"an error that does not show: {words}, {name}, {what}: {right}"
+            yield f"an error that does not show: {words}, {name}, {asked.words}: {right}"
+    told = re.search(r"^Why these numbers:\n(.+?)^## ", (ROOT / "tools/lesson/page.md").read_text(), re.M | re.S)[1]
+    numbers = [row[0] for row in errors.error_rows(files) if row[0]]
+    if [int(number) for number in re.findall(r"^(\d+)\. ", told, re.M)] != numbers:
+        yield "the numbers of the errors are not those of their explanations"
     plain = Reading(files["lecture"]).listing()
     if OneBehindTheOther(files["lecture"]).listing() != plain:
         yield "sections one behind the other: wrong on the plain file too"
     if Reading(files["lecture_backwards"]).listing() != plain:
         yield "the backwards file has another listing"
+
+
+def times_apart():
+    """Numbers of the page or of a picture that are two different times, or of which it is not known what they are."""
+    shown, files = times.collected(made)
+    yield from times.clashes(shown)
+    for path in ("docs/MINUTES.md", "docs/layout.svg", "docs/timelines.svg"):
+        text = re.sub(r"<(?!text|title)[^>]*>|(?<=<text)[^>]*", "", files[path].decode())
+        yield from (f"{path}: {words}" for words in times.unknown(shown, text))
+
+
+def times_test():
+    """Whether the check before this one can fail: a minute of 45 kHz is half a minute of 90 kHz, and so on."""
+    clashing = [
+        [(times.length45, 60), (times.length90, 30)], [(times.place45, 60, 0), (times.place45, 60, 1)],
+        [(times.place90, 60, 0), (times.length90, 60)], [(times.place45, 60, 1), (times.place90, 30, 1)],
+    ]
+    hertz = {times.length45: 45000, times.place45: 45000, times.length90: 90000, times.place90: 90000}
+    for pair in clashing:
+        shown, _ = times.collected(lambda: [show(seconds * hertz[show], *stc) for show, seconds, *stc in pair])
+        if len(list(times.clashes(shown))) != 1 or list(times.clashes(shown[:1] * 2)):
+            yield f"a number that is two different times is not found: {shown}"
+    shown, _ = times.collected(lambda: times.length90(MINUTE))
+    if list(times.unknown(shown, f"{MINUTE:,} {MINUTE}")) or not list(times.unknown(shown, f"{MINUTE + 1:,}")):
+        yield "a number of which it is not known what it is is not found"
 
 
 def source(crate, *module):
@@ -119,7 +94,12 @@ def is_function(path):
 
 
 CONSTANTS = [
-    ("Ticks", "doubled", "2 * t .ticks"), ("Ticks", "minutes", f"t .ticks / {MINUTE}"), ("EntryPoints", "bodyAt", "c + 6 +"),
+    ("Ticks", "doubled", "2 * t .ticks"), ("Ticks", "minutes", f"t .ticks / {MINUTE}"), ("Ticks", "later90", "max (a .ticks) (b .ticks)"),
+    ("Questions", "leftOf", "less90 (doubled (stcEnd stc)) (later90 at (doubled (stcStart stc)))"),
+    ("Questions", "durationOf", "less45 (stcEnd stc) (stcStart stc)"), ("Questions", "durationsOf", "plus90 (doubled (durationOf s))"),
+    ("Questions", "minutesLeft", "minutes (plus90 (leftOf stc at) (durationsOf later))"),
+    ("Questions", "answer", "ofStc (c .stcs) stc (λ s. number (minutesLeft s (drop (suc stc) (c .stcs)) at))"),
+    ("Questions", "unless22", "unless22 false answer = refused 22"), ("EntryPoints", "bodyAt", "c + 6 +"),
     ("EntryPoints", "joinTime", "coarse * 524288 % 2 ^ 32"), ("EntryPoints", "joinTime", "fine * 512"),
     ("EntryPoints", "joinPacket", "coarse / 2 ^ 17 * 2 ^ 17 + fine"), ("Questions", "packetBytes", "4 + 188"),
 ]
@@ -133,7 +113,7 @@ def rules():
     """Rules that the definitions state in another way than the page."""
     for file, name, words in CONSTANTS:
         if words not in " ".join(page.definition(ROOT, file, name)):
-            yield f"{file}: {name} no longer has '{words}'"
+            yield f"{file}: {name} does not have '{words}'"
     for m in Reading(sample.files()["lecture"]).maps:
         for (name, fields), rows in zip(FIELDS, ([m], m["coarse"], m["fine"])):
             for row in rows:
@@ -158,15 +138,19 @@ def names():
     for call in re.findall(r"`(?:struct )?(clpi_\w+)`", text):
         if not re.search(rf"\b{call}\b", header):
             yield f"no {call} in include/clpi.h"
-    for path in re.findall(r"`([\w.-]+/[\w./-]+)`", text):
+    for path in re.findall(r"`([\w.-]+/[\w./-]+)`|\]\(([\w.-]+)\)", text):
+        path = path[0] or f"docs/{path[1]}"
         if "/must-fail/" in path:
             path = f"crates/{path}.edit"
         if not (ROOT / path).exists() and "CRATE" not in path:
             yield f"no file {path}"
+    for path, part in re.findall(r"`([\w/-]+/must-fail/\w+)`, `(\w+)`", text):
+        if f"\n# {part}: " not in (ROOT / f"crates/{path}.edit").read_text():
+            yield f"no part {part} in {path}.edit"
 
 
-# digits that are words: clocks, names, a list's own numbers, the time 0 of a command
-ALLOWED = r"(45|90) kHz|^(#+ )?\d+\. |\btable 2\b|\{\{.+?\}\}|[A-Za-z]\w*\d|-t x1|\.clpi 0$"
+# digits that are words: clocks, names, a list's own numbers
+ALLOWED = r"(45|90) kHz|^(#+ )?\d+\. |\btable 2\b|\bSTC [01]\b|\{\{.+?\}\}|[A-Za-z]\w*\d|-t x1"
 
 
 def numbers():
@@ -176,7 +160,7 @@ def numbers():
             yield f"tools/lesson/page.md has a number that is not computed: {line}"
 
 
-CHECKS = (differences, outputs, rewritings, changes, wrong_numbers, rules, names, numbers)
+CHECKS = (differences, wrong_numbers, times_apart, times_test, rules, names, numbers, *programs.CHECKS)
 
 
 def main(arguments):

@@ -2,12 +2,16 @@
 import re
 
 import errors
-from blocks import binary, bits, block, by_bytes, clock, dump, hexed, in_minutes, table
-from reading import MINUTE, Reading
+import minute
+from blocks import binary, bits, block, clock, dump, hexed, table
+from minute import atc_fields, line_of, sequences_fields, starts_fields, stc_fields
+from reading import Reading
+from times import length90, place90, plain
 
 PACKET_BYTES = 192
-AT = 20 * 90000  # the time asked for in the walk
 EXAMPLE = 5  # the entry that is joined in the walk
+COARSE, FINE = 524288, 512  # what the coarse and the fine time count, in 90 kHz ticks
+PACKETS = 131072  # and the high part of a coarse packet, in packets
 
 
 # ---- definitions, quoted
@@ -17,88 +21,16 @@ def spec(root, file):
     return (root / "crates/format/specs" / f"{file}.antt").read_text()
 
 
-def definition(root, file, name):
-    """The lines of a definition behind its type."""
+def definition(root, file, name, part=""):
+    """The lines of a definition behind its type; those with a part in them."""
     lines = spec(root, file).splitlines()
     first = next(k for k, line in enumerate(lines) if re.match(rf"\w+ pub {name} :", line)) + 1
     behind = next((k for k in range(first, len(lines)) if not lines[k].strip()), len(lines))
-    return lines[first:behind]
+    return [line for line in lines[first:behind] if part in line]
 
 
 def widths(root, name):
     return [int(w) for w in re.findall(r"\d+", definition(root, "EntryPoints", name)[0])]
-
-
-# ---- the first walk: the fields of dumps, and the table of minutes
-
-
-def starts_fields():
-    return [(8 + 4 * k, 4, name) for k, name in enumerate(("sequences", "programs", "CPI", "marks", "extensions"))]
-
-
-def sequences_fields(start):
-    return [(start, 4, "length (ignored)"), (start + 4, 1, "spare"), (start + 5, 1, "number of ATCs")]
-
-
-def atc_fields(at, k):
-    return [(at, 4, f"ATC {k}: packet"), (at + 4, 1, "number of STCs"), (at + 5, 1, "offset id")]
-
-
-def stc_fields(at, k):
-    return [(at, 2, f"STC {k}: PID"), (at + 2, 4, "packet"), (at + 6, 4, "start"), (at + 10, 4, "end")]
-
-
-def times(r):
-    """The times for which the minutes are shown, with words for each."""
-    end = r.left(0)
-    near, last = end % MINUTE, end - MINUTE
-    return [
-        (0, clock(0)), (AT, clock(AT)),
-        (near - 1, "one tick before"), (near, clock(near)), (near + 1, "one tick after"),
-        (errors.FORTY, clock(errors.FORTY)), (last, clock(last)), (last + 1, "one tick after"),
-        (end, clock(end) + ", the end"), (end + 1, "one tick past the end"), (2**64 - 1, "the greatest time"),
-    ]
-
-
-def minutes_table(r):
-    rows = []
-    for at, words in times(r):
-        left = r.left(at)
-        rows.append((f"`{at}`", words, f"{left:,}" + (f" = {in_minutes(left)}" if left else ""), f"`{r.minutes(at)}`"))
-    return table(["TIME", "is", "ticks left", "`./clip minutes samples/lecture.clpi TIME`"], rows)
-
-
-def line_of(r, word):
-    """The last line of the listing that begins with a word."""
-    return [line for line in r.listing().splitlines() if line.split()[0] == word][-1]
-
-
-def place_values(r):
-    """From the header to the STCs."""
-    file, (sequences, programs, _, _) = r.file, r.starts()
-    stc0, stc1 = r.stcs[0][0], r.stcs[1][0]
-    low, end = file[11], file[stc0 + 10:stc0 + 14]
-    return {
-        "zero": 0, "one": 1, "two": 2, "four": 4, "six": 6, "file_bytes": len(file),
-        "sequences": sequences, "sequences_bytes": programs - sequences, "dump_starts": dump(file, starts_fields()),
-        "sequences_low": f"{low:02X}", "sequences_sum": f"{low // 16} × 16 + {low % 16} = {low}",
-        "dump_sequences": dump(file, sequences_fields(sequences) + atc_fields(sequences + 6, 0)), "seq_line": line_of(r, "seq"),
-        "stc_count": len(r.stcs), "stc0": stc0, "stc1": stc1, "stc_bytes": stc1 - stc0,
-        "dump_stcs": dump(file, stc_fields(stc0, 0) + stc_fields(stc1, 1)), "latest_bytes": hexed(end), "latest_sum": by_bytes(end),
-    }
-
-
-def figure_values(r):
-    """From the STCs' ends to the minute."""
-    latest, end, left = r.latest_end(), r.left(0), r.left(AT)
-    return {
-        "end0": f"{r.stcs[0][-1]:,}", "end1": f"{r.stcs[1][-1]:,}", "latest": f"{latest:,}", "doubled": f"{r.doubled(latest):,}",
-        "second45": f"{45000:,}", "second90": f"{90000:,}", "seconds": 60, "minute": f"{MINUTE:,}",
-        "last": f"{end - MINUTE:,}", "minutes_last": r.minutes(end - MINUTE), "minutes_past": r.minutes(end - MINUTE + 1),
-        "minutes_end": r.minutes(end), "minutes_at_0": r.minutes(0),
-        "at_a": f"{AT:,}", "left_a": f"{left:,}", "in_minutes_a": in_minutes(left), "minutes_a": r.minutes(AT),
-        "minutes_table": minutes_table(r),
-    }
 
 
 # ---- the second walk
@@ -107,14 +39,14 @@ def figure_values(r):
 def coarse_table(r):
     rows = []
     for k, c in enumerate(r.maps[0]["coarse"]):
-        rows.append((k, c["at"], f"`{hexed(c['bytes'])}`", c["first"], c["time"], f"{c['packet']:,}"))
+        rows.append((k, c["at"], f"`{hexed(c['bytes'])}`", c["first"], c["time"], plain(c["packet"])))
     return table(["coarse row", "offset", "bytes", "first fine row", "time", "packet"], rows)
 
 
 def fine_table(r):
     rows = []
     for k, f in enumerate(r.maps[0]["fine"]):
-        rows.append((k, f["at"], f"`{hexed(f['bytes'])}`", f["angle"], f["i_end"], f"{f['time']:,}", f"{f['packet']:,}"))
+        rows.append((k, f["at"], f"`{hexed(f['bytes'])}`", f["angle"], f["i_end"], plain(f["time"]), plain(f["packet"])))
     return table(["fine row", "offset", "bytes", "angle", "I-end", "time", "packet"], rows)
 
 
@@ -122,9 +54,9 @@ def entry_table(r):
     m, rows = r.maps[0], []
     for e in m["entries"]:
         c, f = m["coarse"][e["coarse"]], m["fine"][e["k"]]
-        time = f"{c['time']} × {524288:,} OR {f['time']:,} × {512}"
-        packet = f"{c['packet'] // 131072} × {131072:,} + {f['packet']:,}"
-        rows.append((e["k"], e["coarse"], time, f"{e['time']:,}", clock(e["time"]), packet, f"{e['packet']:,}"))
+        time = f"{c['time']} × {length90(COARSE)} OR {plain(f['time'])} × {FINE}"
+        packet = f"{c['packet'] // PACKETS} × {plain(PACKETS)} + {plain(f['packet'])}"
+        rows.append((e["k"], e["coarse"], time, place90(e["time"], 0), clock(e["time"]), packet, plain(e["packet"])))
     return table(["fine row", "coarse row", "joined time", "time", "is", "joined packet", "packet"], rows)
 
 
@@ -132,8 +64,8 @@ def or_block(c, f):
     """The coarse and the fine time as bits, joined by OR and added, with a mark below the bit that they share."""
     high, low = c["time"] << 19, f["time"] << 9
     lines = [
-        ("coarse", f"{c['time']} × {524288:,}", high, ""), ("fine", f"{f['time']:,} × {512}", low, ""),
-        ("OR", "", high | low, f"{high | low:,}"), ("sum", "", high + low, f"{high + low:,}, which is wrong"),
+        ("coarse", f"{c['time']} × {length90(COARSE)}", high, ""), ("fine", f"{plain(f['time'])} × {FINE}", low, ""),
+        ("OR", "", high | low, place90(high | low, 0)), ("sum", "", high + low, f"{place90(high + low, 0)}, which is wrong"),
     ]
     rows = [f"{name:<7}{product:>13}  {binary(value, [12, 1, 10, 9])}  {result}" for name, product, value, result in lines]
     return block(rows + [" " * (7 + 13 + 2 + 12 + 1) + "^ bit 19"])
@@ -145,7 +77,7 @@ def packet_block(c, f, packet):
         ("coarse packet", c["packet"], binary(c["packet"], [15, 17])), ("fine packet", f["packet"], " " * 16 + binary(f["packet"], [17])),
         ("packet", packet, binary(packet, [15, 17])),
     ]
-    return block(f"{name:<14}{value:>11,}  {digits}" for name, value, digits in lines)
+    return block(f"{name:<14}{plain(value):>11}  {digits}" for name, value, digits in lines)
 
 
 def map_values(r, root):
@@ -176,18 +108,33 @@ def row_values(r, root):
 
 
 def entry_values(r):
-    """An entry's time and packet, and what the player does with them."""
+    """An entry's time and packet."""
     m, e = r.maps[0], r.maps[0]["entries"][EXAMPLE]
     c, f = m["coarse"][e["coarse"]], m["fine"][e["k"]]
     return {
-        "coarse_unit": f"{524288:,}", "fine_unit": 512, "shared_bit": 19, "fine_half": f"{1024:,}", "or_block": or_block(c, f),
-        "coarse_time_example": c["time"], "fine_time_example": f"{f['time']:,}",
-        "time_example": f"{e['time']:,}", "time_example_words": clock(e["time"]), "ep_line": line_of(r, "ep"),
-        "packet_unit": f"{131072:,}", "packet_block": packet_block(c, f, e["packet"]), "packet_high": c["packet"] // 131072,
-        "coarse_packet_example": f"{c['packet']:,}", "fine_packet_example": f"{f['packet']:,}",
-        "packet_example": f"{r.seek(e['time']):,}", "entry_table": entry_table(r), "listing": block(r.listing().splitlines()),
-        "minute_example": e["time"] // MINUTE, "minutes_example": r.minutes(e["time"]),
-        "packet_bytes": PACKET_BYTES, "byte_example": f"{e['packet'] * PACKET_BYTES:,}",
+        "coarse_unit": length90(COARSE), "fine_unit": FINE, "shared_bit": 19, "fine_half": plain(1024), "or_block": or_block(c, f),
+        "coarse_time_example": c["time"], "fine_time_example": plain(f["time"]),
+        "time_example": place90(e["time"], 0), "time_example_words": clock(e["time"]), "ep_line": line_of(r, "ep"),
+        "packet_unit": plain(PACKETS), "packet_block": packet_block(c, f, e["packet"]), "packet_high": c["packet"] // PACKETS,
+        "coarse_packet_example": plain(c["packet"]), "fine_packet_example": plain(f["packet"]),
+        "packet_example": plain(r.seek(e["time"])), "entry_table": entry_table(r), "listing": listing(r),
+    }
+
+
+def listing(r):
+    """The listing, whose rate and numbers of packets are no times."""
+    plain(r.number(52, 4, 3))
+    plain(r.number(56, 4, 3))
+    return block(r.listing().splitlines())
+
+
+def stream_values(r):
+    """What the player does with an entry: where it reads, and how far in that is."""
+    e, rate = r.maps[0]["entries"][EXAMPLE], r.number(52, 4, 3)
+    packets = rate // PACKET_BYTES
+    return {
+        "packet_bytes": PACKET_BYTES, "byte_example": plain(e["packet"] * PACKET_BYTES), "rate": plain(rate), "rate_packets": plain(packets),
+        "seconds_example": plain(e["packet"] // packets), "packet1": plain(r.stcs[1][2]),
     }
 
 
@@ -205,9 +152,9 @@ def header_as_sequences(r):
     for k, (at, *_) in enumerate(r.atcs):
         fields += atc_fields(at, k)
     fields += stc_fields(r.stcs[0][0], 0)
-    wide = max(len(words) for _, _, words in fields)
-    shared = [", ".join(name for a, m, name in HEADER if a < at + n and at < a + m) for at, n, _ in fields]
-    return [(at, n, f"{words:<{wide}}  in the header: {names}") for (at, n, words), names in zip(fields, shared)]
+    wide = max(len(words) for _, _, words, *_ in fields)
+    shared = [", ".join(name for a, m, name in HEADER if a < at + n and at < a + m) for at, n, *_ in fields]
+    return [(at, n, f"{words:<{wide}}  in the header: {names}", *shown) for (at, n, words, *shown), names in zip(fields, shared)]
 
 
 def rewritten_bytes(r):
@@ -220,10 +167,10 @@ def rewritten_bytes(r):
     return size
 
 
-def layout_values(plain, backwards, over):
+def layout_values(first, backwards, over):
     cpi, shared = over.starts()[2], over.starts()[1]
-    language = plain.streams[1][0] + 5
-    capitals = plain.file[language:language + 3]
+    language = first.streams[1][0] + 5
+    capitals = first.file[language:language + 3]
     shared_fields = [
         (shared, 4, "fine row 5; the programs' length; the marks' length"),
         (shared + 4, 2, "a spare byte and the number of programs; the number of marks"),
@@ -231,8 +178,8 @@ def layout_values(plain, backwards, over):
     return {
         "dump_backwards": dump(backwards.file, starts_fields()), "dump_overlapping": dump(over.file, header_as_sequences(over)),
         "overlap_end": cpi + 4 + over.number(cpi, 4, 6), "dump_shared": dump(over.file, shared_fields),
-        "listing_overlapping": block(over.listing().splitlines()),
-        "rewritten_bytes": rewritten_bytes(plain), "rewritten_overlapping_bytes": rewritten_bytes(over),
+        "listing_overlapping": listing(over), "minutes_overlapping": over.minutes(0, over.start(0)),
+        "rewritten_bytes": rewritten_bytes(first), "rewritten_overlapping_bytes": rewritten_bytes(over),
         "capitals": hexed(capitals), "small": hexed(capitals.lower()),
     }
 
@@ -241,16 +188,17 @@ def layout_values(plain, backwards, over):
 
 
 def call(root):
-    """The two lines of the example that read a file and ask for the minutes."""
-    lines = (root / "examples/minutes.c").read_text().splitlines()
-    return block(line.strip() for line in lines if "read_clip(" in line or "clpi_minutes_remaining(" in line)
+    """The statements of the example that read a file and ask for the minutes."""
+    text = (root / "examples/minutes.c").read_text()
+    calls = [re.search(rf"^( *)[^\n]*\b{name}\([^;]*;", text, re.M) for name in ("read_clip", "clpi_minutes_remaining")]
+    return block(line.removeprefix(match[1]) for match in calls for line in match[0].splitlines())
 
 
 def values(files, root):
     readings = [Reading(data) for data in files.values()]
-    plain = readings[0]
+    first = readings[0]
     known = {
-        **place_values(plain), **figure_values(plain), **map_values(plain, root), **row_values(plain, root), **entry_values(plain),
+        **minute.values(first), **map_values(first, root), **row_values(first, root), **entry_values(first), **stream_values(first),
         **layout_values(*readings), **errors.values(files), "call": call(root),
     }
     return {name: str(value) for name, value in known.items()}

@@ -44,7 +44,34 @@ class Reading:
         return False
 
     def doubled(self, ticks45):
+        """The doubling: 45 kHz ticks as 90 kHz ticks."""
         return 2 * ticks45
+
+    def raised(self, at, start):
+        """A time before the start is taken as the start."""
+        return max(at, start)
+
+    def duration(self, start, end):
+        """How long an STC is, in 45 kHz ticks: an end before its start makes it 0."""
+        return max(end - start, 0)
+
+    def others(self, stc):
+        """The STCs whose durations are added to what is left of this one."""
+        return self.stcs[stc + 1:]
+
+    def left(self, stc, at):
+        """90 kHz ticks that are left at a time on the clock of an STC."""
+        return self.left_of(stc, at) + sum(self.durations(stc))
+
+    def minutes(self, stc, at):
+        """The figure. An STC that is not there is refused."""
+        if stc >= len(self.stcs):
+            raise Refused(22)
+        return self.whole_minutes(stc, at)
+
+    def whole_minutes(self, stc, at):
+        """Rounded down once, over the sum."""
+        return self.left(stc, at) // MINUTE
 
     def body_at(self, cpi, address):
         return cpi + 6 + address
@@ -145,15 +172,21 @@ class Reading:
 
     # ---- what is asked
 
-    def latest_end(self):
-        return max((end for *_, end in self.stcs), default=0)
+    def start(self, stc):
+        """An STC's start by the 90 kHz clock."""
+        return self.doubled(self.stcs[stc][3])
 
-    def left(self, at):
-        """90 kHz ticks from a time to the latest end, not below 0."""
-        return max(self.doubled(self.latest_end()) - at, 0)
+    def end(self, stc):
+        """And its end."""
+        return self.doubled(self.stcs[stc][4])
 
-    def minutes(self, at):
-        return self.left(at) // MINUTE
+    def left_of(self, stc, at):
+        """90 kHz ticks that are left of an STC itself, not below 0."""
+        return max(self.end(stc) - self.raised(at, self.start(stc)), 0)
+
+    def durations(self, stc):
+        """The durations that are added, in 90 kHz ticks."""
+        return [self.doubled(self.duration(start, end)) for *_, start, end in self.others(stc)]
 
     def found(self, at):
         """The first map's entry with the greatest time not above this one; the first of all if all are later."""
@@ -185,9 +218,43 @@ class TicksNotDoubled(Reading):
         return ticks45
 
 
-class LastRowsEnd(Reading):
-    def latest_end(self):
-        return self.stcs[-1][-1]
+class LaterForgotten(Reading):
+    def others(self, stc):
+        return []
+
+
+class EarlierCounted(Reading):
+    def others(self, stc):
+        return self.stcs[:stc] + self.stcs[stc + 1:]
+
+
+class AllCounted(Reading):
+    """Adds every duration, that of the STC asked about too."""
+
+    def others(self, stc):
+        return self.stcs
+
+
+class TimeNotRaised(Reading):
+    def raised(self, at, start):
+        return at
+
+
+class LatestEnd(Reading):
+    """Counts to the latest end of all STCs, whatever clock it is on."""
+
+    def left(self, stc, at):
+        return max(max(self.end(k) for k in range(len(self.stcs))) - at, 0)
+
+
+class RoundedRowByRow(Reading):
+    def whole_minutes(self, stc, at):
+        return sum(ticks // MINUTE for ticks in [self.left_of(stc, at)] + self.durations(stc))
+
+
+class NegativeDuration(Reading):
+    def duration(self, start, end):
+        return end - start
 
 
 class TimesAdded(Reading):

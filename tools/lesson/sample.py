@@ -5,12 +5,15 @@ FIRST = (54 * 45000, (41 * 60 + 24) * 45000)
 LATER = (15 * 45000, (10 * 60 + 55) * 45000)
 SECOND = 31250  # packets of 192 bytes in a second, at 6,000,000 bytes a second
 
-# (time in 90 kHz ticks, packet): three pairs of entries, a second apart; the last one is at minute 40
-ENTRIES = [
-    (10546 * 512, 0), (10722 * 512, SECOND),
-    (11425 * 512, 5 * SECOND), (11601 * 512, 6 * SECOND),
-    (421699 * 512, 2339 * SECOND), (421875 * 512, 2340 * SECOND),
-]
+
+
+def entry(second):
+    """(time in 90 kHz ticks, packet) at a second of the first clock; times are multiples of 512, so the next one is taken."""
+    return -(-90000 * second // 512) * 512, (second - FIRST[0] // 45000) * SECOND
+
+
+# three pairs of entries of the first lecture: where it begins, a little later, and at minute 40 of its clock
+ENTRIES = [entry(second) for second in (54, 55, 61, 62, 2399, 2400)]
 
 CLIP_INFO = 40
 SECTIONS = 220  # where the first section stands, behind a ClipInfo of 176 bytes and its length
