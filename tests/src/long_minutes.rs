@@ -216,12 +216,7 @@ const CASES: &[Case] = &[
     Case::new(
         "no row",
         &[],
-        &[
-            (0, 0, Refused),
-            (0, 18_446_744_073_709_551_615, Refused),
-            (1, 0, Refused),
-            (MOST, 0, Refused),
-        ],
+        &[(0, 0, Refused), (0, 18_446_744_073_709_551_615, Refused), (1, 0, Refused), (MOST, 0, Refused)],
     ),
     Case {
         name: "30, 7 and 4 minutes, one more row stated than lent",
@@ -244,13 +239,7 @@ const CASES: &[Case] = &[
         cut: 0,
         asked: &[(0, 0, Minutes(37)), (1, 0, Minutes(7)), (2, 0, Refused)],
     },
-    Case {
-        name: "30 minutes, no row stated",
-        stcs: &[[0, 81_000_000]],
-        stated: -1,
-        cut: 0,
-        asked: &[(0, 0, Refused)],
-    },
+    Case { name: "30 minutes, no row stated", stcs: &[[0, 81_000_000]], stated: -1, cut: 0, asked: &[(0, 0, Refused)] },
 ];
 
 impl Wanted {

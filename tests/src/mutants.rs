@@ -147,7 +147,7 @@ fn rule_caught(answer: WrongAnswer, words: &str, questions: &[Question], count: 
         questions.iter().filter_map(|&question| answerer_caught(answer, question, count)).collect();
     let [file, hand] = [|seeds: &(u64, u64)| seeds.0, |seeds: &(u64, u64)| seeds.1]
         .map(|seed| caught.iter().map(seed).max().unwrap_or(0));
-    let files = if NOT_BY_FILES.contains(&answer) { "no file can".into() } else { format!("files to seed {file}") };
+    let files = if NOT_BY_FILES.contains(&answer) { "no made file".into() } else { format!("files to seed {file}") };
     println!("{files}, tables made by hand to seed {hand} catch {} of {}: {words}", caught.len(), questions.len());
     caught.len()
 }

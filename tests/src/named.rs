@@ -7,12 +7,7 @@ use crate::compare::{Difference, must};
 pub type Named = (String, Result<(), Difference>);
 
 /// Asks one question, whose answer must be the one wanted.
-pub fn ask(
-    question: Question,
-    input: &Input,
-    wanted: Answer,
-    answerer: &mut impl Answerer,
-) -> Result<(), Difference> {
+pub fn ask(question: Question, input: &Input, wanted: Answer, answerer: &mut impl Answerer) -> Result<(), Difference> {
     let given = answerer.ask(question, input);
     must(given == wanted, || format!("{question:?}: answered {given:?}, not {wanted:?}"))
 }
