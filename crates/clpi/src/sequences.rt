@@ -21,12 +21,17 @@ use sequence_queries::minutes_remaining;
 use sequence_queries::presentation_span_90k;
 use ticks::Ticks90;
 
-// Minutes remaining at a 90 kHz time.
+// Minutes remaining at a 90 kHz time of an STC, with all later STCs.
 #[no_mangle]
-pub extern "C" fn clpi_minutes_remaining(stcs: &[u8], rows: u32, at_90k: u64) -> ClpiAnswer
-    ensures { λ r. ⌜ foundNumbers r ≡ answerNumbers (ask (minutesRemaining (record { ticks = «at_90k» })) (onlyStcs (stated (now (stcs .entry)) rows))) ⌝ }
+pub extern "C" fn clpi_minutes_remaining(
+    stcs: &[u8],
+    rows: u32,
+    stc: u32,
+    at_90k: u64,
+) -> ClpiAnswer
+    ensures { λ r. ⌜ foundNumbers r ≡ answerNumbers (ask (minutesRemaining stc (record { ticks = «at_90k» })) (onlyStcs (stated (now (stcs .entry)) rows))) ⌝ }
 {
-    answer_of(minutes_remaining(stcs, rows, Ticks90(at_90k)))
+    answer_of(minutes_remaining(stcs, rows, stc, Ticks90(at_90k)))
 }
 
 // The presentation span in 90 kHz ticks.

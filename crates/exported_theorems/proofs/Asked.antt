@@ -96,7 +96,7 @@ module _ (f : List ℕ) (h : Rewritable f) {s t : ClipTables} (hs : HoldsClip s 
     clpi_duration_45k = stcs-alike (λ o. of.duration45k (o .0)) (λ o. refl) (λ x. x .allowed);
     clpi_duration_90k = stcs-alike (λ o. of.duration90k (o .0)) (λ o. refl) (λ x. x .allowed);
     clpi_presentation_span_90k = stcs-alike (λ o. of.presentationSpan90k) (λ o. refl) (λ x. x .allowed);
-    clpi_minutes_remaining = stcs-alike (λ o. of.minutesRemaining (record { ticks = o .0 })) (λ o. refl) (λ x. x .allowed);
+    clpi_minutes_remaining = stcs-alike (λ o. of.minutesRemaining (o .0) (record { ticks = o .1 .0 })) (λ o. refl) (λ x. x .allowed);
     clpi_stcs_of_atc = on-tables (from-tables rows (λ o s₁ t₁ s₂ t₂ a b c d. own-numbered (own-stcs f h (o .0) s₁ t₁ s₂ t₂ a b c d)) (λ x. x .allowed)) (hs .atcs) (ht .atcs) (hs .stcs) (ht .stcs);
     clpi_stc_sequence_by_id = atcs-alike (λ o. of.stcSequenceById (o .0)) (λ o. refl) (λ x. x .allowed);
     clpi_stc_sequence_for_spn = atcs-alike (λ o. of.stcSequenceForSpn (o .0) (o .1 .0)) (λ o. refl) (λ x. x .allowed);

@@ -156,7 +156,7 @@ module _ (l : ClipTables) (c : Clip) (s : Shaped c) where
   same-answer presentationSpan90k (more h none) = rw (stcs-held h)
   same-answer (indexedSpan90k m) (more hm (more he none)) = rw (maps-held hm, entries-held he)
   same-answer transferDurationSecs (more h none) = rw h
-  same-answer (minutesRemaining at) (more h none) = rw (stcs-held h)
+  same-answer (minutesRemaining stc at) (more h none) = rw (stcs-held h)
   same-answer (seekSpn m at) (more hm (more he none)) = rw (maps-held hm, entries-held he)
   same-answer (nextSeekSpn m at) (more hm (more he none)) = rw (maps-held hm, entries-held he)
   same-answer (primarySeekSpn at) (more hm (more he none)) = rw (maps-held hm, entries-held he)

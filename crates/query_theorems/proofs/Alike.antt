@@ -28,7 +28,7 @@ module _ (f : List ℕ) (h : Rewritable f) where
     duration_45k = from-table time45 (λ o. of-stcs f h (of.duration45k (o .0)) refl) (λ x. x .allowed);
     duration_90k = from-table time90 (λ o. of-stcs f h (of.duration90k (o .0)) refl) (λ x. x .allowed);
     presentation_span_90k = from-table time90 (λ o. of-stcs f h of.presentationSpan90k refl) (λ x. x .allowed);
-    minutes_remaining = from-table found (λ o. of-stcs f h (of.minutesRemaining (as90 (o .0))) refl) (λ x. x .allowed);
+    minutes_remaining = from-table found (λ o. of-stcs f h (of.minutesRemaining (o .0) (as90 (o .1 .0))) refl) (λ x. x .allowed);
     stcs_of_atc = from-tables own (λ o. own-stcs f h (o .0)) (λ x. x .allowed);
     stc_sequence_by_id = from-tables found (λ o. of-atcs f h (of.stcSequenceById (o .0)) refl) (λ x. x .allowed);
     stc_sequence_for_spn = from-tables found (λ o. of-atcs f h (of.stcSequenceForSpn (o .0) (o .1 .0)) refl) (λ x. x .allowed);

@@ -1,22 +1,25 @@
--- The latest end and the least start while a loop goes over the STCs, and the tests that a question begins with.
-use Prim.Native.Nat.{ℕ, suc, _+_, _*_, _-_, _<_, _≤_, max, min}
+-- The latest end, the least start and the minutes added up while a loop goes over the STCs, and the tests that a question begins with.
+use Prim.Native.Nat.{ℕ, suc, _+_, _*_, _-_, _/_, _^_, _<_, _≤_, max, min}
 use mathlib.Core.Path.{_≡_, refl, sym, ap, _∙_}
 use mathlib.Core.List.{List, [], _∷_}
 use mathlib.Core.Bool.{Bool, false, not}
+use native.Mathlib.Nat.{zero-add}
 use native.Mathlib.Omega.{arith}
-use lib.ListN.{getD}
+use lib.ListN.{getD, drop}
 use lib.Dec.{lit<}
 use borrow.Author.Tests.{lt-ltb, le-ltb}
 use Rattle.format.specs.ClipRecord.{Row, stcStart}
-use Rattle.format.specs.Ticks.{Ticks45, Ticks90, doubled, less45, less90, minutes}
-use Rattle.format.specs.Questions.{Question, firstStcSequence, minutesRemaining, presentationSpan90k, Answer, refused, none, number, ticks90, stcs, partsOf, latestEnd, leastStart, presentationSpan, minutesLeft, durationOf, ofStc, answer, ask}
+use Rattle.format.specs.Ticks.{Ticks45, Ticks90, doubled, less45, less90, later90}
+use Rattle.format.specs.Questions.{Question, firstStcSequence, presentationSpan90k, Answer, refused, none, number, ticks90, stcs, partsOf, latestEnd, leastStart, presentationSpan, durationOf, leftOf, durationsOf, minutesLeft, ofStc, answer, ask}
 use Rattle.format.specs.Tables.{cellsAt, tableRows, stcCells, isStated, clipIn, stated}
-use Rattle.format.proofs.Cell.{row-cell, cell-of}
+use Rattle.format.proofs.Cell.{item-at, row-cell, cell-of}
 use Rattle.format.proofs.Rows.{rows-length}
 use Rattle.cells.specs.Reads.{CellIs}
+use Rattle.ticks.specs.Times.{inTicks, IsSum}
+use Rattle.ticks.specs.declared.Minutes.{Minutes}
 use Rattle.queries.specs.Asked.{onlyStcs}
 use Rattle.queries.proofs.Asking.{answered}
-use Rattle.table_rows.proofs.Scans.{rowsLeft, left-all, left-turn, left-done}
+use Rattle.table_rows.proofs.Scans.{rowsLeft, left-all, left-turn, left-done, left-from}
 
 module _ (t : List ℕ) (n : ℕ) where
   -- the latest of the ends seen and those left is that of all
@@ -63,6 +66,11 @@ module _ (t : List ℕ) (n : ℕ) where
   pub least-done : {whole : Ticks45} (k : ℕ) (least : Ticks45) → n ≤ k → Least whole k least → least ≡ whole
   least-done k least h i = rw (left-done stcCells t n k h) at i
 
+-- row k of a table
+row-of : (t : List ℕ) (n k : ℕ) → k < n → getD (tableRows stcCells t n) k [] ≡ cellsAt t stcCells (4 * stcCells * k)
+unfolding tableRows
+row-of t n k h = item-at (cellsAt t stcCells) [] (4 * stcCells) 0 n k h ∙ ap (cellsAt t stcCells) (zero-add (4 * stcCells * k))
+
 -- ---- the answers
 
 -- a question about one row: none such, or that row answers
@@ -85,12 +93,6 @@ unfolding presentationSpan
 span-of s later v e = let m : min v (stcStart s .ticks) ≡ stcStart s .ticks = omega arith in rw (leastStart, m)
 
 module _ (t : List ℕ) (n : ℕ) where
-  -- twice the latest end less the time, in minutes, is what remains
-  pub minutes-are : (at : Ticks90) {latest : Ticks45} {twice left : Ticks90} {r : ℕ} → latest ≡ latestEnd (tableRows stcCells t n) → twice ≡ doubled latest
-      → left ≡ less90 twice at → r ≡ minutes left → number r ≡ answer (minutesRemaining at) (clipIn (onlyStcs (stated t n)))
-  unfolding answer clipIn minutesLeft
-  minutes-are at e d l m = rw (m, l, d, e)
-
   -- without STCs the span is 0
   pub no-span : n ≡ 0 → ticks90 (record { ticks = 0 }) ≡ answer presentationSpan90k (clipIn (onlyStcs (stated t n)))
   unfolding answer clipIn presentationSpan tableRows
@@ -115,6 +117,67 @@ module _ (t : List ℕ) (n : ℕ) where
       let end = cell-of stcCells t n k 3 h (lit< tt) (omega arith) (e .same) in
       let start = cell-of stcCells t n k 2 h (lit< tt) (omega arith) (s .same) in
       rw (r, end, start)
+
+  -- twice the end of STC k less the time or, if that is later, twice its start, is what is left of it
+  pub left-is : (k : ℕ) (at : Ticks90) {s e : ℕ} {end start from r : Ticks90} → k < n → CellIs t (16 * k + 12) e → CellIs t (16 * k + 8) s
+      → end ≡ doubled (record { ticks = e }) → start ≡ doubled (record { ticks = s }) → from ≡ later90 at start → r ≡ less90 end from
+      → r ≡ leftOf (getD (tableRows stcCells t n) k []) at
+  left-is k at h e s a b f r =
+      let end = cell-of stcCells t n k 3 h (lit< tt) (omega arith) (e .same) in
+      let start = cell-of stcCells t n k 2 h (lit< tt) (omega arith) (s .same) in
+      rw (r, f, a, b, end, start)
+
+-- ---- the minutes of an STC and of all later ones
+
+module _ (t : List ℕ) (n : ℕ) where
+  -- what is added up and what the STCs from k on add make the whole. One time of 64 bits has at most 2^42 minutes, an STC at most 1,591
+  pub record Added (whole k : ℕ) (m : Minutes) : Type 0 where
+    pub below : m .ticks < 5400000
+    pub few : m .whole ≤ 2 ^ 42 + 1592 * k
+    pub together : inTicks m + durationsOf (rowsLeft stcCells t n k) .ticks ≡ whole
+
+  -- the whole: what is left of STC k, and the durations of those behind it
+  abbrev pub wholeFrom : ℕ → Ticks90 → ℕ
+  wholeFrom k at = leftOf (getD (tableRows stcCells t n) k []) at .ticks + durationsOf (drop (suc k) (tableRows stcCells t n)) .ticks
+
+  -- before the first turn what is left of STC k is added
+  pub added-first : (k : ℕ) (at : Ticks90) {none m : Minutes} {left : Ticks90} → IsSum none 0 → left ≡ leftOf (getD (tableRows stcCells t n) k []) at → left .ticks < 2 ^ 64
+      → IsSum m (inTicks none + left .ticks) → Added (wholeFrom k at) (k + 1) m
+  added-first k at {none = z} {m = m} {left = left} empty is small sum =
+      let e : k + 1 ≡ suc k = omega arith in
+      let rows : rowsLeft stcCells t n (k + 1) ≡ drop (suc k) (tableRows stcCells t n) = left-from stcCells t n (k + 1) ∙ ap (λ (i : ℕ). drop i (tableRows stcCells t n)) e in
+      let same = ap (λ (x : Ticks90). x .ticks) is in
+      let none-is = empty .together in
+      let sum-is = sum .together in
+      let together : inTicks m + durationsOf (drop (suc k) (tableRows stcCells t n)) .ticks ≡ wholeFrom k at = omega (arith, same, none-is, sum-is) in
+      record { below = sum .below; few = omega (arith, none-is, sum-is, small); together = rw rows together }
+
+  -- no more minutes than 64 bits hold, for as many STCs as 32 bits count
+  pub few-minutes : {whole k : ℕ} {m : Minutes} → k < 2 ^ 32 → Added whole k m → (m .ticks < 5400000) × (m .whole < 2 ^ 63)
+  few-minutes h i = let few = i .few in (i .below, omega arith)
+
+  -- a turn adds the duration of STC k
+  pub added-turn : (whole k : ℕ) {m new : Minutes} {d : Ticks45} {twice : Ticks90} → k < n → d ≡ durationOf (getD (tableRows stcCells t n) k []) → d .ticks < 2 ^ 32
+      → twice ≡ doubled d → IsSum new (inTicks m + twice .ticks) → Added whole k m → Added whole (k + 1) new
+  added-turn whole k {m = m} {new = new} {d = d} {twice = twice} h is small e sum i =
+      let row : d ≡ durationOf (cellsAt t stcCells (4 * stcCells * k)) = is ∙ ap durationOf (row-of t n k h) in
+      let ticks : twice .ticks ≡ 2 * d .ticks = ap (λ (x : Ticks90). x .ticks) e in
+      let same = ap (λ (x : Ticks45). x .ticks) row in
+      let left = rw (left-turn stcCells t n k h) at (i .together) in
+      let sum-is = sum .together in
+      let before = i .few in
+      let below = i .below in
+      record { below = sum .below; few = omega (arith, ticks, small, sum-is, before, below); together = omega (arith, ticks, same, left, sum-is) }
+
+  -- behind the last STC the minutes are those of the whole
+  pub added-done : (k j : ℕ) (at : Ticks90) {m : Minutes} → n ≤ k → Added (wholeFrom j at) k m
+      → m .whole ≡ minutesLeft (getD (tableRows stcCells t n) j []) (drop (suc j) (tableRows stcCells t n)) at
+  unfolding minutesLeft
+  added-done k j at {m = m} h i =
+      let all = rw (left-done stcCells t n k h) at (i .together) in
+      let below = i .below in
+      let e : m .whole ≡ wholeFrom j at / 5400000 = omega (arith, all, below) in
+      e
 
 -- ---- the first row
 

@@ -1,9 +1,9 @@
 // Questions about the STC sequences: the first, how long they are, and how many minutes remain.
 ghost use mathlib.Core.Path.{_≡_};
 ghost use mathlib.Core.List.{[]};
-ghost use lib.ListN.{getD};
-ghost use Prim.Native.Nat.{_≤_, _<_, max, min};
-ghost use Rattle.format.specs.Questions.{ask, firstStcSequence, duration45k, duration90k, presentationSpan90k, minutesRemaining, latestEnd, leastStart, durationOf};
+ghost use lib.ListN.{getD, drop};
+ghost use Prim.Native.Nat.{suc, _≤_, _<_, max, min};
+ghost use Rattle.format.specs.Questions.{ask, firstStcSequence, duration45k, duration90k, presentationSpan90k, minutesRemaining, latestEnd, leastStart, durationOf, leftOf, minutesLeft};
 ghost use Rattle.format.specs.Tables.{tableRows, rowRoom, stcCells, stated};
 ghost use Rattle.ticks.specs.Times.{as45, as90};
 ghost use Rattle.queries.specs.Answers.{foundOf, time45Of, time90Of};
@@ -13,6 +13,7 @@ use queries::Found;
 use queries::Time45;
 use queries::Time90;
 use table_rows::own::is_stated;
+use ticks::Minutes;
 use ticks::Ticks45;
 use ticks::Ticks90;
 
@@ -70,16 +71,6 @@ fn least_start(stcs: &[u8], rows: u32, first: Ticks45) -> Ticks45
     least
 }
 
-// Minutes remaining at a time: twice the latest end less the time, not below 0, in whole minutes.
-pub fn minutes_remaining(stcs: &[u8], rows: u32, at: Ticks90) -> Found
-    ensures { λ r. ⌜ foundOf r ≡ ask (minutesRemaining (as90 at)) (onlyStcs (stated (now (stcs .entry)) rows)) ⌝ }
-{
-    if !is_stated(stcs, rows, STC) {
-        return Found::Refused(22);
-    }
-    Found::Number(latest_end(stcs, rows).doubled().less(at).minutes())
-}
-
 // The presentation span: twice the latest end less twice the least start, not below 0; 0 without STCs.
 pub fn presentation_span_90k(stcs: &[u8], rows: u32) -> Time90
     ensures { λ r. ⌜ time90Of r ≡ ask presentationSpan90k (onlyStcs (stated (now (stcs .entry)) rows)) ⌝ }
@@ -105,6 +96,44 @@ fn row_duration(stcs: &[u8], rows: u32, stc: u32) -> Ticks45
     let end = Ticks45(cell_at(stcs, at + END));
     let start = Ticks45(cell_at(stcs, at + START));
     end.less(start)
+}
+
+// What is left of a row at a time: twice its end less the time, a time before twice its start taken as that, not below 0.
+fn row_left(stcs: &[u8], rows: u32, stc: u32, at: Ticks90) -> Ticks90
+    requires { ⌜ (rows ≤ rowRoom stcCells (now stcs)) × (stc < rows) ⌝ }
+    ensures { λ r. ⌜ as90 r ≡ leftOf (getD (tableRows stcCells (now (stcs .entry)) rows) stc []) (as90 at) ⌝ }
+{
+    let place = ROW * (stc as usize);
+    let end = Ticks45(cell_at(stcs, place + END));
+    let start = Ticks45(cell_at(stcs, place + START));
+    end.doubled().less(at.later(start.doubled()))
+}
+
+// The minutes of what is left of a row at a time and of all later rows: added up, then rounded down.
+fn minutes_from(stcs: &[u8], rows: u32, stc: u32, at: Ticks90) -> u64
+    requires { ⌜ (rows ≤ rowRoom stcCells (now stcs)) × (stc < rows) ⌝ }
+    ensures { λ r. ⌜ r ≡ minutesLeft (getD (tableRows stcCells (now (stcs .entry)) rows) stc []) (drop (suc stc) (tableRows stcCells (now (stcs .entry)) rows)) (as90 at) ⌝ }
+{
+    let mut left = Minutes::none().plus(row_left(stcs, rows, stc, at));
+    let mut k: u32 = stc + 1;
+    while k < rows {
+        left = left.plus(row_duration(stcs, rows, k).doubled());
+        k += 1;
+    }
+    left.whole
+}
+
+// Minutes remaining at a time of an STC: what is left of it, and all later STCs.
+pub fn minutes_remaining(stcs: &[u8], rows: u32, stc: u32, at: Ticks90) -> Found
+    ensures { λ r. ⌜ foundOf r ≡ ask (minutesRemaining stc (as90 at)) (onlyStcs (stated (now (stcs .entry)) rows)) ⌝ }
+{
+    if !is_stated(stcs, rows, STC) {
+        return Found::Refused(22);
+    }
+    if stc >= rows {
+        return Found::Refused(22);
+    }
+    Found::Number(minutes_from(stcs, rows, stc, at))
 }
 
 // How long an STC is, by its own clock.

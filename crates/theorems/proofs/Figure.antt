@@ -1,17 +1,17 @@
 -- Durations, spans and the figure: by the laws of differences, and over the STCs one after the other.
-use Prim.Native.Nat.{ℕ, _+_, _*_, _-_, _/_, _≤_, _<_, max, min}
+use Prim.Native.Nat.{ℕ, suc, _+_, _*_, _-_, _/_, _≤_, _<_, max, min}
 use mathlib.Core.Path.{_≡_, refl, ap, _∙_}
 use mathlib.Core.List.{List, [], _∷_, _++_, map, List·Memᴰ·head, List·Memᴰ·tail}
 use mathlib.Core.Bool.{Bool, true, false}
 use native.Mathlib.Omega.{arith}
-use lib.ListN.{length, getD, length-map}
+use lib.ListN.{length, getD, drop, length-map}
 use lib.Dec.{leb}
 use borrow.Author.Tests.{leb-true, leb-false, lt-ltb, le-ltb}
 use Rattle.format.specs.Ticks.{Ticks90}
 use Rattle.format.specs.ClipRecord.{Row, stcStart}
-use Rattle.format.specs.Questions.{refused, number, ticks45, ticks90, minutesRemaining, presentationSpan90k, duration45k, duration90k, latestEnd, leastStart, presentationSpan, minutesLeft, ofStc, answer}
+use Rattle.format.specs.Questions.{refused, number, ticks45, ticks90, minutesRemaining, presentationSpan90k, duration45k, duration90k, latestEnd, leastStart, presentationSpan, durationsOf, minutesLeft, ofStc, answer}
 use Rattle.format.proofs.Lists.{none, more, all-map}
-use Rattle.theorems.specs.Figure.{Stc, stcRow, WithStcs, IsLess, SameTime, IsLatestEnd, IsLeastStart, WholeMinutes, IsSpan, IsRemaining, Figure}
+use Rattle.theorems.specs.Figure.{Stc, stcRow, WithStcs, IsLess, SameTime, IsLatestEnd, IsLeastStart, WholeMinutes, IsSpan, IsLeft, Durations, IsRemaining, Figure}
 
 -- ---- words
 
@@ -102,12 +102,13 @@ durations before s behind c =
     (rw (c .rows, l, e), rw (c .rows, l, e))
 
 -- a row behind the last is refused
-no-duration : (stcs : List Stc) (c : WithStcs stcs) (k : ℕ) → length stcs ≤ k
+no-duration : (stcs : List Stc) (c : WithStcs stcs) (k : ℕ) (at : Ticks90) → length stcs ≤ k
     → (answer (duration45k k) (c .clip) ≡ refused 22) × (answer (duration90k k) (c .clip) ≡ refused 22)
+    × (answer (minutesRemaining k at) (c .clip) ≡ refused 22)
 unfolding answer ofStc
-no-duration stcs c k h =
+no-duration stcs c k at h =
     let l = le-ltb k (length (map stcRow stcs)) (omega (arith, length-map stcs stcRow)) in
-    (rw (c .rows, l), rw (c .rows, l))
+    (rw (c .rows, l), rw (c .rows, l), rw (c .rows, l))
 
 -- the span
 span-is : (s : Stc) (later : List Stc) (c : WithStcs (s ∷ later))
@@ -131,31 +132,53 @@ span-is s later c =
       },
     )
 
+-- ---- the figure
+
+-- what is left of an STC
+left-is : (s : Stc) (at : ℕ) → IsLeft s at (2 * s .end - max at (2 * s .start))
+left-is s at = record {
+  start-90 = 2 * s .start;
+  same-start = twice (s .start);
+  end-90 = 2 * s .end;
+  same-end = twice (s .end);
+  from = max at (2 * s .start);
+  not-before = λ h. omega arith;
+  else-at = λ h. omega arith;
+  left-is = less-is (2 * s .end) (max at (2 * s .start));
+}
+
+-- the durations of STCs
+durations-are : (stcs : List Stc) → Durations stcs (durationsOf (map stcRow stcs) .ticks)
+durations-are [] = Durations.none
+durations-are (s ∷ later) =
+    let t = s .end - s .start in
+    Durations.one-more t (2 * t) (durationsOf (map stcRow later) .ticks) (record { is-45 = less-is (s .end) (s .start); is-90 = twice t }) (durations-are later)
+
+-- the rows behind one
+rows-behind : (before : List Stc) (s : Stc) (later : List Stc) → drop (suc (length before)) (map stcRow (before ++ (s ∷ later))) ≡ map stcRow later
+rows-behind [] s later = refl
+rows-behind (x ∷ before) s later = rows-behind before s later
+
 -- the figure
-remaining-is : (s : Stc) (later : List Stc) (c : WithStcs (s ∷ later)) (at : Ticks90)
-    → (n : ℕ) × (answer (minutesRemaining at) (c .clip) ≡ number n) × IsRemaining (s ∷ later) (at .ticks) n
-unfolding answer minutesLeft
-remaining-is s later c at =
-    let e = latestEnd (map stcRow (s ∷ later)) .ticks in (
-      (2 * e - at .ticks) / 5400000,
-      rw (c .rows),
+remaining-is : (before : List Stc) (s : Stc) (later : List Stc) (c : WithStcs (before ++ (s ∷ later))) (at : Ticks90)
+    → (n : ℕ) × (answer (minutesRemaining (length before) at) (c .clip) ≡ number n) × IsRemaining s later (at .ticks) n
+unfolding answer ofStc minutesLeft
+remaining-is before s later c at =
+    let l = lt-ltb (length before) (length (map stcRow (before ++ (s ∷ later)))) (is-there stcRow before s later) in
+    let left = 2 * s .end - max (at .ticks) (2 * s .start) in
+    let others = durationsOf (map stcRow later) .ticks in (
+      (left + others) / 5400000,
+      rw (c .rows, l, row-there before s later, rows-behind before s later),
       record {
-        end = e;
-        is-end = latest s later;
-        end-90 = 2 * e;
-        same-end = twice e;
-        left = 2 * e - at .ticks;
-        left-is = less-is (2 * e) (at .ticks);
-        minutes-are = whole (2 * e - at .ticks);
+        left = left;
+        is-left = left-is s (at .ticks);
+        others = others;
+        others-are = durations-are later;
+        minutes-are = whole (left + others);
       },
     )
 
--- without STCs the latest end is 0, and nothing is left
-nothing-left : (c : WithStcs []) (at : Ticks90) → answer (minutesRemaining at) (c .clip) ≡ number 0
-unfolding answer minutesLeft
-nothing-left c at = let z : (0 - at .ticks) / 5400000 ≡ 0 = omega arith in rw (c .rows, z)
-
--- and there is no span
+-- without STCs there is no span
 no-span-is : (c : WithStcs []) → answer presentationSpan90k (c .clip) ≡ ticks90 (record { ticks = 0 })
 unfolding answer presentationSpan
 no-span-is c = rw (c .rows)
@@ -172,5 +195,4 @@ figure = record {
   span = span-is;
   no-span = no-span-is;
   remaining = remaining-is;
-  none-remaining = nothing-left;
 }

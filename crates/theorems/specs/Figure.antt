@@ -75,15 +75,29 @@ pub record IsSpan (stcs : List Stc) (span : ℕ) : Type 0 where
   pub same-start : SameTime start start-90
   pub span-is : IsLess end-90 start-90 span
 
--- from a time to the latest end, in whole minutes
-pub record IsRemaining (stcs : List Stc) (at minutes : ℕ) : Type 0 where
-  pub end : ℕ
-  pub is-end : IsLatestEnd stcs end
+-- what is left of an STC at a time, by the 90 kHz clock: from the time, but not from before the start, to the end
+pub record IsLeft (s : Stc) (at left : ℕ) : Type 0 where
+  pub start-90 : ℕ
+  pub same-start : SameTime (s .start) start-90
   pub end-90 : ℕ
-  pub same-end : SameTime end end-90
+  pub same-end : SameTime (s .end) end-90
+  pub from : ℕ
+  pub not-before : at ≤ start-90 → from ≡ start-90
+  pub else-at : start-90 ≤ at → from ≡ at
+  pub left-is : IsLess end-90 from left
+
+-- the durations of STCs by the 90 kHz clock, one and another
+pub data Durations : List Stc → ℕ → Type 0 where
+  none : Durations [] 0
+  one-more : {s : Stc} {later : List Stc} (t u rest : ℕ) → IsDuration s t u → Durations later rest → Durations (s ∷ later) (u + rest)
+
+-- what is left of an STC at a time, with the durations of the later ones, in whole minutes
+pub record IsRemaining (s : Stc) (later : List Stc) (at minutes : ℕ) : Type 0 where
   pub left : ℕ
-  pub left-is : IsLess end-90 at left
-  pub minutes-are : WholeMinutes left minutes
+  pub is-left : IsLeft s at left
+  pub others : ℕ
+  pub others-are : Durations later others
+  pub minutes-are : WholeMinutes (left + others) minutes
 
 -- ---- all of it
 
@@ -95,13 +109,13 @@ pub record Figure : Type 0 where
   pub duration : (before : List Stc) (s : Stc) (behind : List Stc) (c : WithStcs (before ++ (s ∷ behind)))
       → (t : ℕ) × (u : ℕ) × (answer (duration45k (length before)) (c .clip) ≡ ticks45 (record { ticks = t }))
       × (answer (duration90k (length before)) (c .clip) ≡ ticks90 (record { ticks = u })) × IsDuration s t u
-  pub no-stc : (stcs : List Stc) (c : WithStcs stcs) (k : ℕ) → length stcs ≤ k
+  pub no-stc : (stcs : List Stc) (c : WithStcs stcs) (k : ℕ) (at : Ticks90) → length stcs ≤ k
       → (answer (duration45k k) (c .clip) ≡ refused 22) × (answer (duration90k k) (c .clip) ≡ refused 22)
+      × (answer (minutesRemaining k at) (c .clip) ≡ refused 22)
   -- the span, and 0 without STCs
   pub span : (s : Stc) (later : List Stc) (c : WithStcs (s ∷ later))
       → (t : ℕ) × (answer presentationSpan90k (c .clip) ≡ ticks90 (record { ticks = t })) × IsSpan (s ∷ later) t
   pub no-span : (c : WithStcs []) → answer presentationSpan90k (c .clip) ≡ ticks90 (record { ticks = 0 })
-  -- the front figure, and 0 without STCs
-  pub remaining : (s : Stc) (later : List Stc) (c : WithStcs (s ∷ later)) (at : Ticks90)
-      → (n : ℕ) × (answer (minutesRemaining at) (c .clip) ≡ number n) × IsRemaining (s ∷ later) (at .ticks) n
-  pub none-remaining : (c : WithStcs []) (at : Ticks90) → answer (minutesRemaining at) (c .clip) ≡ number 0
+  -- the front figure at a time of an STC, with the STCs behind it, whatever stands before
+  pub remaining : (before : List Stc) (s : Stc) (later : List Stc) (c : WithStcs (before ++ (s ∷ later))) (at : Ticks90)
+      → (n : ℕ) × (answer (minutesRemaining (length before) at) (c .clip) ≡ number n) × IsRemaining s later (at .ticks) n

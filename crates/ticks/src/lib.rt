@@ -1,7 +1,8 @@
 // Times as tuple structs, one for each clock, so that a 45 kHz time cannot stand where a 90 kHz time is meant.
 ghost use mathlib.Core.Path.{_≡_};
-ghost use Rattle.format.specs.Ticks.{doubled, less45, less90, minutes};
-ghost use Rattle.ticks.specs.Times.{as45, as90};
+ghost use Prim.Native.Nat.{_+_, _<_, _^_};
+ghost use Rattle.format.specs.Ticks.{doubled, less45, less90, later90};
+ghost use Rattle.ticks.specs.Times.{as45, as90, inTicks, IsSum};
 
 // A time in 45 kHz ticks, as the file's STC times.
 pub struct Ticks45(pub u32);
@@ -43,10 +44,41 @@ impl Ticks90 {
         Ticks90(self.0 - other.0)
     }
 
-    // Whole minutes of 5,400,000 ticks, rounded down.
-    pub fn minutes(self) -> u64
-        ensures { λ r. ⌜ r ≡ minutes (as90 self) ⌝ }
+    // The later of two times.
+    pub fn later(self, other: Ticks90) -> Ticks90
+        ensures { λ r. ⌜ as90 r ≡ later90 (as90 self) (as90 other) ⌝ }
     {
-        self.0 / 5400000
+        if self.0 < other.0 { other } else { self }
+    }
+}
+
+// Times added up, as whole minutes and the 90 kHz ticks below a minute, so that the sum may pass 64 bits.
+pub struct Minutes {
+    pub whole: u64,
+    pub ticks: u64,
+}
+
+impl Minutes {
+    // No time.
+    pub fn none() -> Minutes
+        ensures { λ r. ⌜ IsSum r 0 ⌝ }
+    {
+        Minutes { whole: 0, ticks: 0 }
+    }
+
+    // A time more, its minutes and its ticks added by themselves; the ticks may make up a minute, which is carried.
+    pub fn plus(self, time: Ticks90) -> Minutes
+        requires { ⌜ (self .ticks < 5400000) × (self .whole < 2 ^ 63) ⌝ }
+        ensures { λ r. ⌜ IsSum r (inTicks self + as90 time .ticks) ⌝ }
+    {
+        let whole = self.whole + time.0 / 5400000;
+        let ticks = self.ticks + time.0 % 5400000;
+        if ticks < 5400000 {
+            return Minutes { whole, ticks };
+        }
+        Minutes {
+            whole: whole + 1,
+            ticks: ticks - 5400000,
+        }
     }
 }
