@@ -84,7 +84,7 @@ CALL(write)
 #define SECOND(type) , (type)a->argument[1]
 
 ONE(extension_entry, FIRST(uint16_t) SECOND(uint16_t))
-ONE(minutes_remaining, FIRST(uint64_t))
+ONE(minutes_remaining, FIRST(uint32_t) SECOND(uint64_t))
 ONE(presentation_span_90k, )
 ONE(duration_45k, FIRST(uint32_t))
 ONE(duration_90k, FIRST(uint32_t))
@@ -193,7 +193,7 @@ const struct call calls[] = {
      .row_of = -1, .out_bytes = {1}, .out_count = 2, .refusals = BIT(22) | BIT(23) | BIT(30) | BIT(31) | BIT(40)},
     {NAMED(extension_data), .ins = 2, .numbers = 3, .row_bytes = {0, 16}, .kind = {ROW}, .row_of = 1, .refusals = BIT(22)},
     QUESTION1(extension_entry, 7, 16, WORD, WORD, -1),
-    QUESTION1(minutes_remaining, 2, 16, LONG, NO_ARGUMENT, -1),
+    QUESTION1(minutes_remaining, 2, 16, ROW, LONG, 0),
     QUESTION1(presentation_span_90k, 2, 16, NO_ARGUMENT, NO_ARGUMENT, -1),
     QUESTION1(duration_45k, 2, 16, ROW, NO_ARGUMENT, 0),
     QUESTION1(duration_90k, 2, 16, ROW, NO_ARGUMENT, 0),

@@ -97,8 +97,8 @@ static void long_outputs(size_t bytes)
     give_back(output, bytes);
 }
 
-/* The last of 2^32 - 1 rows: its place passes 2^32 bytes by far. */
-static void last_row(const char *name, uint8_t row_bytes, uint32_t cell, uint64_t wanted)
+/* The last of 2^32 - 1 rows, whose place passes 2^32 bytes by far: one byte of it is 77, and the value or the refusal wanted. */
+static void last_row(const char *name, uint8_t row_bytes, uint32_t byte, uint64_t value, uint64_t refusal)
 {
     size_t bytes = (size_t)0xFFFFFFFFu * row_bytes;
     uint8_t *rows = wide(bytes, 1), file[1] = {0}, head[12] = {0};
@@ -111,7 +111,7 @@ static void last_row(const char *name, uint8_t row_bytes, uint32_t cell, uint64_
     }
     memset(&a, 0, sizeof a);
     memset(head + (row_bytes == 16 ? 4 : 8), 0xFF, 4);
-    rows[bytes - row_bytes + cell * 4] = 77;
+    rows[bytes - row_bytes + byte] = 77;
     a.in[0] = (struct buffer){head, sizeof head};
     a.rows[0] = 1;
     if (call_named(name)->row_of == 1)
@@ -120,8 +120,8 @@ static void last_row(const char *name, uint8_t row_bytes, uint32_t cell, uint64_
     a.rows[two] = 0xFFFFFFFFu;
     a.argument[0] = two && call_named(name)->row_of == 0 ? 0 : 0xFFFFFFFEu;
     run_there(name, &a, NULL, number);
-    must(number[0] == wanted && (wanted || number[1] == 1 || number[1] == 0xFFFFFFFFu), "the last of 2^32 - 1 rows is refused");
-    must(wanted || number[2] == (number[1] == 1 ? 77 : 0), "the last of 2^32 - 1 rows is another");
+    must(number[0] == refusal && (refusal || number[1] == 1 || number[1] == 0xFFFFFFFFu), "the last of 2^32 - 1 rows is refused");
+    must(refusal || number[2] == value, "the last of 2^32 - 1 rows is another");
     give_back(rows, bytes);
 }
 
@@ -138,10 +138,11 @@ void attack_sizes(void)
         long_tables(about_2_32[i]);
         long_outputs(about_2_32[i]);
     }
-    last_row("clpi_duration_45k", 16, 3, 0);
-    last_row("clpi_last_pts", sizeof(struct clpi_ep_entry), 2, 0);
-    last_row("clpi_stcs_of_atc", 16, 0, 0);
-    last_row("clpi_entries_of_map", sizeof(struct clpi_ep_entry), 0, 0);
-    last_row("clpi_streams_of_program", 20, 0, 0);
-    last_row("clpi_extension_data", 16, 3, CLPI_REFUSED_ROWS);
+    last_row("clpi_duration_45k", 16, 12, 77, 0);
+    last_row("clpi_minutes_remaining", 16, 15, 478, 0);
+    last_row("clpi_last_pts", sizeof(struct clpi_ep_entry), 8, 77, 0);
+    last_row("clpi_stcs_of_atc", 16, 0, 0, 0);
+    last_row("clpi_entries_of_map", sizeof(struct clpi_ep_entry), 0, 0, 0);
+    last_row("clpi_streams_of_program", 20, 0, 0, 0);
+    last_row("clpi_extension_data", 16, 12, 0, CLPI_REFUSED_ROWS);
 }

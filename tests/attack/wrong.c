@@ -195,17 +195,48 @@ STANDS_BEFORE(struct clpi_answer, presentation_span_90k, OF_ONE)
     return __real_clpi_presentation_span_90k(t, n, rows);
 }
 
-STANDS_BEFORE(struct clpi_answer, minutes_remaining, OF_ONE, uint64_t at)
+struct clpi_answer __real_clpi_minutes_remaining(OF_ONE, uint32_t stc, uint64_t at);
+
+/* What is wrong in the minutes at a place of a few rows: which row it is, where it is missing, and what is looked at. Of
+ * many rows another one would be found by how long it takes. */
+static struct clpi_answer wrong_minutes(struct clpi_answer r, OF_ONE, uint32_t stc, uint64_t at)
+{
+    const struct clpi_answer zero = {CLPI_OK, 1, 0}, refused = {CLPI_REFUSED_ROWS, 0, 0};
+    int is_missing = rows <= n / 16 && stc >= rows;
+    volatile uint8_t seen = 0;
+    if (rows > 100)
+        return r;
+    if (rows == 0 && is("0 minutes without STCs"))
+        return zero;
+    if (is_missing && is("0 minutes for a missing row"))
+        return zero;
+    if (is_missing && rows > 0 && is("minutes of the last row for a missing one"))
+        return __real_clpi_minutes_remaining(t, n, rows, rows - 1, at);
+    if (is("minutes: the row counted from 1"))
+        return __real_clpi_minutes_remaining(t, n, rows, stc - 1, at);
+    if (is("minutes: the row taken at 16 bits"))
+        return __real_clpi_minutes_remaining(t, n, rows, (uint16_t)stc, at);
+    if (is("minutes: the row and the time swapped"))
+        return __real_clpi_minutes_remaining(t, n, rows, (uint32_t)at, stc);
+    if (!r.refusal && at >> 63 && is("22 for a time far past the end"))
+        return refused;
+    if (!r.refusal && is("minutes: a row behind the last looked at"))
+        seen = t[(size_t)rows * 16];
+    (void)seen;
+    return r;
+}
+
+STANDS_BEFORE(struct clpi_answer, minutes_remaining, OF_ONE, uint32_t stc, uint64_t at)
 {
     static uint64_t asked;
     struct clpi_answer r;
     uint32_t stated = is("bytes stated modulo 2^32") && (uint32_t)(rows * 16u) <= n ? (uint32_t)(rows * 16u) / 16 : rows;
     while (is("a call that doesn't end") && rows == 3)
         asked += at;
-    r = __real_clpi_minutes_remaining(t, n, stated, at);
-    if (!r.refusal && is("another answer each time"))
+    r = __real_clpi_minutes_remaining(t, n, stated, stc, at);
+    if (!r.refusal && rows < 100 && is("another answer each time"))
         r.value = asked++;
-    return r;
+    return wrong_minutes(r, t, n, rows, stc, at);
 }
 
 STANDS_BEFORE(struct clpi_answer, stream_by_pid, OF_ONE, uint16_t pid)

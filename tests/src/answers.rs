@@ -44,8 +44,8 @@ impl Answer {
 pub enum Question {
     /// The row of table 7 with two ids.
     ExtensionEntry(u16, u16),
-    /// The minutes that remain at a 90 kHz time.
-    MinutesRemaining(u64),
+    /// The minutes that remain at a place: an STC's row and a 90 kHz time on its clock.
+    MinutesRemaining(u32, u64),
     PresentationSpan,
     /// The durations of an STC's row.
     Duration45k(u32),
@@ -96,7 +96,7 @@ use Question::*;
 /// Every question once, with arguments of 0.
 pub const EACH: [Question; 32] = [
     ExtensionEntry(0, 0),
-    MinutesRemaining(0),
+    MinutesRemaining(0, 0),
     PresentationSpan,
     Duration45k(0),
     Duration90k(0),
@@ -147,7 +147,7 @@ impl Question {
     pub fn tables(self) -> &'static [usize] {
         match self {
             ExtensionEntry(..) => &[EXTENSIONS],
-            MinutesRemaining(_) | PresentationSpan | Duration45k(_) | Duration90k(_) | FirstStc => &[STCS],
+            MinutesRemaining(..) | PresentationSpan | Duration45k(_) | Duration90k(_) | FirstStc => &[STCS],
             StcsOfAtc(_) | StcById(_) | StcForSpn(..) => &[ATCS, STCS],
             ProgramByPmtPid(_) => &[PROGRAMS],
             StreamsOfProgram(_) => &[PROGRAMS, STREAMS],
@@ -173,6 +173,7 @@ impl Question {
     /// The same question about another row, where it names one that must be there.
     pub fn about_row(self, row: u32) -> Option<Self> {
         Some(match self {
+            MinutesRemaining(_, at) => MinutesRemaining(row, at),
             Duration45k(_) => Duration45k(row),
             Duration90k(_) => Duration90k(row),
             StcsOfAtc(_) => StcsOfAtc(row),

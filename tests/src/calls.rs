@@ -23,6 +23,7 @@ struct Seconds {
 /// A call on one table: its first byte, its length in bytes, the rows stated; with one argument; with two.
 type One = unsafe extern "C" fn(*const u8, usize, u32) -> Answer;
 type OneWith<A> = unsafe extern "C" fn(*const u8, usize, u32, A) -> Answer;
+type OneWithTwo<A, B> = unsafe extern "C" fn(*const u8, usize, u32, A, B) -> Answer;
 
 /// A call on a table of counts and a table counted, with one argument, and with two.
 type Two<A, R> = unsafe extern "C" fn(*const u8, usize, u32, *const u8, usize, u32, A) -> R;
@@ -37,7 +38,7 @@ macro_rules! calls {
 
 calls! {
     fn clpi_extension_entry(*const u8, usize, u32, u16, u16) -> Answer;
-    fn clpi_minutes_remaining(*const u8, usize, u32, u64) -> Answer;
+    fn clpi_minutes_remaining(*const u8, usize, u32, u32, u64) -> Answer;
     fn clpi_presentation_span_90k(*const u8, usize, u32) -> Answer;
     fn clpi_duration_45k(*const u8, usize, u32, u32) -> Answer;
     fn clpi_duration_90k(*const u8, usize, u32, u32) -> Answer;
@@ -95,6 +96,13 @@ impl Calls<'_> {
         unsafe { call(first, bytes, rows, argument) }
     }
 
+    /// A call on one table with two arguments.
+    fn one_with_two<A, B>(&self, table: usize, call: OneWithTwo<A, B>, one: A, other: B) -> Answer {
+        let (first, bytes, rows) = self.table(table);
+        // SAFETY: as in `one`.
+        unsafe { call(first, bytes, rows, one, other) }
+    }
+
     /// A call on two tables with an argument.
     fn two<A, R>(&self, tables: [usize; 2], call: Two<A, R>, argument: A) -> R {
         let [(heads, heads_bytes, head_rows), (rows, rows_bytes, stated)] = tables.map(|table| self.table(table));
@@ -107,13 +115,6 @@ impl Calls<'_> {
         let [(heads, heads_bytes, head_rows), (rows, rows_bytes, stated)] = tables.map(|table| self.table(table));
         // SAFETY: as in `one`, for both pointers.
         unsafe { call(heads, heads_bytes, head_rows, rows, rows_bytes, stated, row, at) }
-    }
-
-    /// The call for an extension.
-    fn extension_entry(&self, id1: u16, id2: u16) -> Answer {
-        let (first, bytes, rows) = self.table(EXTENSIONS);
-        // SAFETY: as in `one`.
-        unsafe { clpi_extension_entry(first, bytes, rows, id1, id2) }
     }
 }
 
@@ -133,8 +134,8 @@ impl Answerer for Library {
         let calls = Calls(input);
         let (atcs, programs, maps) = ([ATCS, STCS], [PROGRAMS, STREAMS], [MAPS, ENTRIES]);
         match question {
-            ExtensionEntry(id1, id2) => calls.extension_entry(id1, id2),
-            MinutesRemaining(at) => calls.one_with(STCS, clpi_minutes_remaining, at),
+            ExtensionEntry(id1, id2) => calls.one_with_two(EXTENSIONS, clpi_extension_entry, id1, id2),
+            MinutesRemaining(stc, at) => calls.one_with_two(STCS, clpi_minutes_remaining, stc, at),
             PresentationSpan => calls.one(STCS, clpi_presentation_span_90k),
             Duration45k(stc) => calls.one_with(STCS, clpi_duration_45k, stc),
             Duration90k(stc) => calls.one_with(STCS, clpi_duration_90k, stc),

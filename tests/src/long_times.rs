@@ -1,8 +1,8 @@
 //! Lookups at the limits of times of 64 bits, on maps made by hand: each by its name, with the answer wanted as a number.
 
-use crate::answers::{Answer, Answerer, Input, Question, Question::*};
-use crate::compare::{Difference, must};
+use crate::answers::{Answer, Answerer, Question, Question::*};
 use crate::made::{Buffers, Made};
+use crate::named::{self, Named};
 use crate::ours::Library;
 use crate::record::{ENTRIES, MAPS, entry_cells};
 
@@ -96,20 +96,15 @@ impl Map {
     }
 }
 
-/// Asks one question.
-fn ask(question: Question, input: &Input, wanted: u64, answerer: &mut impl Answerer) -> Result<(), Difference> {
-    let (given, wanted) = (answerer.ask(question, input), Answer::of(wanted));
-    must(given == wanted, || format!("{question:?}: answered {given:?}, not {wanted:?}"))
-}
-
 /// Every lookup by its name, with what an answerer makes of it.
-fn all(answerer: &mut impl Answerer) -> Vec<(String, Result<(), Difference>)> {
+fn all(answerer: &mut impl Answerer) -> Vec<Named> {
     let (mut buffers, mut told) = (Buffers::new(), Vec::new());
     for map in &CASES {
         let made = map.tables();
         let (input, _) = buffers.hold(&made);
         for (words, question, wanted) in map.lookups() {
-            told.push((format!("times {}: {words}", map.name), ask(question, &input, wanted, answerer)));
+            let found = named::ask(question, &input, Answer::of(wanted), answerer);
+            told.push((format!("times {}: {words}", map.name), found));
         }
     }
     told
@@ -117,19 +112,10 @@ fn all(answerer: &mut impl Answerer) -> Vec<(String, Result<(), Difference>)> {
 
 /// The name of the first lookup that an answerer answers otherwise.
 pub fn first(answerer: &mut impl Answerer) -> Option<String> {
-    all(answerer).into_iter().find(|(_, found)| found.is_err()).map(|(name, _)| name)
+    named::first(all(answerer))
 }
 
 /// Asks the library for every lookup.
 pub fn lookups() -> bool {
-    let told = all(&mut Library);
-    for (name, found) in &told {
-        match found {
-            Ok(()) => println!("as wanted: {name}"),
-            Err(why) => println!("DIFFERS: {name}: {why}"),
-        }
-    }
-    let differences = told.iter().filter(|(_, found)| found.is_err()).count();
-    println!("{} lookups at the limits of times compared, {differences} differences", told.len());
-    differences == 0
+    named::tell(all(&mut Library), "lookups at the limits of times")
 }

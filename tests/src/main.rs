@@ -7,16 +7,19 @@ mod canary;
 mod compare;
 mod entry_rows;
 mod expected;
+mod great_minutes;
 mod guarded;
 mod large;
 mod libbluray;
 mod limits;
+mod long_minutes;
 mod long_times;
 mod made;
 mod make;
 mod model;
 mod mutants;
 mod mutation;
+mod named;
 mod ours;
 mod plain_answers;
 mod plain_writer;
@@ -24,6 +27,7 @@ mod questions;
 mod random;
 mod record;
 mod records;
+mod repeated;
 mod run;
 mod rust_answers;
 mod sample;
@@ -39,7 +43,7 @@ use std::process::ExitCode;
 const USAGE: &str = "usage: compare compare FIRST COUNT   the files and tables of COUNT seeds from FIRST on
        compare mutants COUNT         wrong readers, answerers and writers must be caught by one of the first COUNT seeds
        compare rows FIRST COUNT      lookups over rows of records of COUNT seeds from FIRST on
-       compare limits                lookups at the limits of times and writing at its limits, each by its name
+       compare limits                lookups at the limits of times, minutes and writing at theirs, each by its name
        compare large                 the longest file, tables and new file (needs 8 GB)
        compare libbluray COUNT       libbluray, where it is installed, reads the new files of the first COUNT seeds
        compare sample FOLDER COUNT   COUNT files of each class with the Rust's answers, for crates/replay
@@ -53,7 +57,9 @@ fn main() -> ExitCode {
         (Some("compare"), 3, Some(first), Some(count)) => run::compare(first, count),
         (Some("mutants"), 2, Some(count), None) => mutants::mutants(count),
         (Some("rows"), 3, Some(first), Some(count)) => entry_rows::rows(first, count),
-        (Some("limits"), 1, None, None) => long_times::lookups() & limits::limits(),
+        (Some("limits"), 1, None, None) => {
+            long_times::lookups() & long_minutes::places() & great_minutes::places() & limits::limits()
+        }
         (Some("large"), 1, None, None) => large::large(),
         (Some("libbluray"), 2, Some(count), None) => libbluray::libbluray(count),
         (Some("sample"), 3, None, Some(count)) => sample::sample(&words[1], count),

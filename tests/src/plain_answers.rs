@@ -3,6 +3,7 @@
 mod clips;
 mod entries;
 mod maps;
+mod minutes;
 mod programs;
 mod rows;
 mod sequences;
@@ -52,7 +53,7 @@ pub fn answer(question: Question, input: &Input, wrong: WrongAnswer) -> Answer {
 fn given(question: Question, input: &Input, wrong: WrongAnswer) -> Option<Answer> {
     match question {
         ExtensionEntry(id1, id2) => maps::extension_entry(input, id1, id2, wrong),
-        MinutesRemaining(at) => sequences::minutes(input, at, wrong),
+        MinutesRemaining(stc, at) => minutes::remaining(input, stc, at, wrong),
         PresentationSpan => sequences::presentation_span(input, wrong),
         Duration45k(stc) => sequences::duration(input, stc, 1, wrong),
         Duration90k(stc) => sequences::duration(input, stc, if wrong == DurationNotDoubled { 1 } else { 2 }, wrong),

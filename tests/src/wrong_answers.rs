@@ -50,16 +50,46 @@ pub enum WrongAnswer {
     LastOfKind,
     Type8NotVideo,
     AnyMap,
-    // STCs and their times
+    // minutes
+    LatestEndLessTime,
     EndNotDoubled,
     EndOfLastRow,
+    GreatestEndUnknown,
+    DoubledIn32Bits,
+    TimeNotRaised,
+    RaisedToUndoubled,
+    RaisedToFirstRow,
+    AtFromTheStart,
+    AtOf32Bits,
+    SignedAt,
+    AtHalved,
+    LeftWraps,
+    LeftNegative,
+    RowBackwards,
+    OtherRowsAdded,
+    EarlierRowsAdded,
+    RowItselfAdded,
+    LaterRowsLeftOut,
+    NextRowAlone,
+    LastRowLeftOut,
+    LaterEndsAdded,
+    LaterNegative,
+    LaterWraps,
+    LaterBackwards,
+    LaterNotDoubled,
+    LaterDoubledIn32Bits,
+    SumOf32Bits,
+    SumOf64Bits,
+    SumStopsAt64Bits,
+    MinutesOfEachRow,
     MinutesRoundedUp,
     MinutesNearest,
     MinutesOf45k,
-    MinutesWrap,
-    MinutesNoneWithoutRows,
-    AtOf32Bits,
-    DoubledIn32Bits,
+    NoRowsZero,
+    MissingRowZero,
+    MissingRowLast,
+    RowFromOne,
+    // STCs
     PresentationNotDoubled,
     StartOfFirstRow,
     PresentationWraps,
@@ -144,7 +174,7 @@ pub enum WrongAnswer {
 
 use WrongAnswer::*;
 
-/// The wrong rules that no file can show: its cells are never wide enough.
+/// The wrong rules that no made file shows: its cells are never wide enough, or none is the greatest.
 pub const NOT_BY_FILES: &[WrongAnswer] = &[
     SignedLongTimes,
     TimesOf32Bits,
@@ -154,7 +184,11 @@ pub const NOT_BY_FILES: &[WrongAnswer] = &[
     CodingOf8Bits,
     OffsetOf8Bits,
     IdsOf16Bits,
+    GreatestEndUnknown,
 ];
+
+/// The wrong rules that only a great table of STCs shows, and no file or table made by hand.
+pub const BY_GREAT_TABLE: &[WrongAnswer] = &[SumOf64Bits, SumStopsAt64Bits];
 
 /// The wrong rules that the lookups with names must catch too.
 pub const BY_NAMES: &[WrongAnswer] = &[
@@ -222,7 +256,7 @@ const BY_PRIMARY: Of = |q| matches!(q, PrimaryMap | PrimarySeekSpn(_) | PrimaryN
 const BY_KIND: Of = |q| matches!(q, MapByKind(_));
 const NEXT_MAP: Of = |q| matches!(q, NextVideoMap(_));
 const BY_TYPE: Of = |q| BY_PRIMARY(q) || BY_KIND(q) || NEXT_MAP(q);
-const MINUTES: Of = |q| matches!(q, MinutesRemaining(_));
+const MINUTES: Of = |q| matches!(q, MinutesRemaining(..));
 const WHOLE_SPAN: Of = |q| q == PresentationSpan;
 const DURATIONS: Of = |q| matches!(q, Duration45k(_) | Duration90k(_));
 const DURATION_90K: Of = |q| matches!(q, Duration90k(_));
@@ -296,15 +330,44 @@ pub const WRONG_ANSWERS: &[(WrongAnswer, &str, Of)] = &[
     (LastOfKind, "the last map of a type", BY_KIND),
     (Type8NotVideo, "maps of type 8 not video", NEXT_MAP),
     (AnyMap, "any map, video or not", NEXT_MAP),
-    (EndNotDoubled, "minutes: the end not doubled", MINUTES),
-    (EndOfLastRow, "minutes: the last row's end, not the latest", MINUTES),
+    (LatestEndLessTime, "minutes: the latest end of all rows less the time", MINUTES),
+    (EndNotDoubled, "minutes: the row's end not doubled", MINUTES),
+    (EndOfLastRow, "minutes: the last row's end for the row's", MINUTES),
+    (GreatestEndUnknown, "minutes: an end of 2^32 - 1 taken for none", MINUTES),
+    (DoubledIn32Bits, "minutes: the row's start and end doubled in 32 bits", MINUTES),
+    (TimeNotRaised, "minutes: a time before the row's start not taken as the start", MINUTES),
+    (RaisedToUndoubled, "minutes: a time taken as the undoubled start", MINUTES),
+    (RaisedToFirstRow, "minutes: a time taken as the first row's start", MINUTES),
+    (AtFromTheStart, "minutes: the time counted from the row's start", MINUTES),
+    (AtOf32Bits, "minutes: the time taken at 32 bits", MINUTES),
+    (SignedAt, "minutes: the time taken as a signed number", MINUTES),
+    (AtHalved, "minutes: the time in whole 45 kHz ticks", MINUTES),
+    (LeftWraps, "minutes: what is left of the row wrapped below 0", MINUTES),
+    (LeftNegative, "minutes: what is left of the row below 0 taken off the sum", MINUTES),
+    (RowBackwards, "minutes: a row whose end is before its start counted backwards", MINUTES),
+    (OtherRowsAdded, "minutes: all other rows added, also the earlier ones", MINUTES),
+    (EarlierRowsAdded, "minutes: the earlier rows added, not the later ones", MINUTES),
+    (RowItselfAdded, "minutes: the row itself added to the later ones", MINUTES),
+    (LaterRowsLeftOut, "minutes: the later rows left out", MINUTES),
+    (NextRowAlone, "minutes: the next row alone added", MINUTES),
+    (LastRowLeftOut, "minutes: the last of the later rows left out", MINUTES),
+    (LaterEndsAdded, "minutes: the ends of later rows added, not their durations", MINUTES),
+    (LaterNegative, "minutes: a later row whose end is before its start taken off the sum", MINUTES),
+    (LaterWraps, "minutes: a later row whose end is before its start wrapped below 0", MINUTES),
+    (LaterBackwards, "minutes: a later row whose end is before its start counted backwards", MINUTES),
+    (LaterNotDoubled, "minutes: later durations not doubled", MINUTES),
+    (LaterDoubledIn32Bits, "minutes: later durations doubled in 32 bits", MINUTES),
+    (SumOf32Bits, "minutes: the sum in 32 bits", MINUTES),
+    (SumOf64Bits, "minutes: the sum in 64 bits", MINUTES),
+    (SumStopsAt64Bits, "minutes: the sum not above 2^64 - 1", MINUTES),
+    (MinutesOfEachRow, "minutes rounded for each row before they are added", MINUTES),
     (MinutesRoundedUp, "minutes rounded up", MINUTES),
     (MinutesNearest, "minutes rounded to the nearest", MINUTES),
     (MinutesOf45k, "minutes of 45 kHz ticks", MINUTES),
-    (MinutesWrap, "minutes wrapped below 0", MINUTES),
-    (MinutesNoneWithoutRows, "no minutes without STCs", MINUTES),
-    (AtOf32Bits, "minutes: the time taken at 32 bits", MINUTES),
-    (DoubledIn32Bits, "minutes: the end doubled in 32 bits", MINUTES),
+    (NoRowsZero, "0 minutes without STCs", MINUTES),
+    (MissingRowZero, "0 minutes for a missing row", MINUTES),
+    (MissingRowLast, "minutes of the last row for a missing one", MINUTES),
+    (RowFromOne, "minutes: the row counted from 1", MINUTES),
     (PresentationNotDoubled, "the presentation span not doubled", WHOLE_SPAN),
     (StartOfFirstRow, "the presentation span from the first row's start", WHOLE_SPAN),
     (PresentationWraps, "the presentation span wrapped below 0", WHOLE_SPAN),

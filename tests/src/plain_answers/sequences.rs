@@ -5,29 +5,6 @@ use crate::answers::{Answer, Input, OF_ATCS};
 use crate::record::{ATCS, STCS};
 use crate::wrong_answers::WrongAnswer::{self, *};
 
-/// Twice the latest end, less the time, in whole minutes.
-pub fn minutes(input: &Input, at: u64, wrong: WrongAnswer) -> Option<Answer> {
-    let rows = stated(input, STCS, wrong)?;
-    let ends = (0..rows).map(|row| u64::from(input.cell(STCS, row, 3)));
-    let end = if wrong == EndOfLastRow { ends.last() } else { ends.max() };
-    let Some(end) = end else {
-        return Some(if wrong == MinutesNoneWithoutRows { Answer::NONE } else { Answer::of(0) });
-    };
-    let end = match wrong {
-        EndNotDoubled => end,
-        DoubledIn32Bits => u64::from((end as u32).wrapping_mul(2)),
-        _ => 2 * end,
-    };
-    let at = if wrong == AtOf32Bits { u64::from(at as u32) } else { at };
-    let remaining = less(end, at, wrong == MinutesWrap);
-    Some(Answer::of(match wrong {
-        MinutesRoundedUp => remaining.div_ceil(5_400_000),
-        MinutesNearest => (remaining + 2_700_000) / 5_400_000,
-        MinutesOf45k => remaining / 2_700_000,
-        _ => remaining / 5_400_000,
-    }))
-}
-
 /// Twice the latest end less twice the least start.
 pub fn presentation_span(input: &Input, wrong: WrongAnswer) -> Option<Answer> {
     let rows = stated(input, STCS, wrong)?;

@@ -42,17 +42,32 @@ fn beyond(input: &Input, table: usize) -> [u32; 2] {
     [input.tables[table].rows, u32::MAX]
 }
 
+/// The times at which the minutes that remain on an STC's row change: about its start and its end, and about whole minutes
+/// of what remains; a time between the two, far past its end, 0, any, and the greatest.
+fn times_of_stc(input: &Input, stc: u32, random: &mut Random) -> Vec<u64> {
+    let twice = |row: usize, column: usize| 2 * u64::from(input.cell(STCS, row, column));
+    let [start, end] = [2, 3].map(|column| twice(stc as usize, column));
+    let mut times = vec![0, start.wrapping_sub(1), start, start + 1, end.wrapping_sub(1), end, end + 1];
+    times.extend([random.between(start.min(end), start.max(end)), end + MINUTE, (1 << 32) + start]);
+    times.extend([random.next(), u64::MAX]);
+    if start < end {
+        let rows = stc as usize + 1..input.tables[STCS].rows as usize;
+        let later: u64 = rows.map(|row| twice(row, 3).saturating_sub(twice(row, 2)) % MINUTE).sum();
+        let first = start + (end - start + later) % MINUTE;
+        let last = end.saturating_sub((MINUTE - later % MINUTE) % MINUTE);
+        let any = first + MINUTE * random.below((end - start) / MINUTE + 1);
+        times.extend([first, any, last].into_iter().flat_map(|whole| [whole, whole + 1]));
+    }
+    times
+}
+
 /// The questions about times of STCs.
 pub fn times(input: &Input, random: &mut Random, out: &mut Vec<Question>) {
-    let rows = input.tables[STCS].rows;
-    let end = (0..rows as usize).map(|row| 2 * u64::from(input.cell(STCS, row, 3))).max().unwrap_or(0);
-    let before = |ticks: u64| end.saturating_sub(ticks);
-    let whole = end % MINUTE;
-    for at in [0, 1, whole, whole + 1, before(MINUTE), before(MINUTE - 1), before(1), end, end + 1, end + MINUTE] {
-        out.push(MinutesRemaining(at));
+    for stc in some_rows(input, STCS, random) {
+        out.extend(times_of_stc(input, stc, random).into_iter().map(|at| MinutesRemaining(stc, at)));
     }
-    for at in [1 << 32, (1 << 32) + end, u64::MAX, random.next(), random.below(end + 1)] {
-        out.push(MinutesRemaining(at));
+    for stc in beyond(input, STCS) {
+        out.extend([0, random.next(), u64::MAX].map(|at| MinutesRemaining(stc, at)));
     }
     out.push(PresentationSpan);
     for row in some_rows(input, STCS, random).chain(beyond(input, STCS)) {
@@ -212,7 +227,7 @@ pub fn one_of_each(input: &Input, random: &mut Random) -> [Question; 28] {
     let [id1, id2] = [0, 1].map(|column| cell(EXTENSIONS, extension, column) as u16);
     [
         ExtensionEntry(id1, id2),
-        MinutesRemaining(any >> random.below(64)),
+        MinutesRemaining(stc, any >> random.below(64)),
         PresentationSpan,
         Duration45k(stc),
         Duration90k(stc),
