@@ -2,7 +2,7 @@
 use Prim.Native.Nat.{ℕ, zero, suc, _+_, _*_, _<_, _≤_}
 use mathlib.Core.Path.{_≡_, sym, ap, _∙_}
 use mathlib.Core.List.{List, []}
-use native.Mathlib.Nat.{add-zero, mul-zero, mul-suc, suc-mul, mul-assoc, mul-comm, le-trans, mul-le-mul-right, div-mul-le-self}
+use native.Mathlib.Nat.{zero-add, add-zero, mul-zero, mul-suc, suc-mul, mul-assoc, mul-comm, le-trans, mul-le-mul-right, div-mul-le-self}
 use native.Mathlib.Omega.{arith}
 use lib.ListN.{length, getD}
 use Rattle.format.specs.Bytes.{rowsAt}
@@ -24,17 +24,19 @@ row-cell t cells q j h e is = is ∙ ap (cellAt t) e ∙ sym (item-at (cellAt t)
 pub rows-room : (cells : ℕ) (t : List ℕ) {n : ℕ} → n ≤ rowRoom cells t → n * (4 * cells) ≤ length t
 rows-room cells t h = le-trans (mul-le-mul-right (4 * cells) h) (div-mul-le-self (length t) (4 * cells))
 
+-- row k of a table
+pub row-of : (cells : ℕ) (t : List ℕ) (n k : ℕ) → k < n → getD (tableRows cells t n) k [] ≡ cellsAt t cells (4 * cells * k)
+unfolding tableRows
+row-of cells t n k h = item-at (cellsAt t cells) [] (4 * cells) 0 n k h ∙ ap (cellsAt t cells) (zero-add (4 * cells * k))
+
 module _ (cells : ℕ) (t : List ℕ) (n k j : ℕ) (row : k < n) (cell : j < cells) where
   -- where the cell stands
-  place : 0 + 4 * cells * k + 4 * j ≡ 4 * (cells * k + j)
+  place : 4 * cells * k + 4 * j ≡ 4 * (cells * k + j)
   place = rw (mul-assoc 4 cells k) (omega arith)
 
   -- so with a row of a table
   pub cell-of : {at r : ℕ} → at ≡ 4 * (cells * k + j) → r ≡ cellAt t at → r ≡ getD (getD (tableRows cells t n) k []) j 0
-  unfolding tableRows
-  cell-of e is =
-      row-cell t cells (0 + 4 * cells * k) j cell (e ∙ sym place) is
-      ∙ sym (ap (λ (cs : List ℕ). getD cs j 0) (item-at (cellsAt t cells) [] (4 * cells) 0 n k row))
+  cell-of e is = row-cell t cells (4 * cells * k) j cell (e ∙ sym place) is ∙ sym (ap (λ (cs : List ℕ). getD cs j 0) (row-of cells t n k row))
 
   -- the cell's four bytes lie inside a table that has room for the rows
   pub cell-room : n ≤ rowRoom cells t → 4 * (cells * k + j) + 4 ≤ length t

@@ -1,4 +1,4 @@
--- "Questions and the front figure": the questions on a record, document 01's lookups, and what each answers.
+-- "Questions and the front figure": the questions on a record, the lookups of document 01 with what 02 changes, and what each answers.
 use Prim.Native.Nat.{ℕ, suc, _+_, _*_, _-_, _/_, _%_, _^_, _≤_, max, min}
 use mathlib.Core.Path.{_≡_}
 use mathlib.Core.List.{List, [], _∷_, map}

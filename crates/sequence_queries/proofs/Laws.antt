@@ -3,19 +3,18 @@ use Prim.Native.Nat.{ℕ, suc, _+_, _*_, _-_, _/_, _^_, _<_, _≤_, max, min}
 use mathlib.Core.Path.{_≡_, refl, sym, ap, _∙_}
 use mathlib.Core.List.{List, [], _∷_}
 use mathlib.Core.Bool.{Bool, false, not}
-use native.Mathlib.Nat.{zero-add}
 use native.Mathlib.Omega.{arith}
 use lib.ListN.{getD, drop}
 use lib.Dec.{lit<}
 use borrow.Author.Tests.{lt-ltb, le-ltb}
-use Rattle.format.specs.ClipRecord.{Row, stcStart}
+use Rattle.format.specs.ClipRecord.{Row, stcStart, stcEnd}
 use Rattle.format.specs.Ticks.{Ticks45, Ticks90, doubled, less45, less90, later90}
 use Rattle.format.specs.Questions.{Question, firstStcSequence, presentationSpan90k, Answer, refused, none, number, ticks90, stcs, partsOf, latestEnd, leastStart, presentationSpan, durationOf, leftOf, durationsOf, minutesLeft, ofStc, answer, ask}
 use Rattle.format.specs.Tables.{cellsAt, tableRows, stcCells, isStated, clipIn, stated}
-use Rattle.format.proofs.Cell.{item-at, row-cell, cell-of}
+use Rattle.format.proofs.Cell.{row-of, row-cell, cell-of}
 use Rattle.format.proofs.Rows.{rows-length}
 use Rattle.cells.specs.Reads.{CellIs}
-use Rattle.ticks.specs.Times.{inTicks, IsSum}
+use Rattle.ticks.specs.Times.{as90, inTicks, IsSum}
 use Rattle.ticks.specs.declared.Minutes.{Minutes}
 use Rattle.queries.specs.Asked.{onlyStcs}
 use Rattle.queries.proofs.Asking.{answered}
@@ -66,11 +65,6 @@ module _ (t : List ℕ) (n : ℕ) where
   pub least-done : {whole : Ticks45} (k : ℕ) (least : Ticks45) → n ≤ k → Least whole k least → least ≡ whole
   least-done k least h i = rw (left-done stcCells t n k h) at i
 
--- row k of a table
-row-of : (t : List ℕ) (n k : ℕ) → k < n → getD (tableRows stcCells t n) k [] ≡ cellsAt t stcCells (4 * stcCells * k)
-unfolding tableRows
-row-of t n k h = item-at (cellsAt t stcCells) [] (4 * stcCells) 0 n k h ∙ ap (cellsAt t stcCells) (zero-add (4 * stcCells * k))
-
 -- ---- the answers
 
 -- a question about one row: none such, or that row answers
@@ -110,30 +104,30 @@ module _ (t : List ℕ) (n : ℕ) where
       let span = span-of (cellsAt t stcCells (4 * stcCells * 0)) (rowsLeft stcCells t n 1) v start in
       rw (s, b, e, a, d, rows) (ap (λ (x : Ticks90). ticks90 x) span)
 
-  -- the end of STC k less its start, by their cells, is its duration
+  -- the fourth and the third cell of STC k are its end and its start
+  times-of : (k : ℕ) {s e : ℕ} → k < n → CellIs t (16 * k + 12) e → CellIs t (16 * k + 8) s
+      → (e ≡ stcEnd (getD (tableRows stcCells t n) k []) .ticks) × (s ≡ stcStart (getD (tableRows stcCells t n) k []) .ticks)
+  times-of k h e s = (cell-of stcCells t n k 3 h (lit< tt) (omega arith) (e .same), cell-of stcCells t n k 2 h (lit< tt) (omega arith) (s .same))
+
+  -- its end less its start is its duration
   pub duration-is : (k : ℕ) {s e : ℕ} {r : Ticks45} → k < n → CellIs t (16 * k + 12) e → CellIs t (16 * k + 8) s
       → r ≡ less45 (record { ticks = e }) (record { ticks = s }) → r ≡ durationOf (getD (tableRows stcCells t n) k [])
-  duration-is k h e s r =
-      let end = cell-of stcCells t n k 3 h (lit< tt) (omega arith) (e .same) in
-      let start = cell-of stcCells t n k 2 h (lit< tt) (omega arith) (s .same) in
-      rw (r, end, start)
+  duration-is k h e s r = let times = times-of k h e s in rw (r, times .0, times .1)
 
-  -- twice the end of STC k less the time or, if that is later, twice its start, is what is left of it
+  -- twice its end less the time or, if that is later, twice its start, is what is left of it
   pub left-is : (k : ℕ) (at : Ticks90) {s e : ℕ} {end start from r : Ticks90} → k < n → CellIs t (16 * k + 12) e → CellIs t (16 * k + 8) s
       → end ≡ doubled (record { ticks = e }) → start ≡ doubled (record { ticks = s }) → from ≡ later90 at start → r ≡ less90 end from
       → r ≡ leftOf (getD (tableRows stcCells t n) k []) at
-  left-is k at h e s a b f r =
-      let end = cell-of stcCells t n k 3 h (lit< tt) (omega arith) (e .same) in
-      let start = cell-of stcCells t n k 2 h (lit< tt) (omega arith) (s .same) in
-      rw (r, f, a, b, end, start)
+  left-is k at h e s a b f r = let times = times-of k h e s in rw (r, f, a, b, times .0, times .1)
 
 -- ---- the minutes of an STC and of all later ones
 
 module _ (t : List ℕ) (n : ℕ) where
-  -- what is added up and what the STCs from k on add make the whole. One time of 64 bits has at most 2^42 minutes, an STC at most 1,591
+  -- what is added up and what the STCs from k on add make the whole. The first time, of 64 bits, adds at most 2^42 minutes, an STC
+  -- at most 1,591, the carry included
   pub record Added (whole k : ℕ) (m : Minutes) : Type 0 where
-    pub below : m .ticks < 5400000
-    pub few : m .whole ≤ 2 ^ 42 + 1592 * k
+    pub below : as90 (m .rest) .ticks < 5400000
+    pub few : m .whole ≤ 2 ^ 42 + 1591 * k
     pub together : inTicks m + durationsOf (rowsLeft stcCells t n k) .ticks ≡ whole
 
   -- the whole: what is left of STC k, and the durations of those behind it
@@ -153,14 +147,14 @@ module _ (t : List ℕ) (n : ℕ) where
       record { below = sum .below; few = omega (arith, none-is, sum-is, small); together = rw rows together }
 
   -- no more minutes than 64 bits hold, for as many STCs as 32 bits count
-  pub few-minutes : {whole k : ℕ} {m : Minutes} → k < 2 ^ 32 → Added whole k m → (m .ticks < 5400000) × (m .whole < 2 ^ 63)
+  pub few-minutes : {whole k : ℕ} {m : Minutes} → k < 2 ^ 32 → Added whole k m → (as90 (m .rest) .ticks < 5400000) × (m .whole < 2 ^ 63)
   few-minutes h i = let few = i .few in (i .below, omega arith)
 
   -- a turn adds the duration of STC k
   pub added-turn : (whole k : ℕ) {m new : Minutes} {d : Ticks45} {twice : Ticks90} → k < n → d ≡ durationOf (getD (tableRows stcCells t n) k []) → d .ticks < 2 ^ 32
       → twice ≡ doubled d → IsSum new (inTicks m + twice .ticks) → Added whole k m → Added whole (k + 1) new
   added-turn whole k {m = m} {new = new} {d = d} {twice = twice} h is small e sum i =
-      let row : d ≡ durationOf (cellsAt t stcCells (4 * stcCells * k)) = is ∙ ap durationOf (row-of t n k h) in
+      let row : d ≡ durationOf (cellsAt t stcCells (4 * stcCells * k)) = is ∙ ap durationOf (row-of stcCells t n k h) in
       let ticks : twice .ticks ≡ 2 * d .ticks = ap (λ (x : Ticks90). x .ticks) e in
       let same = ap (λ (x : Ticks45). x .ticks) row in
       let left = rw (left-turn stcCells t n k h) at (i .together) in

@@ -130,10 +130,10 @@ pub fn minutes_remaining(stcs: &[u8], rows: u32, stc: u32, at: Ticks90) -> Found
     if !is_stated(stcs, rows, STC) {
         return Found::Refused(22);
     }
-    if stc >= rows {
-        return Found::Refused(22);
+    if stc < rows {
+        return Found::Number(minutes_from(stcs, rows, stc, at));
     }
-    Found::Number(minutes_from(stcs, rows, stc, at))
+    Found::Refused(22)
 }
 
 // How long an STC is, by its own clock.

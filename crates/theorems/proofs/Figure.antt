@@ -11,7 +11,7 @@ use Rattle.format.specs.Ticks.{Ticks90}
 use Rattle.format.specs.ClipRecord.{Row, stcStart}
 use Rattle.format.specs.Questions.{refused, number, ticks45, ticks90, minutesRemaining, presentationSpan90k, duration45k, duration90k, latestEnd, leastStart, presentationSpan, durationsOf, minutesLeft, ofStc, answer}
 use Rattle.format.proofs.Lists.{none, more, all-map}
-use Rattle.theorems.specs.Figure.{Stc, stcRow, WithStcs, IsLess, SameTime, IsLatestEnd, IsLeastStart, WholeMinutes, IsSpan, IsLeft, Durations, IsRemaining, lectures, Worked, Figure}
+use Rattle.theorems.specs.Figure.{Stc, stcRow, WithStcs, IsLess, SameTime, IsLatestEnd, IsLeastStart, WholeMinutes, IsSpan, IsLeft, Durations, IsRemaining, Falls, lectures, Worked, Figure}
 
 -- ---- words
 
@@ -184,6 +184,18 @@ remaining-is before s later c at =
       },
     )
 
+-- the minutes of what is left to an end, and of what else there is, at a time and at one not earlier
+falls-are : (end start others at at′ : ℕ) → at ≤ at′
+    → Falls at at′ ((end - max at start + others) / 5400000) ((end - max at′ start + others) / 5400000)
+falls-are end start others at at′ h = record { not-above = omega arith; slowly = λ soon. omega arith }
+
+-- so falls the figure of an STC
+falls-is : (before : List Stc) (s : Stc) (later : List Stc) (c : WithStcs (before ++ (s ∷ later))) (at at′ : Ticks90) → at .ticks ≤ at′ .ticks
+    → (n : ℕ) × (n′ : ℕ) × (answer (minutesRemaining (length before) at) (c .clip) ≡ number n)
+    × (answer (minutesRemaining (length before) at′) (c .clip) ≡ number n′) × Falls (at .ticks) (at′ .ticks) n n′
+falls-is before s later c at at′ h =
+    (_, _, figure-is before s later c at, figure-is before s later c at′, falls-are (2 * s .end) (2 * s .start) (durationsOf (map stcRow later) .ticks) (at .ticks) (at′ .ticks) h)
+
 -- an STC that is over leaves what the next one has at its start
 next-is : (s next : Stc) (later at at′ : ℕ) → 2 * s .end ≤ at → at′ ≤ 2 * next .start
     → 2 * s .end - max at (2 * s .start) + (2 * (next .end - next .start) + later) ≡ 2 * next .end - max at′ (2 * next .start) + later
@@ -239,6 +251,7 @@ figure = record {
   span = span-is;
   no-span = no-span-is;
   remaining = remaining-is;
+  falls = falls-is;
   steady = steady-is;
   worked = worked-are;
 }

@@ -1,4 +1,5 @@
--- Durations, the presentation span and the front figure in words: a clock's rate, the latest end, the least start, whole minutes.
+-- Durations, the presentation span and the front figure in words: a clock's rate, the latest end, the least start, what is left of an STC,
+-- durations added up, whole minutes.
 use Prim.Native.Nat.{ℕ, suc, _+_, _*_, _≤_}
 use mathlib.Core.Path.{_≡_}
 use mathlib.Core.List.{List, [], _∷_, _++_, map, List·Memᴰ}
@@ -86,7 +87,7 @@ pub record IsLeft (s : Stc) (at left : ℕ) : Type 0 where
   pub else-at : start-90 ≤ at → from ≡ at
   pub left-is : IsLess end-90 from left
 
--- the durations of STCs by the 90 kHz clock, one and another
+-- the durations of STCs by the 90 kHz clock, added up
 pub data Durations : List Stc → ℕ → Type 0 where
   none : Durations [] 0
   one-more : {s : Stc} {later : List Stc} (t u rest : ℕ) → IsDuration s t u → Durations later rest → Durations (s ∷ later) (u + rest)
@@ -98,6 +99,11 @@ pub record IsRemaining (s : Stc) (later : List Stc) (at minutes : ℕ) : Type 0 
   pub others : ℕ
   pub others-are : Durations later others
   pub minutes-are : WholeMinutes (left + others) minutes
+
+-- a figure and one at a time not earlier: it does not rise, and in a minute it falls by one at most
+pub record Falls (at at′ minutes minutes′ : ℕ) : Type 0 where
+  pub not-above : minutes′ ≤ minutes
+  pub slowly : at′ ≤ at + 60 * 90000 → minutes ≤ minutes′ + 1
 
 -- ---- worked cases
 
@@ -113,8 +119,8 @@ lectures =
 abbrev pub Shows : WithStcs lectures → (stc at minutes : ℕ) → Type 0
 Shows c stc at minutes = answer (minutesRemaining stc (record { ticks = at })) (c .clip) ≡ number minutes
 
--- before the first start and at it; a tick before and a tick behind the last at which 51 whole minutes are left; at the first end and behind it
--- the STC without a duration; before the last start, at it, at its end, and as late as can be
+-- before the first start and at it; the last tick at which 51 whole minutes are left, and the next; at the first end and behind it; the STC
+-- without a duration; before the last start and at it; the last tick with 10 whole minutes, and the next; at the last end, as late as can be
 pub record Worked (c : WithStcs lectures) : Type 0 where
   pub before : Shows c 0 0 51
   pub start : Shows c 0 4860000 51
@@ -150,7 +156,11 @@ pub record Figure : Type 0 where
   -- the front figure at a time of an STC, with the STCs behind it, whatever stands before
   pub remaining : (before : List Stc) (s : Stc) (later : List Stc) (c : WithStcs (before ++ (s ∷ later))) (at : Ticks90)
       → (n : ℕ) × (answer (minutesRemaining (length before) at) (c .clip) ≡ number n) × IsRemaining s later (at .ticks) n
-  -- it falls without a jump: at the end of an STC or later it is what it is at the start of the next one or before, whatever their clocks say
+  -- it falls without a jump: within an STC by one a minute, and at the end of an STC or later it is what it is at the start of the next one or
+  -- before, whatever their clocks say
+  pub falls : (before : List Stc) (s : Stc) (later : List Stc) (c : WithStcs (before ++ (s ∷ later))) (at at′ : Ticks90) → at .ticks ≤ at′ .ticks
+      → (n : ℕ) × (n′ : ℕ) × (answer (minutesRemaining (length before) at) (c .clip) ≡ number n)
+      × (answer (minutesRemaining (length before) at′) (c .clip) ≡ number n′) × Falls (at .ticks) (at′ .ticks) n n′
   pub steady : (before : List Stc) (s next : Stc) (later : List Stc) (c : WithStcs (before ++ (s ∷ next ∷ later))) (at at′ : Ticks90) (end start : ℕ)
       → SameTime (s .end) end → end ≤ at .ticks → SameTime (next .start) start → at′ .ticks ≤ start
       → answer (minutesRemaining (length before) at) (c .clip) ≡ answer (minutesRemaining (suc (length before)) at′) (c .clip)

@@ -18,11 +18,11 @@ as90 t = record { ticks = t .0 }
 abbrev pub asPts : Pts90 → of.Ticks90
 asPts t = record { ticks = t .0 }
 
--- the ticks that minutes and the ticks below a minute stand for
+-- the ticks that whole minutes and the ticks below a minute stand for
 abbrev pub inTicks : Minutes → ℕ
-inTicks m = m .whole * 5400000 + m .ticks
+inTicks m = m .whole * 5400000 + as90 (m .rest) .ticks
 
--- so many ticks in all, and below a minute only what is less than one
+-- m stands for so many ticks in all, and its rest is less than a minute
 pub record IsSum (m : Minutes) (all : ℕ) : Type 0 where
   pub together : inTicks m ≡ all
-  pub below : m .ticks < 5400000
+  pub below : as90 (m .rest) .ticks < 5400000

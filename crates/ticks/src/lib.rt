@@ -55,7 +55,7 @@ impl Ticks90 {
 // Times added up, as whole minutes and the 90 kHz ticks below a minute, so that the sum may pass 64 bits.
 pub struct Minutes {
     pub whole: u64,
-    pub ticks: u64,
+    pub rest: Ticks90,
 }
 
 impl Minutes {
@@ -63,22 +63,28 @@ impl Minutes {
     pub fn none() -> Minutes
         ensures { λ r. ⌜ IsSum r 0 ⌝ }
     {
-        Minutes { whole: 0, ticks: 0 }
+        Minutes {
+            whole: 0,
+            rest: Ticks90(0),
+        }
     }
 
     // A time more, its minutes and its ticks added by themselves; the ticks may make up a minute, which is carried.
     pub fn plus(self, time: Ticks90) -> Minutes
-        requires { ⌜ (self .ticks < 5400000) × (self .whole < 2 ^ 63) ⌝ }
+        requires { ⌜ (as90 (self .rest) .ticks < 5400000) × (self .whole < 2 ^ 63) ⌝ }
         ensures { λ r. ⌜ IsSum r (inTicks self + as90 time .ticks) ⌝ }
     {
         let whole = self.whole + time.0 / 5400000;
-        let ticks = self.ticks + time.0 % 5400000;
+        let ticks = self.rest.0 + time.0 % 5400000;
         if ticks < 5400000 {
-            return Minutes { whole, ticks };
+            return Minutes {
+                whole,
+                rest: Ticks90(ticks),
+            };
         }
         Minutes {
             whole: whole + 1,
-            ticks: ticks - 5400000,
+            rest: Ticks90(ticks - 5400000),
         }
     }
 }

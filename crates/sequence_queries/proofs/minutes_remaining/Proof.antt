@@ -33,23 +33,23 @@ returns c =
     let a = c .before .before .before .args in
     unstated (minutesRemaining (a .stc) (as90 (a .at))) (onlyStcs (stated (now (a .stcs)) (a .rows))) stcs refl (c .before .is-stated .ensures) (c .if1 .taken)
 
-returns-2 : tie.Need-returns-2
-returns-2 c =
-    let a = c .before .before .before .before .args in
-    no-row (minutesRemaining (a .stc) (as90 (a .at))) (now (a .stcs)) (a .rows) (a .stc) (ofRow (a .stc) (as90 (a .at)) (now (a .stcs)) (a .rows)) refl (c .before .before .is-stated .ensures) (c .before .if1 .left) (asks (a .stc) (as90 (a .at)) (now (a .stcs)) (a .rows)) (c .if2 .taken)
-
 minutes-from-requires : tie.Need-minutes-from-requires
 minutes-from-requires c κs =
     let a = c .before .before .before .before .args in
-    (room stcCells (stated (now (a .stcs)) (a .rows)) (c .before .before .is-stated .ensures) (c .before .if1 .left), c .if2 .left)
+    (room stcCells (stated (now (a .stcs)) (a .rows)) (c .before .before .is-stated .ensures) (c .before .if1 .left), c .if2 .taken)
 
-returns-3 : tie.Need-returns-3
-returns-3 c =
+returns-2 : tie.Need-returns-2
+returns-2 c =
     let a = c .before .before .before .before .before .args in
     let f = c .before in
     ap number (c .minutes-from .ensures)
-    ∙ row-answers (minutesRemaining (a .stc) (as90 (a .at))) (now (a .stcs)) (a .rows) (a .stc) (ofRow (a .stc) (as90 (a .at)) (now (a .stcs)) (a .rows)) refl (f .before .before .is-stated .ensures) (f .before .if1 .left) (asks (a .stc) (as90 (a .at)) (now (a .stcs)) (a .rows)) (f .if2 .left) refl
+    ∙ row-answers (minutesRemaining (a .stc) (as90 (a .at))) (now (a .stcs)) (a .rows) (a .stc) (ofRow (a .stc) (as90 (a .at)) (now (a .stcs)) (a .rows)) refl (f .before .before .is-stated .ensures) (f .before .if1 .left) (asks (a .stc) (as90 (a .at)) (now (a .stcs)) (a .rows)) (f .if2 .taken) refl
+
+returns-3 : tie.Need-returns-3
+returns-3 c =
+    let a = c .before .before .before .before .args in
+    no-row (minutesRemaining (a .stc) (as90 (a .at))) (now (a .stcs)) (a .rows) (a .stc) (ofRow (a .stc) (as90 (a .at)) (now (a .stcs)) (a .rows)) refl (c .before .before .is-stated .ensures) (c .before .if1 .left) (asks (a .stc) (as90 (a .at)) (now (a .stcs)) (a .rows)) (c .if2 .left)
 
 pub minutes-remaining-spec : {M : Type 1} → statement M
 minutes-remaining-spec =
-    tie.close (tie.spec is-stated-requires returns returns-2 minutes-from-requires returns-3)
+    tie.close (tie.spec is-stated-requires returns minutes-from-requires returns-2 returns-3)
