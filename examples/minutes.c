@@ -1,7 +1,7 @@
 /* Prints the minutes remaining in a clip, the figure on a player's front: at the clip's start, or at a place, which is an
  * STC, by its row of table 2, and a time on the clock of that STC in 90 kHz ticks.
  *
- *     cc -I include examples/minutes.c target/staticlib/libclpi.a -o minutes && ./minutes samples/lecture.clpi 1 27000000 */
+ *     cc -I include examples/minutes.c target/staticlib/libclpi.a -o minutes && ./minutes samples/lecture.clpi 1 16200000 */
 #include <inttypes.h>
 #include <stdio.h>
 #include <stdlib.h>

@@ -431,18 +431,19 @@ struct clpi_answer clpi_extension_entry(
 
 /* Minutes remaining at a place of the clip, the figure on a player's front. The place is an STC, by its row of table 2
  * in file order, counted from 0, and a time on that STC's own clock, in 90 kHz ticks, as the times of its entries are.
- * What remains there is the STC's end less the time, not below 0, and the durations of all later rows, each its end
- * less its start, not below 0: added up in 90 kHz ticks, then rounded down, once, to whole minutes of 5,400,000 ticks.
+ * What remains there, in 90 kHz ticks, is twice the row's end less the time, not below 0, plus twice the durations of
+ * all later rows, each its end less its start, not below 0. The sum is rounded down, once, to whole minutes of
+ * 5,400,000 ticks.
  *
  * Every STC has its own clock, which seldom shows 0 where the STC starts. The row has start and end in 45 kHz ticks, so
  * on the clock the start is `2 * (uint64_t)presentation_start_time`: add that to a position counted from the start. A
  * time before it, as 0 mostly is, is taken as the start. So row 0 with time 0 asks at the clip's start: a film of 120
  * minutes whose STC starts at 27,000,000 in its row, 10 minutes on its clock, has 120 there.
  *
- * While a clip plays, ask with the row of the STC that plays, which `clpi_stc_sequence_for_spn` tells by a packet, and
- * the time on its clock. The answer at an STC's end, or past it, is the one at the next STC's start, so the figure falls
- * from one to the next without a jump. It is CLPI_REFUSED_ROWS where `stc` is not one of the rows, so always without
- * STCs. The rows are gone over once, from `stc` on. */
+ * While a clip plays, ask with the row of the STC that plays, which `clpi_stc_sequence_for_spn` tells by an ATC and a
+ * packet, and the time on its clock. The answer at an STC's end, or past it, is the one at the next STC's start, so the
+ * figure falls from one to the next without a jump. It is CLPI_REFUSED_ROWS where `stc` is not one of the rows, so
+ * always without STCs. The rows are gone over once, from `stc` on. */
 struct clpi_answer clpi_minutes_remaining(
     const uint8_t *stcs, size_t stcs_bytes, uint32_t rows, uint32_t stc, uint64_t at_90k);
 

@@ -238,7 +238,7 @@ static int wrong_word(int words, char **argv)
     else if (words == 3 && strcmp(argv[1], "rewrite") == 0)
         fprintf(stderr, "clip: '%s' looks like a switch: for a file of that name, say './%s'\n", argv[3], argv[3]);
     else if (words == 3 && strcmp(argv[1], "minutes") == 0)
-        fprintf(stderr, "clip: '%s': a time needs its STC: clip minutes FILE STC TIME\n", argv[3]);
+        fprintf(stderr, "clip: '%s' alone is no place: say an STC and a time, as in: clip minutes FILE 0 +40:00\n", argv[3]);
     return wrong_use();
 }
 
@@ -248,6 +248,8 @@ int main(int argc, char **argv)
     if ((argc == 2 || argc == 3) && (strcmp(command, "help") == 0 || asks_help(command)))
         return help(argv[2]);
     if (argc == 3 && asks_help(argv[2]))
+        return help(command);
+    if (argc == 4 && strcmp(command, "minutes") == 0 && asks_help(argv[3]))
         return help(command);
     if (argc == 2 && strcmp(command, "--version") == 0)
         return version();

@@ -82,7 +82,8 @@ static int position(const char *word, uint64_t *ticks)
 /* Says that a word is no number of an STC. */
 static int no_number(const char *word)
 {
-    fprintf(stderr, "clip: '%s' is no STC number: say a whole number, at most %" PRIu32 ", before the time\n",
+    fprintf(stderr,
+        "clip: '%s' is no STC number: say 0 for the first STC, 1 for the second, and so on (at most %" PRIu32 ")\n",
         word, UINT32_MAX);
     return wrong_use();
 }
@@ -111,12 +112,12 @@ static int read_place(const char *stc, const char *time, struct place *p)
 
 /* ---- the answer */
 
-/* Says that the file has no such STC, and how many it has. */
+/* Says that the file has no such STC, and which is its last. */
 static int no_stc(const char *path, uint32_t refusal, uint32_t stc, uint32_t stcs)
 {
-    char words[80] = "the file has no STC sequences, and so no time";
+    char words[80] = "the file has no STC sequences, so no minutes can be told";
     if (stcs)
-        snprintf(words, sizeof words, "there is no STC %" PRIu32 ": the file has %" PRIu32 ", counted from 0", stc, stcs);
+        snprintf(words, sizeof words, "there is no STC %" PRIu32 ": the last one is STC %" PRIu32, stc, stcs - 1);
     return refused_for(path, refusal, words);
 }
 
@@ -141,7 +142,7 @@ static int print_minutes(const char *path, const struct clpi_tables *t, uint32_t
     return printed();
 }
 
-/* clip minutes FILE STC TIME */
+/* clip minutes FILE STC TIME; FILE alone comes as STC 0, time 0. */
 static int minutes(const char *path, const char *stc, const char *time)
 {
     struct place p;

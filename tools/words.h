@@ -189,7 +189,7 @@ static const char help_minutes[] =
     "STC, or none at all, is refused by 22.\n"
     "\n"
     "TIME is one of these:\n"
-    "  27000000  90 kHz ticks, 90000 a second, on the clock of that STC, as the times\n"
+    "  16200000  90 kHz ticks, 90000 a second, on the clock of that STC, as the times\n"
     "            of its 'ep' lines are; at most 18446744073709551615\n"
     "  +40:00    minutes and seconds from the start of that STC; the minutes may be\n"
     "            any number, as in +75:30\n"
@@ -204,10 +204,10 @@ static const char help_minutes[] =
     "2 the arguments are wrong, 3 the system failed.\n"
     "\n"
     "Examples: at the start of a clip; 40 minutes from the start of its first STC; and\n"
-    "where the clock of its second STC shows 27000000 ticks, which are 5 minutes:\n"
+    "where the clock of its second STC shows 16200000 ticks, which are 3 minutes:\n"
     "  clip minutes 00001.clpi\n"
     "  clip minutes 00001.clpi 0 +40:00\n"
-    "  clip minutes 00001.clpi 1 27000000\n";
+    "  clip minutes 00001.clpi 1 16200000\n";
 
 /* Prints the refusals and their words. */
 static int help_refusals(void)
@@ -216,11 +216,11 @@ static int help_refusals(void)
     for (size_t i = 0; i < sizeof refusals / sizeof *refusals; i++)
         printf("  %2" PRIu32 "  %s\n", refusals[i], words_for(refusals[i]));
     printf("\n%s\n"
-           "By 22 'clip minutes' refuses an STC that the file has not, and nothing else is\n"
-           "wrong with it. An entry index or marks that start at 0, or at or past the file's\n"
-           "end, are no fault: the file has none. 'clip list' has lower limits for 20 and 21,\n"
-           "which 'clip help list' tells. What the system can't do is told in the system's\n"
-           "words, without a number.\n",
+           "22, from 'clip minutes', says that the file has no STC of that number; the file\n"
+           "itself has no fault. An entry index or marks that start at 0, or at or past the\n"
+           "file's end, are no fault: the file has none. 'clip list' has lower limits for 20\n"
+           "and 21, which 'clip help list' tells. What the system can't do is told in the\n"
+           "system's words, without a number.\n",
            refusals_told);
     return printed();
 }

@@ -2,12 +2,13 @@
 from collections import namedtuple
 
 import reading
-from blocks import clock, hexed, listed, table, with_minutes
+from blocks import clock, from_start, hexed, listed, table, with_minutes
 from reading import MINUTE, Reading, Refused
 from times import length45, length90, place45, place90, plain
 
 FORTY = 40 * MINUTE  # minute 40 of the first clock, where the last entry is
 IN = 25 * MINUTE  # from the first start to the place that the walk asks at
+START = from_start(0)  # the start of an STC, as ./clip takes it
 
 # ---- what is asked: words, the answer of a reading, and what ./clip minutes is called with to ask the same, if it can be
 
@@ -19,11 +20,20 @@ def minutes_at(stc, at, words):
     return Asked(f"minutes at STC {stc}, {place90(at, stc)} ({words})", lambda r: r.minutes(stc, at), (stc, at))
 
 
+def ticks_of(r, stc, time):
+    """The ticks that a time of a command is; an STC that is not there has no start, and is refused at any time."""
+    if time == START:
+        return r.start(stc) if stc < len(r.stcs) else 0
+    return time
+
+
 def command(*place):
-    """The figure of a changed copy at a place, or at the start of the first STC."""
-    stc, at = place or (0, 0)
-    place90(at, stc)
-    return Asked(f"`{' '.join(map(str, ('./clip minutes copy.clpi', *place)))}`", lambda r: r.minutes(stc, at), place)
+    """The figure of a changed copy at an STC and a time, ticks or START; without them at the start of the first STC."""
+    stc, time = place or (0, START)
+    if time != START:
+        place90(time, stc)
+    words = " ".join(map(str, ("./clip minutes copy.clpi", *place)))
+    return Asked(f"`{words}`", lambda r: r.minutes(stc, ticks_of(r, stc, time)), place)
 
 
 def entry(k):
@@ -39,10 +49,12 @@ def shown_entry(e):
 
 
 def entries(m):
+    """How many entries a map has."""
     return Asked(f"entries of map {m}", lambda r: len(r.maps[m]["entries"]) if m < len(r.maps) else "no such map", None)
 
 
 def seek(at):
+    """The packet that is found for a time."""
     return Asked(f"packet to read from at {place90(at, 0)}", lambda r: plain(r.seek(at)), None)
 
 
@@ -64,7 +76,7 @@ Change = namedtuple("Change", "at byte asked")
 
 def changes():
     """Each change by a name."""
-    first, later, forty = command(), command(1, 0), command(0, FORTY)
+    first, later, forty = command(), command(1, START), command(0, FORTY)
     return {
         "end": Change(242, 0x05, [first, forty]), "start": Change(238, 0x01, [first, forty]),
         "later_end": Change(256, 0x00, [first, later]), CROSSED: Change(252, 0x02, [first, later]),
@@ -108,7 +120,7 @@ def try_answers(old):
     return {
         **numbers, "try_part": length45(part), "try_part90": length90(r.doubled(part)), "try_end": place90(after["end"].end(0), 0),
         "try_start": place90(after["start"].start(0), 0),
-        "try_crossed": answer(after[CROSSED], command(1, 0)), "try_one": answer(after["one_stc"], command(1, 0)),
+        "try_crossed": answer(after[CROSSED], command(1, START)), "try_one": answer(after["one_stc"], command(1, START)),
         "try_sum": place90(reading.TimesAdded(after["shared"].file).maps[0]["entries"][5]["time"], 0),
         "try_or": place90(after["shared"].maps[0]["entries"][5]["time"], 0),
     }
@@ -138,6 +150,8 @@ def figure_errors(r):
          [(PLAIN, start), (PLAIN, walk)]),
         ("an end before its start counted as negative", reading.NegativeDuration,
          "sequence_queries/must-fail/rows_from_the_first`, `below_zero", [(CROSSED, start)]),
+        ("or wrapped to 32 bits", reading.WrappedDuration, "sequence_queries/must-fail/latest_end`, `wrapped_duration",
+         [(CROSSED, start)]),
     ]
 
 
@@ -187,6 +201,7 @@ def file_words(name):
 
 
 def error_table(files):
+    """Each error with the right and the wrong number, wherever it shows."""
     rows = [(number, words, file_words(name), asked.words, right, f"**{wrong}**", f"`{edit}`" if len(edit) > 1 else edit)
             for number, words, name, asked, right, wrong, edit in error_rows(files)]
     return table(["", "error", "file", "what is asked", "right", "wrong", "in the code"], rows)
@@ -202,7 +217,8 @@ def why_minutes(file, crossed):
     unraised, every = reading.TimeNotRaised(file).left(0, 0), reading.AllCounted(file).left(1, r.start(1))
     jump, over = latest.left(1, r.start(1)), latest.left(1, r.end(1))
     *_, start, end = bad.stcs[1]
-    negative = reading.NegativeDuration(crossed).left(0, r.start(0))
+    negative, wrapping = reading.NegativeDuration(crossed).left(0, r.start(0)), reading.WrappedDuration(crossed)
+    wrapped = wrapping.duration(start, end)
     return {
         "why_undoubled": with_minutes(undoubled), "why_every": with_minutes(every), "why_unraised": with_minutes(unraised),
         "why_jump": with_minutes(jump), "why_over": with_minutes(over), "why_before_jump": latest.minutes(0, r.end(0)),
@@ -210,6 +226,8 @@ def why_minutes(file, crossed):
         "why_rest0": r.left_of(0, 0) % MINUTE // 90000, "why_rest1": r.left_of(1, 0) % MINUTE // 90000,
         "why_crossed_start": place45(start, 1), "why_crossed_end": place45(end, 1), "why_crossed_by": length45(start - end),
         "why_crossed_by90": length90(r.doubled(start - end)), "why_negative": with_minutes(negative),
+        "why_wrap": plain(2**32), "why_wrapped": length45(wrapped), "why_wrapped90": length90(r.doubled(wrapped)),
+        "why_wrapped_sum": with_minutes(wrapping.left(0, r.start(0))),
     }
 
 
@@ -229,6 +247,7 @@ def why_times(file):
 
 
 def why_address(file):
+    """Of the map address counted from the CPI start."""
     m = reading.AddressFromCpiStart(file).maps[0]
     fine = m["fine"][5]
     return {
@@ -253,6 +272,7 @@ def why_places(backwards, over):
 
 
 def values(files):
+    """Every name of the errors and the changes with what stands for it."""
     old, example = files[PLAIN], changes()["end"]
     return {
         "error_table": error_table(files), "change_table": change_table(old), "change_answers": change_answers(old),

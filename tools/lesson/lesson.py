@@ -85,10 +85,12 @@ def source(crate, *module):
 
 
 def is_definition(file, name):
+    """Whether a file of definitions has one of this name."""
     return re.search(rf"^\w+ pub {name} :", page.spec(ROOT, file), re.M)
 
 
 def is_function(path):
+    """Whether a crate has a function by this path."""
     crate, *module, name = path.split("::")
     return re.search(rf"\bfn {name}\(", source(crate, *module))
 
@@ -164,6 +166,7 @@ CHECKS = (differences, wrong_numbers, times_apart, times_test, rules, names, num
 
 
 def main(arguments):
+    """Makes or checks, as the one argument says."""
     if arguments == ["make"]:
         for path, data in made().items():
             (ROOT / path).write_bytes(data)

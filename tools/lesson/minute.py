@@ -1,6 +1,6 @@
 """The first walk of docs/MINUTES.md, from the header's bytes to the minute: its dumps, its tables and its numbers."""
 from blocks import by_bytes, clock, dump, from_start, hexed, table, with_minutes
-from errors import FORTY, IN, answer, command
+from errors import FORTY, IN, START, answer, command
 from reading import MINUTE
 from times import length45, length90, place45, place90
 
@@ -10,14 +10,17 @@ BOTH = 5 * MINUTE  # a time that is on either clock
 
 
 def starts_fields():
+    """Of the header: where each section starts."""
     return [(8 + 4 * k, 4, name) for k, name in enumerate(("sequences", "programs", "CPI", "marks", "extensions"))]
 
 
 def sequences_fields(start):
+    """Of what stands before the first ATC."""
     return [(start, 4, "length (ignored)"), (start + 4, 1, "spare"), (start + 5, 1, "number of ATCs")]
 
 
 def atc_fields(at, k):
+    """Of ATC k, before its STCs."""
     return [(at, 4, f"ATC {k}: packet"), (at + 4, 1, "number of STCs"), (at + 5, 1, "offset id")]
 
 
@@ -25,6 +28,7 @@ def stc_fields(at, k):
     """Of STC k, whose start and end are times on its own clock."""
 
     def shown(ticks):
+        """A time on that clock."""
         return place45(ticks, k)
 
     return [(at, 2, f"STC {k}: PID"), (at + 2, 4, "packet"), (at + 6, 4, "start", shown), (at + 10, 4, "end", shown)]
@@ -134,7 +138,8 @@ def figure_values(r):
         "left_in_minutes": with_minutes(left_in), "minutes_in": r.minutes(0, at),
         "border": place90(border, 0), "minutes_border": r.minutes(0, border + 1),
         "minutes_between": r.minutes(1, r.start(1)), "minutes_end": r.minutes(1, r.end(1)),
-        "title_words": clock(left), "missing": len(r.stcs), "refused": answer(r, command(len(r.stcs), 0)).split()[1],
+        "title_words": clock(left), "missing": len(r.stcs), "refused": answer(r, command(len(r.stcs), START)).split()[1],
+        "at_start": START,
         "minutes_table": minutes_table(r, places(r)), "outside_table": minutes_table(r, places_outside(r)),
     }
 

@@ -47,6 +47,7 @@ def places_asked(files):
     asked += [question.arguments for _, _, _, question, *_ in errors.error_rows(files) if question.arguments]
     for name in files:
         yield name, 0, 0, ()
+        yield name, len(r.stcs), 0, (len(r.stcs), errors.START)
         for stc, at in dict.fromkeys(asked):
             yield name, stc, at, (stc, at)
             if stc < len(r.stcs) and minute.second_of(r, stc, at):

@@ -257,6 +257,11 @@ class NegativeDuration(Reading):
         return end - start
 
 
+class WrappedDuration(Reading):
+    def duration(self, start, end):
+        return (end - start) % 2**32
+
+
 class TimesAdded(Reading):
     def join_time(self, coarse, fine):
         return coarse * 524288 + fine * 512

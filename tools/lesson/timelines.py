@@ -21,6 +21,7 @@ class Scale:
     """Where a second from the very start, and a figure, are drawn."""
 
     def __init__(self, r):
+        """From how long the STCs are, in seconds, and the greatest figure."""
         self.longs = [(r.end(k) - r.start(k)) // TICKS for k in range(len(r.stcs))]
         self.whole = sum(self.longs)
         self.most = r.minutes(0, 0)
@@ -30,9 +31,11 @@ class Scale:
         return sum(self.longs[:stc])
 
     def x(self, second):
+        """From left to right."""
         return LEFT + (RIGHT - LEFT) * second / self.whole
 
     def y(self, minutes):
+        """From below to above."""
         return BOTTOM - (BOTTOM - TOP) * minutes / self.most
 
 
@@ -132,8 +135,8 @@ def dot(second, minutes, scale, colour, label, dx, dy):
 def figure(r, wrong, scale):
     """The right figure, and the one that is taken off the latest end."""
     border, whole = scale.begins(1), scale.whole
-    old = [steps(r, scale, wrong, k) for k in (0, 1)]
-    shapes = axis(scale) + [stairs(old[0] + old[1], scale, RED, DASHED)]
+    wrong_steps = steps(r, scale, wrong, 0) + steps(r, scale, wrong, 1)
+    shapes = axis(scale) + [stairs(wrong_steps, scale, RED, DASHED)]
     shapes.append(stairs(steps(r, scale, r, 0) + steps(r, scale, r, 1), scale, BLUE))
     at = [(0, 0, r.start(0)), (border, 0, r.end(0)), (border, 1, r.start(1)), (whole, 1, r.end(1))]
     right, jump = [r.minutes(stc, time) for _, stc, time in at], [wrong.minutes(stc, time) for _, stc, time in at]
