@@ -61,8 +61,8 @@ fn all(rows: &[u8], cases: &[Case], answerer: &mut impl Answerer) -> Vec<Named> 
     told
 }
 
-/// The name of the first place, on the fewest rows that pass 2^64 ticks, that an answerer answers otherwise; none where
-/// there is none, and nothing where the rows can't be mapped.
+/// The name of the first place, on the fewest rows that pass 2^64 ticks, that an answerer answers otherwise: `None` where the
+/// rows can't be mapped, `Some(None)` where it answers every place as wanted.
 pub fn first(answerer: &mut impl Answerer) -> Option<Option<String>> {
     rows().map(|rows| named::first(all(rows.rows(), &[ABOVE], answerer)))
 }

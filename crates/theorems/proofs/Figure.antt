@@ -11,7 +11,7 @@ use Rattle.format.specs.Ticks.{Ticks90}
 use Rattle.format.specs.ClipRecord.{Row, stcStart}
 use Rattle.format.specs.Questions.{refused, number, ticks45, ticks90, minutesRemaining, presentationSpan90k, duration45k, duration90k, latestEnd, leastStart, presentationSpan, durationsOf, minutesLeft, ofStc, answer}
 use Rattle.format.proofs.Lists.{none, more, all-map}
-use Rattle.theorems.specs.Figure.{Stc, stcRow, WithStcs, IsLess, SameTime, IsLatestEnd, IsLeastStart, WholeMinutes, IsSpan, IsLeft, Durations, IsRemaining, Falls, lectures, Worked, Figure}
+use Rattle.theorems.specs.Figure.{Stc, stcRow, WithStcs, IsLess, SameTime, IsLatestEnd, IsLeastStart, WholeMinutes, IsSpan, IsLeft, Durations, IsRemaining, Falls, IsBetween, lectures, Worked, Figure}
 
 -- ---- words
 
@@ -185,31 +185,35 @@ remaining-is before s later c at =
     )
 
 -- the minutes of what is left to an end, and of what else there is, at a time and at one not earlier
-falls-are : (end start others at at′ : ℕ) → at ≤ at′
-    → Falls at at′ ((end - max at start + others) / 5400000) ((end - max at′ start + others) / 5400000)
-falls-are end start others at at′ h = record { not-above = omega arith; slowly = λ soon. omega arith }
+falls-are : (s : Stc) (others at at′ : ℕ) → at ≤ at′
+    → Falls s at at′ ((2 * s .end - max at (2 * s .start) + others) / 5400000) ((2 * s .end - max at′ (2 * s .start) + others) / 5400000)
+falls-are s others at at′ h = record {
+  not-above = omega arith;
+  slowly = λ soon. omega arith;
+  each-minute = λ start end b e from minute within. omega arith;
+}
 
 -- so falls the figure of an STC
 falls-is : (before : List Stc) (s : Stc) (later : List Stc) (c : WithStcs (before ++ (s ∷ later))) (at at′ : Ticks90) → at .ticks ≤ at′ .ticks
     → (n : ℕ) × (n′ : ℕ) × (answer (minutesRemaining (length before) at) (c .clip) ≡ number n)
-    × (answer (minutesRemaining (length before) at′) (c .clip) ≡ number n′) × Falls (at .ticks) (at′ .ticks) n n′
+    × (answer (minutesRemaining (length before) at′) (c .clip) ≡ number n′) × Falls s (at .ticks) (at′ .ticks) n n′
 falls-is before s later c at at′ h =
-    (_, _, figure-is before s later c at, figure-is before s later c at′, falls-are (2 * s .end) (2 * s .start) (durationsOf (map stcRow later) .ticks) (at .ticks) (at′ .ticks) h)
+    (_, _, figure-is before s later c at, figure-is before s later c at′, falls-are s (durationsOf (map stcRow later) .ticks) (at .ticks) (at′ .ticks) h)
 
 -- an STC that is over leaves what the next one has at its start
-next-is : (s next : Stc) (later at at′ : ℕ) → 2 * s .end ≤ at → at′ ≤ 2 * next .start
+next-is : (s next : Stc) (later at at′ : ℕ) → IsBetween s next at at′
     → 2 * s .end - max at (2 * s .start) + (2 * (next .end - next .start) + later) ≡ 2 * next .end - max at′ (2 * next .start) + later
-next-is s next later at at′ over early = omega arith
+next-is s next later at at′ b = omega (arith, b .same-end, b .over, b .same-start, b .not-begun)
 
 -- so the figure is the same there
-steady-is : (before : List Stc) (s next : Stc) (later : List Stc) (c : WithStcs (before ++ (s ∷ next ∷ later))) (at at′ : Ticks90) (end start : ℕ)
-    → SameTime (s .end) end → end ≤ at .ticks → SameTime (next .start) start → at′ .ticks ≤ start
+steady-is : (before : List Stc) (s next : Stc) (later : List Stc) (c : WithStcs (before ++ (s ∷ next ∷ later))) (at at′ : Ticks90)
+    → IsBetween s next (at .ticks) (at′ .ticks)
     → answer (minutesRemaining (length before) at) (c .clip) ≡ answer (minutesRemaining (suc (length before)) at′) (c .clip)
-steady-is before s next later c at at′ end start e over b early =
+steady-is before s next later c at at′ b =
     let moved : WithStcs ((before ++ (s ∷ [])) ++ (next ∷ later)) = record { clip = c .clip; rows = rw (append-assoc before (s ∷ []) (next ∷ later)) (c .rows) } in
     let row : length (before ++ (s ∷ [])) ≡ suc (length before) = length-append before (s ∷ []) ∙ omega arith in
     figure-is before s (next ∷ later) c at
-    ∙ ap (λ (n : ℕ). number (n / 5400000)) (next-is s next (durationsOf (map stcRow later) .ticks) (at .ticks) (at′ .ticks) (omega arith) (omega arith))
+    ∙ ap (λ (n : ℕ). number (n / 5400000)) (next-is s next (durationsOf (map stcRow later) .ticks) (at .ticks) (at′ .ticks) b)
     ∙ sym (rw row at (figure-is (before ++ (s ∷ [])) next later moved at′))
 
 -- the worked cases, each by the figure of its STC

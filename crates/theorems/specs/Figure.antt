@@ -100,10 +100,22 @@ pub record IsRemaining (s : Stc) (later : List Stc) (at minutes : ℕ) : Type 0 
   pub others-are : Durations later others
   pub minutes-are : WholeMinutes (left + others) minutes
 
--- a figure and one at a time not earlier: it does not rise, and in a minute it falls by one at most
-pub record Falls (at at′ minutes minutes′ : ℕ) : Type 0 where
+-- a figure of an STC and one at a time not earlier: it does not rise, in a minute it falls by one at most, and by one in a minute that lies
+-- between start and end
+pub record Falls (s : Stc) (at at′ minutes minutes′ : ℕ) : Type 0 where
   pub not-above : minutes′ ≤ minutes
   pub slowly : at′ ≤ at + 60 * 90000 → minutes ≤ minutes′ + 1
+  pub each-minute : (start end : ℕ) → SameTime (s .start) start → SameTime (s .end) end → start ≤ at → at′ ≡ at + 60 * 90000 → at′ ≤ end
+      → minutes ≡ minutes′ + 1
+
+-- a time of an STC at its end or later, and one of the next STC at its start or before
+pub record IsBetween (s next : Stc) (at at′ : ℕ) : Type 0 where
+  pub end : ℕ
+  pub same-end : SameTime (s .end) end
+  pub over : end ≤ at
+  pub start : ℕ
+  pub same-start : SameTime (next .start) start
+  pub not-begun : at′ ≤ start
 
 -- ---- worked cases
 
@@ -160,8 +172,8 @@ pub record Figure : Type 0 where
   -- before, whatever their clocks say
   pub falls : (before : List Stc) (s : Stc) (later : List Stc) (c : WithStcs (before ++ (s ∷ later))) (at at′ : Ticks90) → at .ticks ≤ at′ .ticks
       → (n : ℕ) × (n′ : ℕ) × (answer (minutesRemaining (length before) at) (c .clip) ≡ number n)
-      × (answer (minutesRemaining (length before) at′) (c .clip) ≡ number n′) × Falls (at .ticks) (at′ .ticks) n n′
-  pub steady : (before : List Stc) (s next : Stc) (later : List Stc) (c : WithStcs (before ++ (s ∷ next ∷ later))) (at at′ : Ticks90) (end start : ℕ)
-      → SameTime (s .end) end → end ≤ at .ticks → SameTime (next .start) start → at′ .ticks ≤ start
+      × (answer (minutesRemaining (length before) at′) (c .clip) ≡ number n′) × Falls s (at .ticks) (at′ .ticks) n n′
+  pub steady : (before : List Stc) (s next : Stc) (later : List Stc) (c : WithStcs (before ++ (s ∷ next ∷ later))) (at at′ : Ticks90)
+      → IsBetween s next (at .ticks) (at′ .ticks)
       → answer (minutesRemaining (length before) at) (c .clip) ≡ answer (minutesRemaining (suc (length before)) at′) (c .clip)
   pub worked : (c : WithStcs lectures) → Worked c
