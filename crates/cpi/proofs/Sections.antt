@@ -5,11 +5,11 @@ use mathlib.Core.List.{List}
 use mathlib.Core.Bool.{Bool, true, false}
 use native.Mathlib.Omega.{arith}
 use lib.ListN.{length}
-use borrow.Author.Tests.{le-leb, lt-leb, lt-ltb, le-ltb, leb-true}
-use Rattle.format.specs.Bytes.{pick, both, unless, orLater, firstRefusal, beAt, rowsAt, total}
-use Rattle.format.specs.ClipRecord.{entryCount, present}
-use Rattle.format.specs.EntryPoints.{coarseCountAt, fineCountAt, mapAt, nextMap, bodyAt, fineStart, entriesOf, cpiEnd, hasMaps, mapCount, mapsFrom, entriesFrom, cpiLengthIn, mapHeadersIn, cpiIn, mapRefusal, mapsRefusal}
-use Rattle.format.proofs.Tests.{both-true}
+use borrow.Author.Tests.{le-leb, lt-leb, lt-ltb, le-ltb}
+use Rattle.format.specs.Bytes.{pick, unless, orLater, firstRefusal, beAt, rowsAt, total}
+use Rattle.format.specs.ClipRecord.{entryCount}
+use Rattle.format.specs.EntryPoints.{coarseCountAt, fineCountAt, mapAt, nextMap, bodyAt, fineStart, entriesOf, cpiEnd, hasMaps, mapCount, mapsFrom, entriesFrom, cpiIn, mapRefusal, mapsRefusal}
+use Rattle.format.proofs.MapRefusals.{section-in}
 use Rattle.format.proofs.Rows.{rows-length, gather-adds}
 use Rattle.format.proofs.Cpi.{count-by}
 use Rattle.format.proofs.Read.{own-length}
@@ -134,11 +134,6 @@ module _ (f : List ℕ) (c count : ℕ) (counted : count ≡ mapCount f c) where
 -- ---- the section
 
 module _ (f : List ℕ) (c : ℕ) where
-  -- where there are maps, there is a section
-  present-of : hasMaps f c ≡ true → present f c ≡ true
-  unfolding hasMaps
-  present-of q = both-true q .0
-
   -- without maps both counts are 0
   no-maps : hasMaps f c ≡ false → CpiCounts.Counts 0 0 ≡ mapsMeasured f c
   unfolding mapsMeasured mapsRefusal mapsFrom entriesFrom mapCount
@@ -146,23 +141,20 @@ module _ (f : List ℕ) (c : ℕ) where
 
   -- what the head's answer says
   pub head-said : (n e : ℕ) → length f ≤ 536870912 → cpiHead f c ≡ CpiHead.Maps n e → (cpiIn f c ≡ true) × HeadersIn f c n e
-  unfolding cpiHead cpiIn
-  head-said n e small h = go (cpiLengthIn f c) (hasMaps f c) (mapHeadersIn f c) refl refl refl h
+  unfolding cpiHead
+  head-said n e small h = go (cpiIn f c) (hasMaps f c) refl refl h
     where
-      go : (a m b : Bool) → cpiLengthIn f c ≡ a → hasMaps f c ≡ m → mapHeadersIn f c ≡ b
-          → pick (both a b) (pick m (CpiHead.Maps (beAt f (c + 7) 1) (cpiEnd f c)) CpiHead.NoMaps) CpiHead.PastEnd ≡ CpiHead.Maps n e
-          → (both a b ≡ true) × HeadersIn f c n e
-      go false m b p q r h = let z : _≡_ {A = ℕ} 0 1 = cc in absurd (omega arith)
-      go true m false p q r h = let z : _≡_ {A = ℕ} 0 1 = cc in absurd (omega arith)
-      go true false true p q r h = let z : _≡_ {A = ℕ} 0 1 = cc in absurd (omega arith)
-      go true true true p q r h =
+      go : (a m : Bool) → cpiIn f c ≡ a → hasMaps f c ≡ m
+          → pick a (pick m (CpiHead.Maps (beAt f (c + 7) 1) (cpiEnd f c)) CpiHead.NoMaps) CpiHead.PastEnd ≡ CpiHead.Maps n e
+          → (a ≡ true) × HeadersIn f c n e
+      go false m p q h = let z : _≡_ {A = ℕ} 0 1 = cc in absurd (omega arith)
+      go true false p q h = let z : _≡_ {A = ℕ} 0 1 = cc in absurd (omega arith)
+      go true true p q h =
           let is-n : n ≡ beAt f (c + 7) 1 = cc in
           let is-e : e ≡ cpiEnd f c = cc in
           let count : mapCount f c ≡ beAt f (c + 7) 1 = count-by f c true q in
-          let there : present f c ≡ true = present-of q in
-          let l : cpiEnd f c ≤ length f = leb-true (cpiEnd f c) (length f) (rw there at p) in
-          let m : c + 8 + 12 * mapCount f c ≤ length f = leb-true (c + 8 + 12 * mapCount f c) (length f) (rw q at r) in
-          (refl, record { small = small; counted = is-n ∙ sym count; end-is = is-e; end-in = omega arith; headers = omega arith })
+          let there = section-in f c q p in
+          (refl, record { small = small; counted = is-n ∙ sym count; end-is = is-e; end-in = omega (arith, there .0); headers = omega (arith, there .1) })
 
   -- where the head tells of no maps, both counts of the section are 0
   pub head-none : cpiHead f c ≡ CpiHead.NoMaps → CpiCounts.Counts 0 0 ≡ cpiMeasured f c

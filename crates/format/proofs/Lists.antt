@@ -1,13 +1,13 @@
 -- Lists all of whose elements have a property, and parts of a list.
 use Prim.Native.Nat.{ℕ, zero, suc, _+_, _<_, _≤_}
-use mathlib.Core.Path.{_≡_, refl, _∙_}
-use mathlib.Core.List.{List, [], _∷_, _++_}
-use mathlib.Core.Bool.{Bool, true}
+use mathlib.Core.Path.{_≡_, refl, sym, ap, _∙_}
+use mathlib.Core.List.{List, [], _∷_, _++_, List·Memᴰ, List·Memᴰ·head, List·Memᴰ·tail}
+use mathlib.Core.Bool.{Bool, true, false}
 use native.Mathlib.Omega.{arith}
 use lib.ListN.{length, getD, take, drop, length-drop}
 use lib.Seq.{take-add, drop-cons, drop-drop, length-take-le}
 use Rattle.format.specs.Bytes.{part, every}
-use Rattle.format.proofs.Tests.{both-true, true-both}
+use Rattle.format.proofs.Tests.{both-true, true-both, right-fails}
 
 -- each element of the list has property P
 pub data All {A : Type 0} (P : A → Type 0) : List A → Type 0 where
@@ -23,6 +23,11 @@ every-all test (x ∷ xs) h = let b = both-true h in more (b .0) (every-all test
 pub all-every : {A : Type 0} (test : A → Bool) {xs : List A} → All (λ x. test x ≡ true) xs → every test xs ≡ true
 all-every test none = refl
 all-every test (more h hs) = true-both h (all-every test hs)
+
+-- one element that fails fails the test of all
+pub one-fails : {A : Type 0} (test : A → Bool) {x : A} {xs : List A} → List·Memᴰ x xs → test x ≡ false → every test xs ≡ false
+one-fails test (List·Memᴰ·head {xs = xs} e) h = rw (sym (ap test e) ∙ h)
+one-fails test (List·Memᴰ·tail {x = y} m) h = right-fails (test y) (one-fails test m h)
 
 -- what all elements have, the first n have
 pub all-take : {A : Type 0} {P : A → Type 0} (n : ℕ) {xs : List A} → All P xs → All P (take n xs)

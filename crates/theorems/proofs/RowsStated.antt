@@ -1,7 +1,7 @@
 -- Rows stated and rows that are there: by the tests that compare them.
 use Prim.Native.Nat.{ℕ, _+_, _*_, _/_, _<_}
-use mathlib.Core.Path.{_≡_, refl, sym, ap, _∙_}
-use mathlib.Core.List.{List, [], _∷_, List·Memᴰ, List·Memᴰ·head, List·Memᴰ·tail}
+use mathlib.Core.Path.{_≡_, refl, ap, _∙_}
+use mathlib.Core.List.{List, [], _∷_, List·Memᴰ}
 use mathlib.Core.Bool.{Bool, true, false}
 use native.Mathlib.Omega.{arith}
 use lib.ListN.{length}
@@ -14,8 +14,7 @@ use Rattle.format.specs.Tables.{Table, ClipTables, clipIn, cellAt, cellsAt, tab
 use Rattle.format.specs.Questions.{Question, Answer, Part, partsOf, partStated, answer, ask}
 use Rattle.format.specs.Refusals.{statedOf, WriteAnswer, writeAnswer, allStated, dataRefusal, dataAsked, dataNumbers, extensionRow}
 use Rattle.format.proofs.Cell.{item-at}
-use Rattle.format.proofs.Lists.{All, all-map, all-every}
-use Rattle.format.proofs.Tests.{right-fails}
+use Rattle.format.proofs.Lists.{All, all-map, all-every, one-fails}
 use Rattle.theorems.specs.RowsStated.{TooMany, allSix, dataStartIn, dataLengthIn, HasData, RowsStated}
 
 -- ---- the tests of a table
@@ -39,11 +38,6 @@ passes l Part.programs h = le-leb (l .programs .rows) (length (l .programs .byte
 passes l Part.streams h = le-leb (l .streams .rows) (length (l .streams .bytes) / 20) (omega arith)
 passes l Part.maps h = le-leb (l .maps .rows) (length (l .maps .bytes) / 12) (omega arith)
 passes l Part.entries h = le-leb (l .entries .rows) (length (l .entries .bytes) / 24) (omega arith)
-
--- one that fails fails all
-one-fails : (test : Part → Bool) {p : Part} {ps : List Part} → List·Memᴰ p ps → test p ≡ false → every test ps ≡ false
-one-fails test (List·Memᴰ·head {xs = ps} e) h = rw (sym (ap test e) ∙ h)
-one-fails test (List·Memᴰ·tail {x = q} m) h = right-fails (test q) (one-fails test m h)
 
 -- nothing behind the last
 last : (b : Bool) → both b true ≡ b

@@ -12,6 +12,7 @@ pub mod Choices
 pub mod Figure
 pub mod TypeLists
 pub mod Boundaries
+pub mod MapFaults
 pub mod Unchanged
 pub mod Owners
 pub mod RowsStated
