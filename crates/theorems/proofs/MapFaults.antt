@@ -17,7 +17,7 @@ use Rattle.format.proofs.Lists.{one-fails}
 use Rattle.format.proofs.Sweep.{end-steps}
 use Rattle.format.proofs.MapRefusals.{counted-maps, section-in, FirstMet, none-met, met-told, told-met}
 use Rattle.theorems.specs.ListingExample.{listedFile}
-use Rattle.theorems.specs.MapFaults.{Missing, Fault, Sound, headerOfMap, FirstFault, early, ofMaps, MapFaults}
+use Rattle.theorems.specs.MapFaults.{Missing, Fault, Faultless, headerOfMap, FirstFault, early, ofMaps, MapFaults}
 
 -- ---- numbers in lists
 
@@ -90,7 +90,7 @@ module _ (f : List ℕ) (c p : ℕ) where
       )
 
   -- a map that is refused by nothing is sound
-  zero-sound : mapRefusal f c p ≡ 0 → Sound f c p
+  zero-sound : mapRefusal f c p ≡ 0 → Faultless f c p
   zero-sound h n φ = not-0 φ (sym (fault-told φ) ∙ h)
 
   module _ (inside : cpiEnd f c ≤ length f) where
@@ -124,7 +124,7 @@ module _ (f : List ℕ) (c p : ℕ) where
         go true true true true ha hb hd he h = absurd (not0 (sym h))
 
     -- a sound map is refused by nothing
-    sound-zero : Sound f c p → mapRefusal f c p ≡ 0
+    sound-zero : Faultless f c p → mapRefusal f c p ≡ 0
     sound-zero s = go (mapRefusal f c p) refl
       where
         go : (n : ℕ) → mapRefusal f c p ≡ n → mapRefusal f c p ≡ 0
@@ -192,7 +192,7 @@ module _ (f : List ℕ) where
       }
 
   -- no map that is counted has a fault where they are refused by nothing
-  all-sound : mapsRefusal f C ≡ 0 → (k : ℕ) → k < mapCount f C → Sound f C (headerOfMap f k)
+  all-sound : mapsRefusal f C ≡ 0 → (k : ℕ) → k < mapCount f C → Faultless f C (headerOfMap f k)
   unfolding mapsRefusal
   all-sound h k below = zero-sound f C (headerOfMap f k) (rw (at k) at (none-met (mapRefusal f C) nextMap (C + 8) (mapCount f C) h k below))
 
@@ -226,7 +226,7 @@ module _ (f : List ℕ) where
           let r : refusalOf f ≡ suc n = is ∙ rw e in
           absurd (apart ofMaps (0 ∷ 8 ∷ []) refl (of-maps (told-first (suc n) (λ z. omega arith) here e .fault)) (rw r at i))
 
-  file-sound : List·Memᴰ (refusalOf f) (0 ∷ 8 ∷ []) → (k : ℕ) → k < mapCount f C → Sound f C (headerOfMap f k)
+  file-sound : List·Memᴰ (refusalOf f) (0 ∷ 8 ∷ []) → (k : ℕ) → k < mapCount f C → Faultless f C (headerOfMap f k)
   file-sound i = let e = past-early f (apart (0 ∷ 8 ∷ []) early refl i) in all-sound (maps-pass (e .0) (e .1) i)
 
 -- the statements together; the files of the worked cases have no unknowns

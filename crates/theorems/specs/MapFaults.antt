@@ -31,8 +31,8 @@ pub data Fault (f : List ℕ) (c p : ℕ) : ℕ → Type 0 where
       → Missing f (fineStart f c p) (4 * fineCountAt f p) → Fault f c p 42
 
 -- a map without one
-abbrev pub Sound : List ℕ → ℕ → ℕ → Type 0
-Sound f c p = (n : ℕ) → Fault f c p n → ⊥
+abbrev pub Faultless : List ℕ → ℕ → ℕ → Type 0
+Faultless f c p = (n : ℕ) → Fault f c p n → ⊥
 
 -- ---- those of a file
 
@@ -45,7 +45,7 @@ pub record FirstFault (f : List ℕ) (n : ℕ) : Type 0 where
   pub of : ℕ
   pub counted : of < mapCount f (cpiStart f)
   pub fault : Fault f (cpiStart f) (headerOfMap f of) n
-  pub earlier : (k : ℕ) → k < of → Sound f (cpiStart f) (headerOfMap f k)
+  pub earlier : (k : ℕ) → k < of → Faultless f (cpiStart f) (headerOfMap f k)
 
 -- the numbers that come before any map is looked at
 abbrev pub early : List ℕ
@@ -115,6 +115,6 @@ pub record MapFaults : Type 0 where
   -- and none is refused by these numbers for anything else
   pub only : (f : List ℕ) → List·Memᴰ (refusalOf f) ofMaps → FirstFault f (refusalOf f)
   -- where it is accepted, or refused for its marks, no map has a fault
-  pub sound : (f : List ℕ) → List·Memᴰ (refusalOf f) (0 ∷ 8 ∷ []) → (k : ℕ) → k < mapCount f (cpiStart f) → Sound f (cpiStart f) (headerOfMap f k)
+  pub sound : (f : List ℕ) → List·Memᴰ (refusalOf f) (0 ∷ 8 ∷ []) → (k : ℕ) → k < mapCount f (cpiStart f) → Faultless f (cpiStart f) (headerOfMap f k)
   -- the worked cases
   pub worked : map (λ m. refusalOf (fileOf m)) cases ≡ map (λ m. m .refusal) cases

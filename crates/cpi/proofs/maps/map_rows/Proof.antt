@@ -52,8 +52,8 @@ module _ (k : tie.After-u32-at) where
   ends : B .args .end ≡ cpiEnd F C
   ends = B .pre .end-is
 
-returns : tie.Need-returns
-returns c = let k : tie.After-u32-at = search in address-past (F k) (C k) (P k) (omega (arith, body-is k, ends k))
+returns-1 : tie.Need-returns
+returns-1 c = let k : tie.After-u32-at = search in address-past (F k) (C k) (P k) (omega (arith, body-is k, ends k))
 
 returns-2 : tie.Need-returns-2
 returns-2 c =
@@ -111,7 +111,7 @@ map-rows-spec =
     (λ c κs. search needs)
     (λ c. search needs)
     (λ c. search needs)
-    returns
+    returns-1
     (λ c. search needs)
     (λ c. search needs)
     (λ c. search needs)
