@@ -18,7 +18,7 @@ use Rattle.common.specs.Header.{parsedOf}
 use Rattle.common.specs.declared.header.BdmvHeader.{BdmvHeader}
 use Rattle.common.specs.declared.header.Parsed.{Parsed}
 use Rattle.common.proofs.Laws.{rest}
-use Rattle.cpi.specs.Maps.{countsBy, cpiRefusal, cpiMeasured}
+use Rattle.cpi.specs.Maps.{cpiToldBy, indexRefusal, cpiMeasured}
 use Rattle.cpi.specs.declared.maps.CpiCounts.{CpiCounts}
 use Rattle.clip_sections.specs.Clips.{frontOf, sectionsOf}
 use Rattle.clip_sections.specs.declared.sections.Sections.{Sections}
@@ -179,14 +179,14 @@ module _ (f : List ℕ) where
 
       module _ (prog : leb (programsEnd f (programsStart f)) (length f) ≡ true) where
         -- the CPI section's own refusal and its maps', as they are measured
-        index-then : laterOf f ≡ orLater (cpiRefusal f (cpiStart f)) (unless (marksIn f (marksStart f)) 8 0)
+        index-then : laterOf f ≡ orLater (indexRefusal f (cpiStart f)) (unless (marksIn f (marksStart f)) 8 0)
         index-then = rw (seq, prog) (unless-later (cpiIn f (cpiStart f)) 5 (mapsRefusal f (cpiStart f)) (unless (marksIn f (marksStart f)) 8 0))
 
         -- the refusal of the CPI section or of a map is the answer, where all tested before it passes
-        pub index-refused : (r : ℕ) → cpiRefusal f (cpiStart f) ≡ r → (r ≡ 0 → ⊥) → Sections.Refused r ≡ sectionsOf f
+        pub index-refused : (r : ℕ) → indexRefusal f (cpiStart f) ≡ r → (r ≡ 0 → ⊥) → Sections.Refused r ≡ sectionsOf f
         index-refused r e h = refused-by r (later ∙ index-then ∙ rw e (later-met r (unless (marksIn f (marksStart f)) 8 0) h)) h
 
-        module _ (index : cpiRefusal f (cpiStart f) ≡ 0) where
+        module _ (index : indexRefusal f (cpiStart f) ≡ 0) where
           -- marks that pass the file's end are 8, where all tested before them is in it
           pub marks-refused : marksIn f (marksStart f) ≡ false → Sections.Refused 8 ≡ sectionsOf f
           marks-refused h = refused 7 (later ∙ index-then ∙ rw (index, h))
@@ -202,7 +202,7 @@ module _ (f : List ℕ) where
 
 -- the same with the rows of each section
 pub all-counted : (f : List ℕ) → frontOf f ≡ 0 → leb (sequencesEnd f (sequencesStart f)) (length f) ≡ true → leb (programsEnd f (programsStart f)) (length f) ≡ true
-    → cpiRefusal f (cpiStart f) ≡ 0 → marksIn f (marksStart f) ≡ true → {a s p t m e : ℕ}
+    → indexRefusal f (cpiStart f) ≡ 0 → marksIn f (marksStart f) ≡ true → {a s p t m e : ℕ}
     → a ≡ length (atcsFrom f (sequencesStart f)) → s ≡ length (stcsFrom f (sequencesStart f)) → p ≡ length (programsFrom f (programsStart f))
     → t ≡ length (streamsFrom f (programsStart f)) → m ≡ length (mapsFrom f (cpiStart f)) → e ≡ length (entriesFrom f (cpiStart f))
     → Sections.Counts a s p t m e ≡ sectionsOf f
@@ -212,25 +212,25 @@ all-counted f front seq prog index marks {a} {s} {p} {t} {m} {e} ea es ep et em 
 -- ---- what the measure of the entry index says
 
 module _ (f : List ℕ) (c : ℕ) where
-  -- the section told by its refusal, 0 or another
-  measured : {told : CpiCounts} → cpiMeasured f c ≡ told → countsBy (cpiRefusal f c) (length (mapsFrom f c)) (length (entriesFrom f c)) ≡ told
+  -- the measure, unfolded
+  measured : {told : CpiCounts} → cpiMeasured f c ≡ told → cpiToldBy (indexRefusal f c) (length (mapsFrom f c)) (length (entriesFrom f c)) ≡ told
   unfolding cpiMeasured
   measured h = h
 
   -- a refusal is told of a section that has it, and is not 0
-  pub cpi-refused : {r : ℕ} → cpiMeasured f c ≡ CpiCounts.Refused r → (cpiRefusal f c ≡ r) × (r ≡ 0 → ⊥)
-  cpi-refused {r} h = go (cpiRefusal f c) (measured h)
+  pub cpi-refused : {r : ℕ} → cpiMeasured f c ≡ CpiCounts.Refused r → (indexRefusal f c ≡ r) × (r ≡ 0 → ⊥)
+  cpi-refused {r} h = go (indexRefusal f c) (measured h)
     where
-      go : (x : ℕ) → countsBy x (length (mapsFrom f c)) (length (entriesFrom f c)) ≡ CpiCounts.Refused r → (x ≡ r) × (r ≡ 0 → ⊥)
+      go : (x : ℕ) → cpiToldBy x (length (mapsFrom f c)) (length (entriesFrom f c)) ≡ CpiCounts.Refused r → (x ≡ r) × (r ≡ 0 → ⊥)
       go zero h = let z : _≡_ {A = ℕ} 0 1 = cc in absurd (omega arith)
       go (suc n) h = let is : suc n ≡ r = cc in (is, λ e. omega arith)
 
   -- counts are told of a section that is refused by nothing, and are those of its rows
   pub cpi-counts : (m e : ℕ) → cpiMeasured f c ≡ CpiCounts.Counts m e
-      → (cpiRefusal f c ≡ 0) × (m ≡ length (mapsFrom f c)) × (e ≡ length (entriesFrom f c))
-  cpi-counts m e h = go (cpiRefusal f c) (measured h)
+      → (indexRefusal f c ≡ 0) × (m ≡ length (mapsFrom f c)) × (e ≡ length (entriesFrom f c))
+  cpi-counts m e h = go (indexRefusal f c) (measured h)
     where
-      go : (x : ℕ) → countsBy x (length (mapsFrom f c)) (length (entriesFrom f c)) ≡ CpiCounts.Counts m e
+      go : (x : ℕ) → cpiToldBy x (length (mapsFrom f c)) (length (entriesFrom f c)) ≡ CpiCounts.Counts m e
           → (x ≡ 0) × (m ≡ length (mapsFrom f c)) × (e ≡ length (entriesFrom f c))
       go zero h = (refl, cc, cc)
       go (suc n) h = let z : _≡_ {A = ℕ} 0 1 = cc in absurd (omega arith)

@@ -15,7 +15,7 @@ use Rattle.format.proofs.Cpi.{count-by}
 use Rattle.format.proofs.Read.{own-length}
 use Rattle.format.proofs.Loops.{one-left, none-left}
 use Rattle.ep_rows.proofs.Headers.{counts-small}
-use Rattle.cpi.specs.Maps.{cpiHead, rowsBy, mapRows, countsBy, mapsMeasured, cpiMeasured, HeadersIn}
+use Rattle.cpi.specs.Maps.{cpiHead, mapToldBy, mapRows, cpiToldBy, mapsMeasured, cpiMeasured, HeadersIn}
 use Rattle.cpi.specs.declared.maps.CpiHead.{CpiHead}
 use Rattle.cpi.specs.declared.maps.MapRows.{MapRows}
 use Rattle.cpi.specs.declared.maps.CpiCounts.{CpiCounts}
@@ -69,7 +69,7 @@ pub map-said : (f : List ℕ) (c p n : ℕ) → mapRows f c p ≡ MapRows.Entrie
 unfolding mapRows
 map-said f c p n e = go (mapRefusal f c p) e
   where
-    go : (refusal : ℕ) → rowsBy refusal (fineCountAt f p) ≡ MapRows.Entries n → (refusal ≡ 0) × (n ≡ fineCountAt f p)
+    go : (refusal : ℕ) → mapToldBy refusal (fineCountAt f p) ≡ MapRows.Entries n → (refusal ≡ 0) × (n ≡ fineCountAt f p)
     go zero e = (refl, cc)
     go (suc m) e = let z : _≡_ {A = ℕ} 0 1 = cc in absurd (omega arith)
 
@@ -115,9 +115,9 @@ module _ (f : List ℕ) (c count : ℕ) (counted : count ≡ mapCount f c) where
         p : ℕ
         p = c + 8 + 12 * k
 
-        go : (refusal : ℕ) → rowsBy refusal (fineCountAt f p) ≡ MapRows.Refused r
+        go : (refusal : ℕ) → mapToldBy refusal (fineCountAt f p) ≡ MapRows.Refused r
             → orLater refusal (firstRefusal (rowsAt (mapRefusal f c) nextMap (nextMap p) (count - (k + 1)))) ≡ mapsRefusal f c
-            → CpiCounts.Refused r ≡ countsBy (mapsRefusal f c) (length (mapsFrom f c)) (length (entriesFrom f c))
+            → CpiCounts.Refused r ≡ cpiToldBy (mapsRefusal f c) (length (mapsFrom f c)) (length (entriesFrom f c))
         go zero e d = let z : _≡_ {A = ℕ} 0 1 = cc in absurd (omega arith)
         go (suc m) e d = let is : r ≡ suc m = cc in rw (is, ← d)
 
@@ -162,7 +162,7 @@ module _ (f : List ℕ) (c : ℕ) where
   head-none h = go (cpiIn f c) (hasMaps f c) refl h
     where
       go : (a m : Bool) → hasMaps f c ≡ m → pick a (pick m (CpiHead.Maps (beAt f (c + 7) 1) (cpiEnd f c)) CpiHead.NoMaps) CpiHead.PastEnd ≡ CpiHead.NoMaps
-          → CpiCounts.Counts 0 0 ≡ countsBy (unless a 6 (mapsRefusal f c)) (length (mapsFrom f c)) (length (entriesFrom f c))
+          → CpiCounts.Counts 0 0 ≡ cpiToldBy (unless a 6 (mapsRefusal f c)) (length (mapsFrom f c)) (length (entriesFrom f c))
       go true false q h = no-maps q
       go true true q h = let z : _≡_ {A = ℕ} 0 1 = cc in absurd (omega arith)
       go false m q h = let z : _≡_ {A = ℕ} 0 1 = cc in absurd (omega arith)
@@ -173,7 +173,7 @@ module _ (f : List ℕ) (c : ℕ) where
   head-refused h = go (cpiIn f c) (hasMaps f c) h
     where
       go : (a m : Bool) → pick a (pick m (CpiHead.Maps (beAt f (c + 7) 1) (cpiEnd f c)) CpiHead.NoMaps) CpiHead.PastEnd ≡ CpiHead.PastEnd
-          → CpiCounts.Refused 6 ≡ countsBy (unless a 6 (mapsRefusal f c)) (length (mapsFrom f c)) (length (entriesFrom f c))
+          → CpiCounts.Refused 6 ≡ cpiToldBy (unless a 6 (mapsRefusal f c)) (length (mapsFrom f c)) (length (entriesFrom f c))
       go true true h = let z : _≡_ {A = ℕ} 0 1 = cc in absurd (omega arith)
       go true false h = let z : _≡_ {A = ℕ} 0 1 = cc in absurd (omega arith)
       go false m h = refl

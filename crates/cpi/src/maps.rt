@@ -19,7 +19,7 @@ pub enum CpiHead {
     PastEnd,
 }
 
-// What one map's body says: so many entries, or its refusal, 7, 41 or 42.
+// What is told of one map: so many entries, or its refusal, 7, 41 or 42.
 pub enum MapRows {
     Entries(usize),
     Refused(u32),

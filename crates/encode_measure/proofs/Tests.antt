@@ -1,6 +1,6 @@
 -- The refusals of writing, in the order in which the code tests them.
 use Prim.Native.Nat.{ℕ, _+_, _≤_}
-use mathlib.Core.Path.{_≡_, refl, sym, ap, _∙_}
+use mathlib.Core.Path.{_≡_, sym, ap, _∙_}
 use mathlib.Core.Bool.{Bool, true, false, not}
 use native.Mathlib.Omega.{arith}
 use lib.Dec.{eqb}
@@ -9,7 +9,7 @@ use Rattle.format.specs.Bytes.{both, pick, unless}
 use Rattle.format.specs.ClipRecord.{Clip, areLetters}
 use Rattle.format.specs.Tables.{ClipTables, clipIn}
 use Rattle.format.specs.Refusals.{allStated, countsAdd, cellsFit, runsFit, writeRefusal}
-use Rattle.format.proofs.Tests.{picked, not-picked}
+use Rattle.format.proofs.Tests.{picked, not-picked, unless-both}
 use Rattle.limits.proofs.Clips.{all-counted}
 use Rattle.encode_measure.specs.declared.Measured.{Measured}
 use Rattle.encode_measure.specs.declared.Places.{Places}
@@ -21,11 +21,6 @@ passes-by {r} is h = sym is ∙ not-false r h
 
 pub fails-by : {r b : Bool} → r ≡ b → not r ≡ true → b ≡ false
 fails-by {r} is h = sym is ∙ not-true r h
-
--- two tests of one number are one test
-unless-both : (a b : Bool) (n later : ℕ) → unless a n (unless b n later) ≡ unless (both a b) n later
-unless-both true b n later = refl
-unless-both false b n later = refl
 
 -- 22 by pairs of tables, then 40, 30 and 31
 pub refusal-is : (l : ClipTables)

@@ -10,7 +10,7 @@ use borrow.Author.Tests.{eq-eqb, eqb-true, leb-true}
 use Rattle.format.specs.Bytes.{both, pick, every, unless, orLater, firstRefusal, beAt, rowsAt, endOf}
 use Rattle.format.specs.ClipRecord.{present}
 use Rattle.format.specs.EntryPoints.{nextMap, cpiEnd, hasMaps, mapCount, cpiLengthIn, cpiIn, addressIn, coarseRowsIn, fineAddressIn, fineRowsIn, mapIn, mapsIn, mapRefusal, mapsRefusal}
-use Rattle.format.proofs.Tests.{both-true, later-passed, later-met}
+use Rattle.format.proofs.Tests.{both-true, later-met}
 
 -- ---- a section with maps
 
@@ -40,7 +40,7 @@ later-zero : (refusal later : ℕ) → eqb (orLater refusal later) 0 ≡ both (e
 later-zero zero later = refl
 later-zero (suc n) later = rw (eqb·suc-zero n)
 
--- no refusal of a row of items is met where each passes its test, if none of one is
+-- if each item is refused by nothing exactly where it passes its test, all are refused by nothing exactly where all pass
 first-zero : (refusal : ℕ → ℕ) (test : ℕ → Bool) → ((p : ℕ) → eqb (refusal p) 0 ≡ test p) → (next : ℕ → ℕ) (p n : ℕ)
     → eqb (firstRefusal (rowsAt refusal next p n)) 0 ≡ every (λ b. b) (rowsAt test next p n)
 first-zero refusal test e next p zero = refl
@@ -48,8 +48,8 @@ first-zero refusal test e next p (suc n) =
     later-zero (refusal p) (firstRefusal (rowsAt refusal next (next p) n)) ∙ ap₂ both (e p) (first-zero refusal test e next (next p) n)
 
 module _ (f : List ℕ) (c : ℕ) where
-  -- a map is not refused where its four tests pass
-  pub map-zero : (p : ℕ) → eqb (mapRefusal f c p) 0 ≡ mapIn f c p
+  -- a map is refused by nothing exactly where its four tests pass
+  map-zero : (p : ℕ) → eqb (mapRefusal f c p) 0 ≡ mapIn f c p
   map-zero p = go (addressIn f c p) (coarseRowsIn f c p) (fineAddressIn f c p) (fineRowsIn f c p)
     where
       go : (a b d e : Bool) → eqb (unless a 7 (unless b 42 (unless d 41 (unless e 42 0)))) 0 ≡ both a (both b (both d e))
@@ -59,8 +59,8 @@ module _ (f : List ℕ) (c : ℕ) where
       go true false d e = refl
       go false b d e = refl
 
-  -- nor are the maps of a section where those of each do
-  maps-zero : eqb (mapsRefusal f c) 0 ≡ mapsIn f c
+  -- the maps of a section are refused by nothing exactly where each lies as it must
+  pub maps-zero : eqb (mapsRefusal f c) 0 ≡ mapsIn f c
   unfolding mapsRefusal mapsIn
   maps-zero = first-zero (mapRefusal f c) (mapIn f c) map-zero nextMap (c + 8) (mapCount f c)
 
@@ -73,7 +73,7 @@ module _ (f : List ℕ) (c : ℕ) where
 
 -- ---- the first refusal
 
--- of n items from p, item k has this refusal, and none before it has one
+-- one of n items from p has this refusal, and none before it has any
 pub record FirstMet (refusal : ℕ → ℕ) (next : ℕ → ℕ) (p n number : ℕ) : Type 0 where
   pub item : ℕ
   pub there : item < n
@@ -81,13 +81,6 @@ pub record FirstMet (refusal : ℕ → ℕ) (next : ℕ → ℕ) (p n number : �
   pub before : (k : ℕ) → k < item → refusal (endOf next p k) ≡ 0
 
 module _ (refusal : ℕ → ℕ) (next : ℕ → ℕ) where
-  -- none is met where that of each item is 0
-  pub none-met : (p n : ℕ) → firstRefusal (rowsAt refusal next p n) ≡ 0 → (k : ℕ) → k < n → refusal (endOf next p k) ≡ 0
-  none-met p zero h k below = absurd (omega arith)
-  none-met p (suc n) h zero below = later-passed (refusal p) (firstRefusal (rowsAt refusal next (next p) n)) h .0
-  none-met p (suc n) h (suc k) below =
-      none-met (next p) n (later-passed (refusal p) (firstRefusal (rowsAt refusal next (next p) n)) h .1) k (omega arith)
-
   -- the first that is met is told
   pub met-told : (p n number : ℕ) → (number ≡ 0 → ⊥) → (k : ℕ) → k < n → refusal (endOf next p k) ≡ number
       → ((j : ℕ) → j < k → refusal (endOf next p j) ≡ 0) → firstRefusal (rowsAt refusal next p n) ≡ number

@@ -40,7 +40,7 @@ abbrev pub unless : Bool → ℕ → ℕ → ℕ
 unless true number later = later
 unless false number later = number
 
--- a refusal that stands before what the later tests answer
+-- the refusal, or what the later tests answer where it is 0
 abbrev pub orLater : ℕ → ℕ → ℕ
 orLater zero later = later
 orLater (suc n) later = suc n

@@ -77,7 +77,8 @@ cpiRead f c =
     (both (readsIn f c (4 ∷ [])) (both (startIn f (cpiEnd f c)) (pick (ltb (cpiLength f c) 2) true (cpiTypeRead f c))))
     true
 
--- a map, test by test: its address; the word of its fine address, then each coarse row; the fine address's place; each fine row
+-- a map, test by test: its address; the word of its fine address, then each coarse row; the fine address's place; each fine row. The fine rows
+-- start within the file wherever the CPI ends there, so that test fails only where 6 was told before
 abbrev pub mapReadRefusal : List ℕ → ℕ → ℕ → ℕ
 mapReadRefusal f c p =
     unless (addressIn f c p) 7

@@ -12,12 +12,12 @@ use Rattle.format.specs.ClipRecord.{lettersRight, clipInfoIn, sequencesStart, p
 use Rattle.format.specs.Programs.{programsEnd}
 use Rattle.format.specs.EntryPoints.{nextMap, cpiEnd, hasMaps, mapCount, bodyAt, coarseCountAt, fineStart, fineCountAt, cpiIn, addressIn, coarseRowsIn, fineAddressIn, fineRowsIn, mapRefusal, mapsRefusal}
 use Rattle.format.specs.Refusals.{refusalOf}
-use Rattle.format.proofs.Tests.{later-met, later-passed}
+use Rattle.format.proofs.Tests.{true-both, later-met}
 use Rattle.format.proofs.Lists.{one-fails}
 use Rattle.format.proofs.Sweep.{end-steps}
-use Rattle.format.proofs.MapRefusals.{counted-maps, section-in, FirstMet, none-met, met-told, told-met}
+use Rattle.format.proofs.MapRefusals.{counted-maps, section-in, met-told, told-met}
 use Rattle.theorems.specs.ListingExample.{listedFile}
-use Rattle.theorems.specs.MapFaults.{Missing, Fault, Faultless, headerOfMap, FirstFault, early, ofMaps, MapFaults}
+use Rattle.theorems.specs.MapFaults.{Missing, Fault, Faultless, headerOfMap, FirstFault, Reached, ofMaps, MapFaults}
 
 -- ---- numbers in lists
 
@@ -27,8 +27,8 @@ placed [] x behind = List·Memᴰ·head refl
 placed (y ∷ before) x behind = List·Memᴰ·tail (placed before x behind)
 
 -- no number is in two lists that have none in common
-apart : {x : ℕ} (xs ys : List ℕ) → every (λ a. every (λ b. not (eqb a b)) ys) xs ≡ true → List·Memᴰ x xs → List·Memᴰ x ys → ⊥
-apart {x} xs ys h i j =
+disjoint : {x : ℕ} (xs ys : List ℕ) → every (λ a. every (λ b. not (eqb a b)) ys) xs ≡ true → List·Memᴰ x xs → List·Memᴰ x ys → ⊥
+disjoint {x} xs ys h i j =
     let no : every (λ b. not (eqb x b)) ys ≡ false = one-fails (λ b. not (eqb x b)) j (ap not (eq-eqb x x refl)) in
     let z : every (λ a. every (λ b. not (eqb a b)) ys) xs ≡ false = one-fails (λ a. every (λ b. not (eqb a b)) ys) i no in
     let o : _≡_ {A = ℕ} 0 1 = cc in absurd (omega arith)
@@ -62,7 +62,7 @@ of-maps (Fault.fine-rows a m h g) = placed (7 ∷ 41 ∷ []) 42 []
 
 -- so it is not 0
 not-0 : {f : List ℕ} {c p n : ℕ} → Fault f c p n → n ≡ 0 → ⊥
-not-0 φ e = apart ofMaps (0 ∷ []) refl (of-maps φ) (List·Memᴰ·head e)
+not-0 φ e = disjoint ofMaps (0 ∷ []) refl (of-maps φ) (List·Memᴰ·head e)
 
 module _ (f : List ℕ) (c p : ℕ) where
   -- the place behind the coarse rows, as it is tested
@@ -89,9 +89,9 @@ module _ (f : List ℕ) (c p : ℕ) where
         lt-leb (fineStart f c p + 4 * fineCountAt f p) (length f) (missing-past g),
       )
 
-  -- a map that is refused by nothing is sound
-  zero-sound : mapRefusal f c p ≡ 0 → Faultless f c p
-  zero-sound h n φ = not-0 φ (sym (fault-told φ) ∙ h)
+  -- a map that is refused by nothing has no fault
+  zero-faultless : mapRefusal f c p ≡ 0 → Faultless f c p
+  zero-faultless h n φ = not-0 φ (sym (fault-told φ) ∙ h)
 
   module _ (inside : cpiEnd f c ≤ length f) where
     -- what a map is refused for is a fault of it
@@ -123,9 +123,9 @@ module _ (f : List ℕ) (c p : ℕ) where
             (past-missing f (fineStart f c p) (4 * fineCountAt f p) (omega arith) past))
         go true true true true ha hb hd he h = absurd (not0 (sym h))
 
-    -- a sound map is refused by nothing
-    sound-zero : Faultless f c p → mapRefusal f c p ≡ 0
-    sound-zero s = go (mapRefusal f c p) refl
+    -- a map that has none is refused by nothing
+    faultless-zero : Faultless f c p → mapRefusal f c p ≡ 0
+    faultless-zero s = go (mapRefusal f c p) refl
       where
         go : (n : ℕ) → mapRefusal f c p ≡ n → mapRefusal f c p ≡ 0
         go zero e = e
@@ -133,29 +133,57 @@ module _ (f : List ℕ) (c p : ℕ) where
 
 -- ---- the tests before the maps
 
--- a refusal by none of the early numbers: the section is in the file, and its maps decide, then the marks
-past-early : (f : List ℕ) → (List·Memᴰ (refusalOf f) early → ⊥)
-    → (cpiIn f (cpiStart f) ≡ true) × (refusalOf f ≡ orLater (mapsRefusal f (cpiStart f)) (unless (marksIn f (marksStart f)) 8 0))
-unfolding refusalOf
-past-early f h =
-    go (leb (length f) 536870912) (leb 8 (length f)) (lettersRight f) (leb 40 (length f)) (clipInfoIn f)
-    (leb (sequencesEnd f (sequencesStart f)) (length f)) (leb (programsEnd f (programsStart f)) (length f)) (cpiIn f (cpiStart f)) h
-  where
-    x : ℕ
-    x = orLater (mapsRefusal f (cpiStart f)) (unless (marksIn f (marksStart f)) 8 0)
+module _ (f : List ℕ) where
+  -- the maps and the marks
+  abbrev later : ℕ
+  later = orLater (mapsRefusal f (cpiStart f)) (unless (marksIn f (marksStart f)) 8 0)
 
-    go : (a b c d e s p i : Bool)
-        → (List·Memᴰ (unless a 20 (unless b 1 (unless c 2 (unless d 1 (unless e 3 (unless s 4 (unless p 5 (unless i 6 x)))))))) early → ⊥)
-        → (i ≡ true) × (unless a 20 (unless b 1 (unless c 2 (unless d 1 (unless e 3 (unless s 4 (unless p 5 (unless i 6 x))))))) ≡ x)
-    go true true true true true true true true h = (refl, refl)
-    go true true true true true true true false h = absurd (h (placed (20 ∷ 1 ∷ 2 ∷ 3 ∷ 4 ∷ 5 ∷ []) 6 []))
-    go true true true true true true false i h = absurd (h (placed (20 ∷ 1 ∷ 2 ∷ 3 ∷ 4 ∷ []) 5 (6 ∷ [])))
-    go true true true true true false p i h = absurd (h (placed (20 ∷ 1 ∷ 2 ∷ 3 ∷ []) 4 (5 ∷ 6 ∷ [])))
-    go true true true true false s p i h = absurd (h (placed (20 ∷ 1 ∷ 2 ∷ []) 3 (4 ∷ 5 ∷ 6 ∷ [])))
-    go true true true false e s p i h = absurd (h (placed (20 ∷ []) 1 (2 ∷ 3 ∷ 4 ∷ 5 ∷ 6 ∷ [])))
-    go true true false d e s p i h = absurd (h (placed (20 ∷ 1 ∷ []) 2 (3 ∷ 4 ∷ 5 ∷ 6 ∷ [])))
-    go true false c d e s p i h = absurd (h (placed (20 ∷ []) 1 (2 ∷ 3 ∷ 4 ∷ 5 ∷ 6 ∷ [])))
-    go false b c d e s p i h = absurd (h (placed [] 20 (1 ∷ 2 ∷ 3 ∷ 4 ∷ 5 ∷ 6 ∷ [])))
+  -- where the maps are reached they decide, then the marks
+  reached-later : Reached f → refusalOf f ≡ later
+  unfolding refusalOf
+  reached-later r =
+      rw (
+        le-leb (length f) 536870912 (r .size),
+        le-leb 8 (length f) (omega (arith, r .header)),
+        r .letters,
+        le-leb 40 (length f) (r .header),
+        r .clip-info,
+        le-leb (sequencesEnd f (sequencesStart f)) (length f) (r .sequences),
+        le-leb (programsEnd f (programsStart f)) (length f) (r .programs),
+        r .cpi,
+      )
+
+  -- they are reached where a number of theirs is told
+  later-reached : List·Memᴰ (refusalOf f) ofMaps → Reached f
+  unfolding refusalOf
+  later-reached =
+      go (leb (length f) 536870912) (leb 8 (length f)) (lettersRight f) (leb 40 (length f)) (clipInfoIn f)
+      (leb (sequencesEnd f (sequencesStart f)) (length f)) (leb (programsEnd f (programsStart f)) (length f)) (cpiIn f (cpiStart f))
+      refl refl refl refl refl refl refl
+    where
+      early : (n : ℕ) → every (λ x. not (eqb n x)) ofMaps ≡ true → List·Memᴰ n ofMaps → Reached f
+      early n other i = absurd (disjoint (n ∷ []) ofMaps (true-both other refl) (placed [] n []) i)
+
+      go : (a b c d e s p i : Bool) → leb (length f) 536870912 ≡ a → lettersRight f ≡ c → leb 40 (length f) ≡ d → clipInfoIn f ≡ e
+          → leb (sequencesEnd f (sequencesStart f)) (length f) ≡ s → leb (programsEnd f (programsStart f)) (length f) ≡ p → cpiIn f (cpiStart f) ≡ i
+          → List·Memᴰ (unless a 20 (unless b 1 (unless c 2 (unless d 1 (unless e 3 (unless s 4 (unless p 5 (unless i 6 later)))))))) ofMaps → Reached f
+      go true true true true true true true true ha hc hd he hs hp hi m = record {
+        size = leb-true (length f) 536870912 ha;
+        header = leb-true 40 (length f) hd;
+        letters = hc;
+        clip-info = he;
+        sequences = leb-true (sequencesEnd f (sequencesStart f)) (length f) hs;
+        programs = leb-true (programsEnd f (programsStart f)) (length f) hp;
+        cpi = hi;
+      }
+      go true true true true true true true false ha hc hd he hs hp hi m = early 6 refl m
+      go true true true true true true false i ha hc hd he hs hp hi m = early 5 refl m
+      go true true true true true false p i ha hc hd he hs hp hi m = early 4 refl m
+      go true true true true false s p i ha hc hd he hs hp hi m = early 3 refl m
+      go true true true false e s p i ha hc hd he hs hp hi m = early 1 refl m
+      go true true false d e s p i ha hc hd he hs hp hi m = early 2 refl m
+      go true false c d e s p i ha hc hd he hs hp hi m = early 1 refl m
+      go false b c d e s p i ha hc hd he hs hp hi m = early 20 refl m
 
 -- ---- all maps of a file
 
@@ -177,7 +205,7 @@ module _ (f : List ℕ) where
   first-told {n} here φ =
       met-told (mapRefusal f C) nextMap (C + 8) (mapCount f C) n (not-0 (φ .fault)) (φ .of) (φ .counted)
       (rw (at (φ .of)) (fault-told f C (headerOfMap f (φ .of)) (φ .fault)))
-      (λ k below. rw (at k) (sound-zero f C (headerOfMap f k) (ends-in here (φ .counted)) (φ .earlier k below)))
+      (λ k below. rw (at k) (faultless-zero f C (headerOfMap f k) (ends-in here (φ .counted)) (φ .earlier k below)))
 
   -- and what they are refused for is the first fault
   told-first : (n : ℕ) → (n ≡ 0 → ⊥) → cpiIn f C ≡ true → mapsRefusal f C ≡ n → FirstFault f n
@@ -188,48 +216,40 @@ module _ (f : List ℕ) where
         of = m .item;
         counted = m .there;
         fault = told-fault f C (headerOfMap f (m .item)) (ends-in here (m .there)) n not0 (rw (at (m .item)) at (m .met));
-        earlier = λ k below. zero-sound f C (headerOfMap f k) (rw (at k) at (m .before k below));
+        earlier = λ k below. zero-faultless f C (headerOfMap f k) (rw (at k) at (m .before k below));
       }
 
-  -- no map that is counted has a fault where they are refused by nothing
-  all-sound : mapsRefusal f C ≡ 0 → (k : ℕ) → k < mapCount f C → Faultless f C (headerOfMap f k)
-  unfolding mapsRefusal
-  all-sound h k below = zero-sound f C (headerOfMap f k) (rw (at k) at (none-met (mapRefusal f C) nextMap (C + 8) (mapCount f C) h k below))
+  -- they are refused by nothing where no map has a fault
+  none-told : cpiIn f C ≡ true → ((k : ℕ) → k < mapCount f C → Faultless f C (headerOfMap f k)) → mapsRefusal f C ≡ 0
+  none-told here none = go (mapsRefusal f C) refl
+    where
+      go : (n : ℕ) → mapsRefusal f C ≡ n → mapsRefusal f C ≡ 0
+      go zero e = e
+      go (suc n) e = let φ = told-first (suc n) (λ z. omega arith) here e in absurd (none (φ .of) (φ .counted) (suc n) (φ .fault))
 
   -- ---- the file
 
-  file-told : (n : ℕ) → (List·Memᴰ (refusalOf f) early → ⊥) → FirstFault f n → refusalOf f ≡ n
-  file-told n late φ =
-      let e = past-early f late in
-      e .1 ∙ rw (first-told (e .0) φ) (later-met n (unless (marksIn f (marksStart f)) 8 0) (not-0 (φ .fault)))
+  file-told : (n : ℕ) → Reached f → FirstFault f n → refusalOf f ≡ n
+  file-told n r φ =
+      reached-later f r ∙ rw (first-told (r .cpi) φ) (later-met n (unless (marksIn f (marksStart f)) 8 0) (not-0 (φ .fault)))
+
+  file-no-fault : Reached f → ((k : ℕ) → k < mapCount f C → Faultless f C (headerOfMap f k)) → refusalOf f ≡ unless (marksIn f (marksStart f)) 8 0
+  file-no-fault r none = reached-later f r ∙ rw (none-told (r .cpi) none)
 
   -- a number of a map is neither 0 nor that of the marks
   maps-alone : (r : ℕ) (b : Bool) → List·Memᴰ (orLater r (unless b 8 0)) ofMaps → (r ≡ orLater r (unless b 8 0)) × (orLater r (unless b 8 0) ≡ 0 → ⊥)
   maps-alone (suc r) b i = (refl, λ e. omega arith)
-  maps-alone zero true i = absurd (apart ofMaps (0 ∷ []) refl i (placed [] 0 []))
-  maps-alone zero false i = absurd (apart ofMaps (8 ∷ []) refl i (placed [] 8 []))
+  maps-alone zero true i = absurd (disjoint ofMaps (0 ∷ []) refl i (placed [] 0 []))
+  maps-alone zero false i = absurd (disjoint ofMaps (8 ∷ []) refl i (placed [] 8 []))
 
-  file-only : List·Memᴰ (refusalOf f) ofMaps → FirstFault f (refusalOf f)
+  file-only : List·Memᴰ (refusalOf f) ofMaps → Reached f × FirstFault f (refusalOf f)
   file-only i =
-      let e = past-early f (apart ofMaps early refl i) in
-      let m = maps-alone (mapsRefusal f C) (marksIn f (marksStart f)) (rw (e .1) at i) in
-      rw (e .1) (told-first (orLater (mapsRefusal f C) (unless (marksIn f (marksStart f)) 8 0)) (m .1) (e .0) (m .0))
-
-  -- of a file that is accepted, or refused for its marks, the maps are refused by nothing
-  maps-pass : cpiIn f C ≡ true → refusalOf f ≡ orLater (mapsRefusal f C) (unless (marksIn f (marksStart f)) 8 0) → List·Memᴰ (refusalOf f) (0 ∷ 8 ∷ [])
-      → mapsRefusal f C ≡ 0
-  maps-pass here is i = go (mapsRefusal f C) refl
-    where
-      go : (n : ℕ) → mapsRefusal f C ≡ n → mapsRefusal f C ≡ 0
-      go zero e = e
-      go (suc n) e =
-          let r : refusalOf f ≡ suc n = is ∙ rw e in
-          absurd (apart ofMaps (0 ∷ 8 ∷ []) refl (of-maps (told-first (suc n) (λ z. omega arith) here e .fault)) (rw r at i))
-
-  file-sound : List·Memᴰ (refusalOf f) (0 ∷ 8 ∷ []) → (k : ℕ) → k < mapCount f C → Faultless f C (headerOfMap f k)
-  file-sound i = let e = past-early f (apart (0 ∷ 8 ∷ []) early refl i) in all-sound (maps-pass (e .0) (e .1) i)
+      let r = later-reached f i in
+      let e = reached-later f r in
+      let m = maps-alone (mapsRefusal f C) (marksIn f (marksStart f)) (rw e at i) in
+      (r, rw e (told-first (later f) (m .1) (r .cpi) (m .0)))
 
 -- the statements together; the files of the worked cases have no unknowns
 pub map-faults : MapFaults
 unfolding listedFile beAt lettersRight clipInfoIn sequencesEnd marksIn programsEnd hasMaps mapCount cpiIn mapsRefusal refusalOf
-map-faults = record { told = file-told; only = file-only; sound = file-sound; worked = refl }
+map-faults = record { told = file-told; no-fault = file-no-fault; only = file-only; one = refl; two = refl; cut = refl }

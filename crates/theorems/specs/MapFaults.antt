@@ -2,10 +2,12 @@
 use Prim.Native.Nat.{ℕ, _+_, _*_, _<_, _≤_}
 use mathlib.Core.Path.{_≡_}
 use mathlib.Core.List.{List, [], _∷_, _++_, map, List·Memᴰ}
+use mathlib.Core.Bool.{true}
 use lib.ListN.{length, take, drop}
-use Rattle.format.specs.Bytes.{part}
-use Rattle.format.specs.ClipRecord.{cpiStart}
-use Rattle.format.specs.EntryPoints.{cpiEnd, mapCount, bodyAt, coarseCountAt, fineStart, fineCountAt}
+use Rattle.format.specs.Bytes.{unless, part}
+use Rattle.format.specs.ClipRecord.{lettersRight, clipInfoIn, sequencesStart, programsStart, cpiStart, marksStart, sequencesEnd, marksIn}
+use Rattle.format.specs.Programs.{programsEnd}
+use Rattle.format.specs.EntryPoints.{cpiEnd, mapCount, bodyAt, coarseCountAt, fineStart, fineCountAt, cpiIn}
 use Rattle.format.specs.Refusals.{refusalOf}
 use Rattle.theorems.specs.ListingExample.{listedFile}
 
@@ -47,19 +49,27 @@ pub record FirstFault (f : List ℕ) (n : ℕ) : Type 0 where
   pub fault : Fault f (cpiStart f) (headerOfMap f of) n
   pub earlier : (k : ℕ) → k < of → Faultless f (cpiStart f) (headerOfMap f k)
 
--- the numbers that come before any map is looked at
-abbrev pub early : List ℕ
-early = 20 ∷ 1 ∷ 2 ∷ 3 ∷ 4 ∷ 5 ∷ 6 ∷ []
+-- a file whose maps are looked at: nothing is refused by 20, 1 to 5 and 6
+pub record Reached (f : List ℕ) : Type 0 where
+  pub size : length f ≤ 536870912
+  pub header : 40 ≤ length f
+  pub letters : lettersRight f ≡ true
+  pub clip-info : clipInfoIn f ≡ true
+  pub sequences : sequencesEnd f (sequencesStart f) ≤ length f
+  pub programs : programsEnd f (programsStart f) ≤ length f
+  pub cpi : cpiIn f (cpiStart f) ≡ true
 
--- those of a map
+-- the numbers of a map's faults
 abbrev pub ofMaps : List ℕ
 ofMaps = 7 ∷ 41 ∷ 42 ∷ []
 
 -- ---- worked cases
 
--- the example file of the listing with other numbers in its map, and its refusal. The CPI has 36 bytes from 232 on, the file 274. Where two maps
--- are stated, the first one's body is read as the second one's header, which has the address 131,079
-pub record Case : Type 0 where
+-- the first bytes of the example file of the listing, with other numbers in its map, and what is told of them. Its CPI has the 36 bytes from 232 on,
+-- its marks the six from 268 on, where the file ends at 274. Where two maps are stated, the first one's body is read as the second one's header, which
+-- has the address 131,079
+pub record MapCase : Type 0 where
+  pub bytes : ℕ
   pub maps : ℕ
   pub coarse : ℕ
   pub fine : ℕ
@@ -68,8 +78,9 @@ pub record Case : Type 0 where
   pub refusal : ℕ
 
 -- a case, its numbers in that order
-abbrev pub case : (maps coarse fine address fine-address refusal : ℕ) → Case
-case maps coarse fine at fine-at refusal = record {
+abbrev pub case : (bytes maps coarse fine address fine-address refusal : ℕ) → MapCase
+case bytes maps coarse fine at fine-at refusal = record {
+  bytes = bytes;
   maps = maps;
   coarse = coarse;
   fine = fine;
@@ -79,42 +90,73 @@ case maps coarse fine at fine-at refusal = record {
 }
 
 -- its file
-abbrev pub fileOf : Case → List ℕ
+abbrev pub fileOf : MapCase → List ℕ
 fileOf m =
-    take 239 listedFile
+    take (m .bytes)
+    (take 239 listedFile
     ++ (m .maps ∷ (part listedFile 240 5
-    ++ (4 * m .coarse ∷ 0 ∷ m .fine ∷ 0 ∷ 0 ∷ 0 ∷ m .address ∷ 0 ∷ 0 ∷ 0 ∷ m .fine-address ∷ drop 256 listedFile)))
+    ++ (4 * m .coarse ∷ 0 ∷ m .fine ∷ 0 ∷ 0 ∷ 0 ∷ m .address ∷ 0 ∷ 0 ∷ 0 ∷ m .fine-address ∷ drop 256 listedFile))))
 
--- as it is; then coarse rows, fine address, fine rows and address at the limit and one over it, where an address that is just below the CPI end
--- leaves no room for the coarse row; two faults in one map; and the second map's address behind a sound map, a fine address, fine rows
-abbrev pub cases : List Case
-cases =
-    case 1 1 1 14 12 0
-    ∷ case 1 2 1 14 12 0
-    ∷ case 1 3 1 14 12 42
-    ∷ case 1 1 1 14 16 0
-    ∷ case 1 1 1 14 17 41
-    ∷ case 1 1 2 14 12 0
-    ∷ case 1 1 3 14 12 42
-    ∷ case 1 1 1 29 12 42
-    ∷ case 1 1 1 30 12 7
-    ∷ case 1 3 1 30 12 7
-    ∷ case 1 3 1 14 17 42
-    ∷ case 1 1 3 14 17 41
-    ∷ case 2 1 1 14 12 7
-    ∷ case 2 1 1 14 17 41
-    ∷ case 2 1 3 14 12 42
+-- the whole file, as it is and with one fault: coarse rows, fine address and fine rows at the limit of their test and over it, an address that
+-- leaves no room for the coarse row, and one at the CPI end
+abbrev pub oneFault : List MapCase
+oneFault =
+    case 274 1 1 1 14 12 0
+    ∷ case 274 1 2 1 14 12 0
+    ∷ case 274 1 3 1 14 12 42
+    ∷ case 274 1 1 1 14 16 0
+    ∷ case 274 1 1 1 14 17 41
+    ∷ case 274 1 1 1 14 255 41
+    ∷ case 274 1 1 2 14 12 0
+    ∷ case 274 1 1 3 14 12 42
+    ∷ case 274 1 1 1 29 12 42
+    ∷ case 274 1 1 1 30 12 7
     ∷ []
+
+-- two faults in one map; no rows, and no map; a bad address behind a map without a fault, with a bad fine address, with bad fine rows
+abbrev pub twoFaults : List MapCase
+twoFaults =
+    case 274 1 3 1 30 12 7
+    ∷ case 274 1 3 1 14 17 42
+    ∷ case 274 1 1 3 14 17 41
+    ∷ case 274 1 0 0 14 16 0
+    ∷ case 274 1 0 0 14 17 41
+    ∷ case 274 0 3 9 30 17 0
+    ∷ case 274 2 1 1 14 12 7
+    ∷ case 274 2 1 1 14 17 41
+    ∷ case 274 2 1 3 14 12 42
+    ∷ []
+
+-- a file that ends with its CPI, and leaves the body four, three or one byte, or none; one that ends within its marks; one that ends before its CPI
+abbrev pub cutShort : List MapCase
+cutShort =
+    case 268 1 0 0 26 12 41
+    ∷ case 268 1 0 0 27 12 42
+    ∷ case 268 1 0 0 29 12 42
+    ∷ case 268 1 0 0 30 12 7
+    ∷ case 271 1 1 1 14 12 8
+    ∷ case 271 1 1 1 30 12 7
+    ∷ case 271 1 1 1 14 17 41
+    ∷ case 271 1 1 2 14 12 42
+    ∷ case 267 1 1 1 30 12 6
+    ∷ []
+
+-- what is told of the file is what is stated
+abbrev pub Right : List MapCase → Type 0
+Right cases = map (λ m. refusalOf (fileOf m)) cases ≡ map (λ m. m .refusal) cases
 
 -- ---- all of it
 
 -- the statements together
 pub record MapFaults : Type 0 where
-  -- a file that passes the tests before its maps is refused for the first fault of the first map that has one, whatever its marks are
-  pub told : (f : List ℕ) (n : ℕ) → (List·Memᴰ (refusalOf f) early → ⊥) → FirstFault f n → refusalOf f ≡ n
-  -- and none is refused by these numbers for anything else
-  pub only : (f : List ℕ) → List·Memᴰ (refusalOf f) ofMaps → FirstFault f (refusalOf f)
-  -- where it is accepted, or refused for its marks, no map has a fault
-  pub sound : (f : List ℕ) → List·Memᴰ (refusalOf f) (0 ∷ 8 ∷ []) → (k : ℕ) → k < mapCount f (cpiStart f) → Faultless f (cpiStart f) (headerOfMap f k)
+  -- a file whose maps are looked at is refused for the first fault of the first map that has one, whatever its marks are
+  pub told : (f : List ℕ) (n : ℕ) → Reached f → FirstFault f n → refusalOf f ≡ n
+  -- where none has one, its marks decide
+  pub no-fault : (f : List ℕ) → Reached f → ((k : ℕ) → k < mapCount f (cpiStart f) → Faultless f (cpiStart f) (headerOfMap f k))
+      → refusalOf f ≡ unless (marksIn f (marksStart f)) 8 0
+  -- and no other file is refused by these numbers
+  pub only : (f : List ℕ) → List·Memᴰ (refusalOf f) ofMaps → Reached f × FirstFault f (refusalOf f)
   -- the worked cases
-  pub worked : map (λ m. refusalOf (fileOf m)) cases ≡ map (λ m. m .refusal) cases
+  pub one : Right oneFault
+  pub two : Right twoFaults
+  pub cut : Right cutShort
