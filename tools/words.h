@@ -35,7 +35,7 @@ static const uint32_t refusals[] = {
     CLPI_REFUSED_SEQUENCES,
     CLPI_REFUSED_PROGRAMS,
     CLPI_REFUSED_CPI,
-    CLPI_REFUSED_EP_MAP,
+    CLPI_REFUSED_MAP_ADDRESS,
     CLPI_REFUSED_MARKS,
     CLPI_REFUSED_FILE_TOO_LONG,
     CLPI_REFUSED_TABLE_SHORT,
@@ -44,12 +44,14 @@ static const uint32_t refusals[] = {
     CLPI_REFUSED_CELLS,
     CLPI_REFUSED_RUNS,
     CLPI_REFUSED_RECORD_LETTERS,
+    CLPI_REFUSED_FINE_ADDRESS,
+    CLPI_REFUSED_MAP_BODY,
 };
 
 /* Whose fault they are. */
 static const char refusals_told[] =
-    "1 to 8 are faults of the file. 23, 30 and 40 come from the library alone, to\n"
-    "programs that call it.\n";
+    "1 to 8, 41 and 42 are faults of the file. 23, 30 and 40 come from the library\n"
+    "alone, to programs that call it.\n";
 /* end of what tools/refusals makes */
 
 /* Says that a file is refused, and why. */
