@@ -218,6 +218,14 @@ static int help_refusals(void)
     for (size_t i = 0; i < sizeof refusals / sizeof *refusals; i++)
         printf("  %2" PRIu32 "  %s\n", refusals[i], words_for(refusals[i]));
     printf("\n%s\n"
+           "In a damaged entry index, 6 says that its length or its number of maps is bad,\n"
+           "or that the file is cut short in it; 7, that the address of a map is bad; 41,\n"
+           "that the fine address of a map is bad; 42, that the file ends within the rows of\n"
+           "a map: it is cut short there, or their number is bad, or an address that still\n"
+           "leads into the index. Maps are tested in the order of the file, and the first\n"
+           "fault found is told; others may be behind it. Which map has it is not told. The\n"
+           "index ends where its length says: one that is too small may show as 7 or 41.\n"
+           "\n"
            "22, from 'clip minutes', says that the file has no STC of that number; the file\n"
            "itself has no fault. An entry index or marks that start at 0, or at or past the\n"
            "file's end, are no fault: the file has none. 'clip list' has lower limits for 20\n"
