@@ -122,7 +122,7 @@ static const char help_list[] =
     "  mark  number of marks\n"
     "The letters with which FILE begins are not listed: 'head -c 4 FILE' shows them.\n"
     "Of a file that is refused it prints one line, 'refused' and the number. The\n"
-    "words for it are on standard error.\n"
+    "words for it are on standard error; 'clip help refusals' says more.\n"
     "\n"
     "The listing has limits of its own: a file over 65536 bytes is refused by 20, one\n"
     "with over 4096 rows of a table by 21, followed by the table: 1 ATCs, 2 STCs,\n"
