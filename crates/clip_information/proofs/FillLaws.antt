@@ -10,12 +10,13 @@ use borrow.Author.Tests.{eq-eqb, ne-eqb, le-ltb, lt-ltb, leb-true, not-true, not
 use Rattle.format.specs.Bytes.{beAt}
 use Rattle.format.specs.ClipRecord.{Row, sequencesStart, programsStart, cpiStart, marksStart, extensionsStart, sequencesEnd, marksFrom, marksIn}
 use Rattle.format.specs.Programs.{programsFrom, streamsFrom, programsEnd}
-use Rattle.format.specs.EntryPoints.{cpiIn, mapsIn, mapsFrom, mapCount, mapAt, nextMap}
+use Rattle.format.specs.EntryPoints.{cpiIn, mapsIn, mapsRefusal, mapsFrom, mapCount, mapAt, nextMap}
 use Rattle.format.specs.Extensions.{Found, nothing, found, extensionsFrom, listData, listIn}
 use Rattle.format.specs.Reading.{clipOf, recordOf}
 use Rattle.format.specs.Refusals.{refusalOf}
 use Rattle.format.specs.Tables.{tableBytes, overwritten}
-use Rattle.format.proofs.Tests.{passed}
+use Rattle.format.proofs.Tests.{passed, later-passed}
+use Rattle.format.proofs.MapRefusals.{maps-passed}
 use Rattle.format.proofs.Rows.{rows-length}
 use Rattle.extension.specs.Block.{foundIn}
 use Rattle.extension.specs.declared.ListData.{ListData}
@@ -44,13 +45,13 @@ module _ (f : List ℕ) where
       let a = passed (leb (sequencesEnd f (sequencesStart f)) (length f)) 3 _ (both-pass f h .1) in
       let b = passed (leb (programsEnd f (programsStart f)) (length f)) 4 _ (a .1) in
       let c = passed (cpiIn f (cpiStart f)) 5 _ (b .1) in
-      let d = passed (mapsIn f (cpiStart f)) 6 _ (c .1) in
+      let d = later-passed (mapsRefusal f (cpiStart f)) _ (c .1) in
       let e = passed (marksIn f (marksStart f)) 7 0 (d .1) in
       record {
         sequences-in = leb-true (sequencesEnd f (sequencesStart f)) (length f) (a .0);
         programs-in = leb-true (programsEnd f (programsStart f)) (length f) (b .0);
         cpi-in = c .0;
-        maps-in = d .0;
+        maps-in = maps-passed f (cpiStart f) (d .0);
         marks-in = e .0;
       }
 

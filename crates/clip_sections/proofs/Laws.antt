@@ -7,18 +7,18 @@ use native.Mathlib.Omega.{arith}
 use lib.ListN.{length}
 use lib.Dec.{leb, eqb, eqb·suc-zero}
 use borrow.Author.Tests.{eq-eqb, ne-eqb, le-leb, lt-leb, lt-ltb, le-ltb, leb-true}
-use Rattle.format.specs.Bytes.{pick, unless, beAt}
+use Rattle.format.specs.Bytes.{pick, unless, orLater, beAt}
 use Rattle.format.specs.ClipRecord.{lettersRight, clipInfoIn, sequencesStart, programsStart, cpiStart, marksStart, atcsFrom, stcsFrom, sequencesEnd, marksIn}
 use Rattle.format.specs.Programs.{programsFrom, streamsFrom, programsEnd}
-use Rattle.format.specs.EntryPoints.{cpiIn, mapsIn, mapsFrom, entriesFrom}
+use Rattle.format.specs.EntryPoints.{cpiIn, mapsRefusal, mapsFrom, entriesFrom}
 use Rattle.format.specs.Reading.{clipOf}
 use Rattle.format.specs.Refusals.{refusalOf}
-use Rattle.format.proofs.Tests.{both-true, passed}
+use Rattle.format.proofs.Tests.{both-true, passed, later-met, unless-later}
 use Rattle.common.specs.Header.{parsedOf}
 use Rattle.common.specs.declared.header.BdmvHeader.{BdmvHeader}
 use Rattle.common.specs.declared.header.Parsed.{Parsed}
 use Rattle.common.proofs.Laws.{rest}
-use Rattle.cpi.specs.Maps.{cpiMeasured, mapsMeasured}
+use Rattle.cpi.specs.Maps.{countsBy, cpiRefusal, cpiMeasured}
 use Rattle.cpi.specs.declared.maps.CpiCounts.{CpiCounts}
 use Rattle.clip_sections.specs.Clips.{frontOf, sectionsOf}
 use Rattle.clip_sections.specs.declared.sections.Sections.{Sections}
@@ -122,7 +122,7 @@ laterOf f =
     unless (leb (sequencesEnd f (sequencesStart f)) (length f)) 4
     (unless (leb (programsEnd f (programsStart f)) (length f)) 5
     (unless (cpiIn f (cpiStart f)) 6
-    (unless (mapsIn f (cpiStart f)) 7
+    (orLater (mapsRefusal f (cpiStart f))
     (unless (marksIn f (marksStart f)) 8 0))))
 
 -- the sections are tested only where the front passes
@@ -149,18 +149,19 @@ both-pass f h = go (frontOf f) (laterOf f) (sym (front-then f) ∙ h)
     go (suc r) x h = let g = rw (eqb·suc-zero r) at h in absurd (omega arith)
 
 module _ (f : List ℕ) where
-  -- a refusal is not 0
-  refused : (n : ℕ) → refusalOf f ≡ suc n → Sections.Refused (suc n) ≡ sectionsOf f
+  -- a number that is not 0 is a refusal, and the answer
+  refused-by : (r : ℕ) → refusalOf f ≡ r → (r ≡ 0 → ⊥) → Sections.Refused r ≡ sectionsOf f
   unfolding sectionsOf
-  refused n h = rw (h, eqb·suc-zero n)
+  refused-by r is h = rw (is, ne-eqb r 0 h)
+
+  refused : (n : ℕ) → refusalOf f ≡ suc n → Sections.Refused (suc n) ≡ sectionsOf f
+  refused n is = refused-by (suc n) is (λ e. omega arith)
 
   -- the refusal of a front that does not pass is the answer
   pub front-refused : (r : ℕ) → r ≡ frontOf f → (r ≡ 0 → ⊥) → Sections.Refused r ≡ sectionsOf f
-  unfolding sectionsOf
   front-refused r e h =
       let n : frontOf f ≡ 0 → ⊥ = λ z. h (e ∙ z) in
-      let is : refusalOf f ≡ r = front-then f ∙ rw (ne-eqb (frontOf f) 0 n) (sym e) in
-      rw (is, ne-eqb r 0 h)
+      refused-by r (front-then f ∙ rw (ne-eqb (frontOf f) 0 n) (sym e)) h
 
   module _ (front : frontOf f ≡ 0) where
     -- where the front passes, the sections decide
@@ -177,72 +178,62 @@ module _ (f : List ℕ) where
       programs-refused h = refused 4 (later ∙ rw (seq, h))
 
       module _ (prog : leb (programsEnd f (programsStart f)) (length f) ≡ true) where
-        -- a CPI section that is not in the file is 6, where all tested before it is
-        pub cpi-refused : cpiIn f (cpiStart f) ≡ false → Sections.Refused 6 ≡ sectionsOf f
-        cpi-refused h = refused 5 (later ∙ rw (seq, prog, h))
+        -- the CPI section's own refusal and its maps', as they are measured
+        index-then : laterOf f ≡ orLater (cpiRefusal f (cpiStart f)) (unless (marksIn f (marksStart f)) 8 0)
+        index-then = rw (seq, prog) (unless-later (cpiIn f (cpiStart f)) 5 (mapsRefusal f (cpiStart f)) (unless (marksIn f (marksStart f)) 8 0))
 
-        module _ (cpi : cpiIn f (cpiStart f) ≡ true) where
-          -- a map that is not where it must be is 7, where all tested before it is
-          pub maps-refused : mapsIn f (cpiStart f) ≡ false → Sections.Refused 7 ≡ sectionsOf f
-          maps-refused h = refused 6 (later ∙ rw (seq, prog, cpi, h))
+        -- the refusal of the CPI section or of a map is the answer, where all tested before it passes
+        pub index-refused : (r : ℕ) → cpiRefusal f (cpiStart f) ≡ r → (r ≡ 0 → ⊥) → Sections.Refused r ≡ sectionsOf f
+        index-refused r e h = refused-by r (later ∙ index-then ∙ rw e (later-met r (unless (marksIn f (marksStart f)) 8 0) h)) h
 
-          module _ (maps : mapsIn f (cpiStart f) ≡ true) where
-            -- marks that pass the file's end are 8, where all tested before them is in it
-            pub marks-refused : marksIn f (marksStart f) ≡ false → Sections.Refused 8 ≡ sectionsOf f
-            marks-refused h = refused 7 (later ∙ rw (seq, prog, cpi, maps, h))
+        module _ (index : cpiRefusal f (cpiStart f) ≡ 0) where
+          -- marks that pass the file's end are 8, where all tested before them is in it
+          pub marks-refused : marksIn f (marksStart f) ≡ false → Sections.Refused 8 ≡ sectionsOf f
+          marks-refused h = refused 7 (later ∙ index-then ∙ rw (index, h))
 
-            -- where no test fails, the rows are counted
-            pub all-measured : (a s p t m e : ℕ) → marksIn f (marksStart f) ≡ true → a ≡ length (clipOf f .atcs) → s ≡ length (clipOf f .stcs)
-                → p ≡ length (clipOf f .programs) → t ≡ length (clipOf f .streams) → m ≡ length (clipOf f .maps) → e ≡ length (clipOf f .entries)
-                → Sections.Counts a s p t m e ≡ sectionsOf f
-            unfolding sectionsOf
-            all-measured a s p t m e h ea es ep et em ee =
-                let z : refusalOf f ≡ 0 = later ∙ rw (seq, prog, cpi, maps, h) in
-                rw (z, ea, es, ep, et, em, ee)
+          -- where no test fails, the rows are counted
+          pub all-measured : (a s p t m e : ℕ) → marksIn f (marksStart f) ≡ true → a ≡ length (clipOf f .atcs) → s ≡ length (clipOf f .stcs)
+              → p ≡ length (clipOf f .programs) → t ≡ length (clipOf f .streams) → m ≡ length (clipOf f .maps) → e ≡ length (clipOf f .entries)
+              → Sections.Counts a s p t m e ≡ sectionsOf f
+          unfolding sectionsOf
+          all-measured a s p t m e h ea es ep et em ee =
+              let z : refusalOf f ≡ 0 = later ∙ index-then ∙ rw (index, h) in
+              rw (z, ea, es, ep, et, em, ee)
 
 -- the same with the rows of each section
 pub all-counted : (f : List ℕ) → frontOf f ≡ 0 → leb (sequencesEnd f (sequencesStart f)) (length f) ≡ true → leb (programsEnd f (programsStart f)) (length f) ≡ true
-    → cpiIn f (cpiStart f) ≡ true → mapsIn f (cpiStart f) ≡ true → marksIn f (marksStart f) ≡ true → {a s p t m e : ℕ}
+    → cpiRefusal f (cpiStart f) ≡ 0 → marksIn f (marksStart f) ≡ true → {a s p t m e : ℕ}
     → a ≡ length (atcsFrom f (sequencesStart f)) → s ≡ length (stcsFrom f (sequencesStart f)) → p ≡ length (programsFrom f (programsStart f))
     → t ≡ length (streamsFrom f (programsStart f)) → m ≡ length (mapsFrom f (cpiStart f)) → e ≡ length (entriesFrom f (cpiStart f))
     → Sections.Counts a s p t m e ≡ sectionsOf f
 unfolding clipOf
-all-counted f front seq prog cpi maps marks {a} {s} {p} {t} {m} {e} ea es ep et em ee = all-measured f front seq prog cpi maps a s p t m e marks ea es ep et em ee
+all-counted f front seq prog index marks {a} {s} {p} {t} {m} {e} ea es ep et em ee = all-measured f front seq prog index a s p t m e marks ea es ep et em ee
 
 -- ---- what the measure of the entry index says
 
 module _ (f : List ℕ) (c : ℕ) where
-  -- a section that is told to pass the end is not in the file
-  pub cpi-past : cpiMeasured f c ≡ CpiCounts.PastEnd → cpiIn f c ≡ false
-  unfolding cpiMeasured mapsMeasured
-  cpi-past h = go (cpiIn f c) (mapsIn f c) h
-    where
-      go : (a b : Bool) → pick a (pick b (CpiCounts.Counts (length (mapsFrom f c)) (length (entriesFrom f c))) CpiCounts.MapPastEnd) CpiCounts.PastEnd ≡ CpiCounts.PastEnd → a ≡ false
-      go false b h = refl
-      go true true h = let z : _≡_ {A = ℕ} 0 1 = cc in absurd (omega arith)
-      go true false h = let z : _≡_ {A = ℕ} 0 1 = cc in absurd (omega arith)
+  -- the section told by its refusal, 0 or another
+  measured : {told : CpiCounts} → cpiMeasured f c ≡ told → countsBy (cpiRefusal f c) (length (mapsFrom f c)) (length (entriesFrom f c)) ≡ told
+  unfolding cpiMeasured
+  measured h = h
 
-  -- where a map is told to pass it, the section is in the file and not every map is
-  pub map-past : cpiMeasured f c ≡ CpiCounts.MapPastEnd → (cpiIn f c ≡ true) × (mapsIn f c ≡ false)
-  unfolding cpiMeasured mapsMeasured
-  map-past h = go (cpiIn f c) (mapsIn f c) h
+  -- a refusal is told of a section that has it, and is not 0
+  pub cpi-refused : {r : ℕ} → cpiMeasured f c ≡ CpiCounts.Refused r → (cpiRefusal f c ≡ r) × (r ≡ 0 → ⊥)
+  cpi-refused {r} h = go (cpiRefusal f c) (measured h)
     where
-      go : (a b : Bool) → pick a (pick b (CpiCounts.Counts (length (mapsFrom f c)) (length (entriesFrom f c))) CpiCounts.MapPastEnd) CpiCounts.PastEnd ≡ CpiCounts.MapPastEnd
-          → (a ≡ true) × (b ≡ false)
-      go false b h = let z : _≡_ {A = ℕ} 0 1 = cc in absurd (omega arith)
-      go true true h = let z : _≡_ {A = ℕ} 0 1 = cc in absurd (omega arith)
-      go true false h = (refl, refl)
+      go : (x : ℕ) → countsBy x (length (mapsFrom f c)) (length (entriesFrom f c)) ≡ CpiCounts.Refused r → (x ≡ r) × (r ≡ 0 → ⊥)
+      go zero h = let z : _≡_ {A = ℕ} 0 1 = cc in absurd (omega arith)
+      go (suc n) h = let is : suc n ≡ r = cc in (is, λ e. omega arith)
 
-  -- counts are told of a section that is in the file with its maps, and are those of its rows
-  pub cpi-counts : (m e : ℕ) → cpiMeasured f c ≡ CpiCounts.Counts m e → (cpiIn f c ≡ true) × (mapsIn f c ≡ true) × (m ≡ length (mapsFrom f c)) × (e ≡ length (entriesFrom f c))
-  unfolding cpiMeasured mapsMeasured
-  cpi-counts m e h = go (cpiIn f c) (mapsIn f c) h
+  -- counts are told of a section that is refused by nothing, and are those of its rows
+  pub cpi-counts : (m e : ℕ) → cpiMeasured f c ≡ CpiCounts.Counts m e
+      → (cpiRefusal f c ≡ 0) × (m ≡ length (mapsFrom f c)) × (e ≡ length (entriesFrom f c))
+  cpi-counts m e h = go (cpiRefusal f c) (measured h)
     where
-      go : (a b : Bool) → pick a (pick b (CpiCounts.Counts (length (mapsFrom f c)) (length (entriesFrom f c))) CpiCounts.MapPastEnd) CpiCounts.PastEnd ≡ CpiCounts.Counts m e
-          → (a ≡ true) × (b ≡ true) × (m ≡ length (mapsFrom f c)) × (e ≡ length (entriesFrom f c))
-      go false b h = let z : _≡_ {A = ℕ} 0 1 = cc in absurd (omega arith)
-      go true true h = (refl, refl, cc, cc)
-      go true false h = let z : _≡_ {A = ℕ} 0 1 = cc in absurd (omega arith)
+      go : (x : ℕ) → countsBy x (length (mapsFrom f c)) (length (entriesFrom f c)) ≡ CpiCounts.Counts m e
+          → (x ≡ 0) × (m ≡ length (mapsFrom f c)) × (e ≡ length (entriesFrom f c))
+      go zero h = (refl, cc, cc)
+      go (suc n) h = let z : _≡_ {A = ℕ} 0 1 = cc in absurd (omega arith)
 
 -- ---- what was measured
 

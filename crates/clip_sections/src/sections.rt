@@ -92,8 +92,7 @@ pub fn measure(file: &[u8]) -> Sections
         return Sections::Refused(5);
     };
     match cpi::maps::measure(file, starts.cpi) {
-        cpi::maps::CpiCounts::PastEnd => Sections::Refused(6),
-        cpi::maps::CpiCounts::MapPastEnd => Sections::Refused(7),
+        cpi::maps::CpiCounts::Refused(number) => Sections::Refused(number),
         cpi::maps::CpiCounts::Counts { maps, entries } => {
             if marks_in(file, starts.marks) {
                 Sections::Counts {

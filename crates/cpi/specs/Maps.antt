@@ -1,10 +1,10 @@
 -- The maps of the entry index, measured.
-use Prim.Native.Nat.{ℕ, _+_, _*_, _≤_}
+use Prim.Native.Nat.{ℕ, zero, suc, _+_, _*_, _≤_}
 use mathlib.Core.Path.{_≡_}
 use mathlib.Core.List.{List}
 use lib.ListN.{length}
-use Rattle.format.specs.Bytes.{pick, beAt}
-use Rattle.format.specs.EntryPoints.{cpiEnd, hasMaps, mapCount, cpiIn, mapIn, mapsIn, fineCountAt, mapsFrom, entriesFrom}
+use Rattle.format.specs.Bytes.{pick, unless, beAt}
+use Rattle.format.specs.EntryPoints.{cpiEnd, hasMaps, mapCount, cpiIn, mapRefusal, mapsRefusal, fineCountAt, mapsFrom, entriesFrom}
 use Rattle.cpi.specs.declared.maps.CpiHead.{CpiHead}
 use Rattle.cpi.specs.declared.maps.MapRows.{MapRows}
 use Rattle.cpi.specs.declared.maps.CpiCounts.{CpiCounts}
@@ -13,17 +13,31 @@ use Rattle.cpi.specs.declared.maps.CpiCounts.{CpiCounts}
 unfoldable pub cpiHead : List ℕ → ℕ → CpiHead
 cpiHead f c = pick (cpiIn f c) (pick (hasMaps f c) (CpiHead.Maps (beAt f (c + 7) 1) (cpiEnd f c)) CpiHead.NoMaps) CpiHead.PastEnd
 
+-- what is told of a map by its refusal, 0 for none: its entries, or that number
+abbrev pub rowsBy : (refusal entries : ℕ) → MapRows
+rowsBy zero entries = MapRows.Entries entries
+rowsBy (suc n) entries = MapRows.Refused (suc n)
+
 -- the map whose header is at p
 unfoldable pub mapRows : List ℕ → ℕ → ℕ → MapRows
-mapRows f c p = pick (mapIn f c p) (MapRows.Entries (fineCountAt f p)) MapRows.PastEnd
+mapRows f c p = rowsBy (mapRefusal f c p) (fineCountAt f p)
+
+-- what is told of the section by a refusal, 0 for none: its rows in both tables, or that number
+abbrev pub countsBy : (refusal maps entries : ℕ) → CpiCounts
+countsBy zero maps entries = CpiCounts.Counts maps entries
+countsBy (suc n) maps entries = CpiCounts.Refused (suc n)
 
 -- all maps
 unfoldable pub mapsMeasured : List ℕ → ℕ → CpiCounts
-mapsMeasured f c = pick (mapsIn f c) (CpiCounts.Counts (length (mapsFrom f c)) (length (entriesFrom f c))) CpiCounts.MapPastEnd
+mapsMeasured f c = countsBy (mapsRefusal f c) (length (mapsFrom f c)) (length (entriesFrom f c))
 
--- the section: 6 before 7
+-- the refusal of the section and of its maps: 6 before any map is looked at
+abbrev pub cpiRefusal : List ℕ → ℕ → ℕ
+cpiRefusal f c = unless (cpiIn f c) 6 (mapsRefusal f c)
+
+-- the whole section
 unfoldable pub cpiMeasured : List ℕ → ℕ → CpiCounts
-cpiMeasured f c = pick (cpiIn f c) (mapsMeasured f c) CpiCounts.PastEnd
+cpiMeasured f c = countsBy (cpiRefusal f c) (length (mapsFrom f c)) (length (entriesFrom f c))
 
 -- a map's header is in the file, and the section ends there
 pub record HeaderIn (f : List ℕ) (c end p : ℕ) : Type 0 where

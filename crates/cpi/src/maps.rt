@@ -19,17 +19,16 @@ pub enum CpiHead {
     PastEnd,
 }
 
-// What one map's body says: so many entries, or an address or rows that pass their end.
+// What one map's body says: so many entries, or its refusal, 7, 41 or 42.
 pub enum MapRows {
     Entries(usize),
-    PastEnd,
+    Refused(u32),
 }
 
-// The rows of both tables; refusal 6; or refusal 7.
+// The rows of both tables; or the refusal, 6 or that of the first map that has one.
 pub enum CpiCounts {
     Counts { maps: usize, entries: usize },
-    PastEnd,
-    MapPastEnd,
+    Refused(u32),
 }
 
 // Reads the head of the section: its length, its type, its map count.
@@ -78,22 +77,22 @@ fn map_rows(file: &[u8], start: usize, end: usize, q: usize) -> MapRows
     let header = map_header(u48_at(file, q + 2));
     let body = start + 6 + u32_at(file, q + 8) as usize;
     if end <= body {
-        return MapRows::PastEnd;
+        return MapRows::Refused(7);
     }
     if file.len() < body + 4 + 8 * (header.num_coarse as usize) {
-        return MapRows::PastEnd;
+        return MapRows::Refused(42);
     }
     let fine = body + u32_at(file, body) as usize;
     if end < fine {
-        return MapRows::PastEnd;
+        return MapRows::Refused(41);
     }
     if file.len() < fine + 4 * (header.num_fine as usize) {
-        return MapRows::PastEnd;
+        return MapRows::Refused(42);
     }
     MapRows::Entries(header.num_fine as usize)
 }
 
-// All maps, and all their entries.
+// All maps, and all their entries; the first map that is refused ends it.
 fn measure_maps(file: &[u8], start: usize, count: usize, end: usize) -> CpiCounts
     requires { ⌜ HeadersIn (now file) start count end ⌝ }
     ensures { λ r. ⌜ r ≡ mapsMeasured (now (file .entry)) start ⌝ }
@@ -101,10 +100,14 @@ fn measure_maps(file: &[u8], start: usize, count: usize, end: usize) -> CpiCount
     let mut entries: usize = 0;
     let mut k: usize = 0;
     while k < count {
-        let MapRows::Entries(n) = map_rows(file, start, end, start + 8 + 12 * k) else {
-            return CpiCounts::MapPastEnd;
-        };
-        entries += n;
+        match map_rows(file, start, end, start + 8 + 12 * k) {
+            MapRows::Refused(number) => {
+                return CpiCounts::Refused(number);
+            }
+            MapRows::Entries(n) => {
+                entries += n;
+            }
+        }
         k += 1;
     }
     CpiCounts::Counts {
@@ -123,7 +126,7 @@ pub fn measure(file: &[u8], start: usize) -> CpiCounts
             maps: 0,
             entries: 0,
         },
-        CpiHead::PastEnd => CpiCounts::PastEnd,
+        CpiHead::PastEnd => CpiCounts::Refused(6),
         CpiHead::Maps { count, end } => measure_maps(file, start, count, end),
     }
 }

@@ -103,13 +103,13 @@ module _ (s : List ℕ) (p : ℕ) where
 
 -- ---- one map, whose header stands at p and its body at c + 6 + address
 
--- the map and its entries are read back, and 7 finds nothing to refuse
+-- the map and its entries are read back, and the map lies as it must
 record OneMap (s : List ℕ) (c p : ℕ) (m : Row) (own : List Row) : Type 0 where
   row-same : mapAt s p ≡ m
   entries-same : entriesOf s c p ≡ own
   inside : mapIn s c p ≡ true
 
--- a body that ends within a section that ends within the file passes all four tests of 7
+-- a body that ends within a section that ends within the file passes all four tests of a map
 inside-by : (len end body r n : ℕ) → body + (4 + 8 * r + 4 * n) ≤ end → end ≤ len
     → both (ltb body end) (both (leb (body + 4 + 8 * r) len) (both (leb (body + (4 + 8 * r)) end) (leb (body + (4 + 8 * r) + 4 * n) len))) ≡ true
 inside-by len end body r n h k =
@@ -175,7 +175,7 @@ headers-length (m ∷ ms) es address =
     ∙ rw (header-length m own address, h) (omega arith)
 
 module _ (s : List ℕ) (c : ℕ) (outer : cpiEnd s c ≤ length s) (small : cpiEnd s c < 2 ^ 32) where
-  -- maps and entries are read back where all headers and all bodies stand one behind the other, and 7 finds nothing to refuse
+  -- maps and entries are read back where all headers and all bodies stand one behind the other, and each map lies as it must
   pub maps-back : {ms es : List Row} → Maps 65535 ms es → (p address : ℕ) → Stands s p (headers ms es address)
       → Stands s (c + 6 + address) (bodies ms es) → c + 6 + address + length (bodies ms es) ≤ cpiEnd s c
       → (rowsAt (mapAt s) nextMap p (length ms) ≡ ms) × (gather (entriesOf s c) nextMap p (length ms) ≡ es)
@@ -224,7 +224,7 @@ unfolding mapCount
 count-by s p b h = rw h
 
 module _ (s : List ℕ) (p : ℕ) (pos : 0 < p) where
-  -- maps and entries are read back where their section stands, with or without maps, and neither 6 nor 7 refuses it
+  -- maps and entries are read back where their section stands, with or without maps, and it and its maps pass their tests
   pub cpi-back : {ms es : List Row} → Maps 65535 ms es → length ms ≤ 255 → p + length (cpiBytesBy ms es) < 2 ^ 32 → Stands s p (cpiBytesBy ms es)
       → (mapsFrom s p ≡ ms) × (entriesFrom s p ≡ es) × (cpiIn s p ≡ true) × (mapsIn s p ≡ true)
   unfolding mapsFrom entriesFrom cpiIn mapsIn

@@ -11,6 +11,7 @@ pub mod Sweep
 pub mod Places
 pub mod Tables
 pub mod Cell
+pub mod MapRefusals
 pub mod ReadByRead
 pub mod Join
 pub mod Good

@@ -8,14 +8,14 @@ use native.Mathlib.Omega.{arith}
 use lib.ListN.{length}
 use lib.Dec.{leb, ltb, eqb}
 use borrow.Author.Tests.{leb-true, leb-false, le-leb, lt-leb, ltb-true, ltb-false}
-use Rattle.format.specs.Bytes.{both, pick, every, beAt, widthOf, rowsAt, endOf}
+use Rattle.format.specs.Bytes.{both, pick, unless, firstRefusal, beAt, widthOf, rowsAt, endOf}
 use Rattle.format.specs.ClipRecord.{sequencesStart, programsStart, cpiStart, marksStart, clipInfoIn, nextStc, nextAtc, sequencesEnd, present, marksIn}
 use Rattle.format.specs.Programs.{nextStream, nextProgram, programsEnd}
-use Rattle.format.specs.EntryPoints.{nextCoarse, nextMap, cpiLength, cpiEnd, cpiType, hasMaps, mapCount, coarseCountAt, fineCountAt, bodyAt, fineStart, fineAddressIn, fineRowsIn, mapIn, cpiIn, mapsIn}
+use Rattle.format.specs.EntryPoints.{nextCoarse, nextFine, nextMap, cpiLength, cpiEnd, cpiType, hasMaps, mapCount, coarseCountAt, fineCountAt, bodyAt, fineStart, fineAddressIn, fineRowsIn, mapRefusal, mapsRefusal, cpiIn}
 use Rattle.format.specs.Extensions.{found, listIn, blockLength, extensionCount, hasExtensions}
 use Rattle.format.specs.Refusals.{refusalOf}
-use Rattle.format.specs.ReadByRead.{startIn, readsIn, itemsIn, clipInfoRead, stcRead, atcRead, sequencesRead, streamRead, programRead, programsRead, mapHeaderRead, cpiHeadersRead, cpiTypeRead, cpiRead, mapRead, mapsRead, marksRead, refusalRead, extensionRead, blockRead, extensionsRead}
-use Rattle.format.proofs.Tests.{both-assoc, right-fails}
+use Rattle.format.specs.ReadByRead.{startIn, readsIn, itemsIn, clipInfoRead, stcRead, atcRead, sequencesRead, streamRead, programRead, programsRead, mapHeaderRead, cpiHeadersRead, cpiTypeRead, cpiRead, mapReadRefusal, mapsReadRefusal, marksRead, refusalRead, extensionRead, blockRead, extensionsRead}
+use Rattle.format.proofs.Tests.{unless-both, right-fails}
 use Rattle.format.proofs.Loops.{end-ge}
 use Rattle.format.proofs.Places.{up-stc, up-atc, up-stream, up-program}
 use Rattle.format.proofs.Sweep.{end-steps}
@@ -43,10 +43,10 @@ reads-some f p w ws =
     let e : p + w + widthOf ws ≡ p + (w + widthOf ws) = add-assoc p w (widthOf ws) in
     rw (← e) (then (length f) (p + w) (p + w + widthOf ws) (readsIn f (p + w) ws) (omega arith) (λ k. reads f (p + w) ws k))
 
--- rows read by equal tests
-rows-same : (g h : ℕ → Bool) → ((p : ℕ) → g p ≡ h p) → (next : ℕ → ℕ) (p n : ℕ) → rowsAt g next p n ≡ rowsAt h next p n
+-- rows of equal answers
+rows-same : (g h : ℕ → ℕ) → ((p : ℕ) → g p ≡ h p) → (next : ℕ → ℕ) (p n : ℕ) → rowsAt g next p n ≡ rowsAt h next p n
 rows-same g h e next p zero = refl
-rows-same g h e next p (suc n) = ap₂ (λ (x : Bool) (xs : List Bool). x ∷ xs) (e p) (rows-same g h e next (next p) n)
+rows-same g h e next p (suc n) = ap₂ (λ (x : ℕ) (xs : List ℕ). x ∷ xs) (e p) (rows-same g h e next (next p) n)
 
 -- items from a place in the file: each is in the file exactly where the last one's end is
 items : (len : ℕ) (test : ℕ → Bool) (next : ℕ → ℕ) → ((p : ℕ) → p ≤ next p) → ((p : ℕ) → test p ≡ leb (next p) len)
@@ -195,24 +195,27 @@ module _ (f : List ℕ) where
       → both (leb p (length f)) (itemsIn test (by w) p n) ≡ leb (p + w * n) (length f)
   rows-behind w test h p n = then (length f) p (p + w * n) (itemsIn test (by w) p n) (omega arith) (λ m. rows w test h p n m)
 
-  -- reading a map fails exactly where one of the four causes of refusal 7 holds
-  map-read : (c p : ℕ) → mapRead f c p ≡ mapIn f c p
+  -- read by read, a map is refused as by its four tests: the reads of its body that have one number are one test
+  map-read : (c p : ℕ) → mapReadRefusal f c p ≡ mapRefusal f c p
   map-read c p =
       let body = bodyAt f c p in
-      let coarse = rows-behind 8 (λ q. readsIn f q (8 ∷ [])) (λ q. reads-some f q 8 []) (body + 4) (coarseCountAt f p) in
-      let fine = rows-behind 4 (λ q. readsIn f q (4 ∷ [])) (λ q. reads-some f q 4 []) (fineStart f c p) (fineCountAt f p) in
+      let coarse-test : ℕ → Bool = λ q. readsIn f q (8 ∷ []) in
+      let fine-test : ℕ → Bool = λ q. readsIn f q (4 ∷ []) in
+      let coarse = rows-behind 8 coarse-test (λ q. reads-some f q 8 []) (body + 4) (coarseCountAt f p) in
+      let fine = rows-behind 4 fine-test (λ q. reads-some f q 4 []) (fineStart f c p) (fineCountAt f p) in
       rw (
         reads-some f body 4 [],
+        unless-both (startIn f (fineStart f c p)) (itemsIn fine-test nextFine (fineStart f c p) (fineCountAt f p)) 42 0,
         fine,
-        ← both-assoc (leb (body + 4) (length f)) (itemsIn (λ q. readsIn f q (8 ∷ [])) nextCoarse (body + 4) (coarseCountAt f p))
-            (both (fineAddressIn f c p) (fineRowsIn f c p)),
+        unless-both (leb (body + 4) (length f)) (itemsIn coarse-test nextCoarse (body + 4) (coarseCountAt f p)) 42
+            (unless (fineAddressIn f c p) 41 (unless (fineRowsIn f c p) 42 0)),
         coarse,
       )
 
-  -- all maps are read exactly where none of them has a cause of refusal 7
-  maps : (c : ℕ) → mapsRead f c ≡ mapsIn f c
-  unfolding mapsRead mapsIn
-  maps c = ap (every (λ b. b)) (rows-same (mapRead f c) (mapIn f c) (map-read c) nextMap (c + 8) (mapCount f c))
+  -- so are all maps
+  maps : (c : ℕ) → mapsReadRefusal f c ≡ mapsRefusal f c
+  unfolding mapsReadRefusal mapsRefusal
+  maps c = ap firstRefusal (rows-same (mapReadRefusal f c) (mapRefusal f c) (map-read c) nextMap (c + 8) (mapCount f c))
 
   -- ---- the whole, and the extension block
 

@@ -1,9 +1,9 @@
 -- Laws of tests and of chains of refusals.
-use Prim.Native.Nat.{ℕ, suc}
+use Prim.Native.Nat.{ℕ, zero, suc}
 use mathlib.Core.Path.{_≡_, refl}
 use mathlib.Core.Bool.{Bool, true, false}
 use native.Mathlib.Omega.{arith}
-use Rattle.format.specs.Bytes.{both, pick, unless}
+use Rattle.format.specs.Bytes.{both, pick, unless, orLater}
 
 -- both tests pass where their conjunction does
 pub both-true : {a b : Bool} → both a b ≡ true → (a ≡ true) × (b ≡ true)
@@ -34,9 +34,33 @@ pub passed : (b : Bool) (k later : ℕ) → unless b (suc k) later ≡ 0 → (b 
 passed true k later h = (refl, h)
 passed false k later h = absurd (omega arith)
 
+-- so where refusals are handed on
+pub later-passed : (refusal later : ℕ) → orLater refusal later ≡ 0 → (refusal ≡ 0) × (later ≡ 0)
+later-passed zero later h = (refl, h)
+later-passed (suc n) later h = absurd (omega arith)
+
+-- a refusal that was met is the answer, whatever the later tests say
+pub later-met : (refusal later : ℕ) → (refusal ≡ 0 → ⊥) → orLater refusal later ≡ refusal
+later-met zero later h = absurd (h refl)
+later-met (suc n) later h = refl
+
+-- two tests that have one number are one test
+pub unless-both : (a b : Bool) (k later : ℕ) → unless a k (unless b k later) ≡ unless (both a b) k later
+unless-both true b k later = refl
+unless-both false b k later = refl
+
+-- a test before refusals that are handed on is handed on with them
+pub unless-later : (b : Bool) (k refusal later : ℕ) → unless b (suc k) (orLater refusal later) ≡ orLater (unless b (suc k) refusal) later
+unless-later true k refusal later = refl
+unless-later false k refusal later = refl
+
 -- a test that passes leaves the later ones
 pub pass : {b : Bool} (k : ℕ) {later : ℕ} → b ≡ true → later ≡ 0 → unless b k later ≡ 0
 pass k h e = rw h e
+
+-- so does a refusal that was not met
+pub pass-on : {refusal later : ℕ} → refusal ≡ 0 → later ≡ 0 → orLater refusal later ≡ 0
+pass-on h e = rw h e
 
 -- a test that fails fails both, whatever the other says
 pub left-fails : {a : Bool} (b : Bool) → a ≡ false → both a b ≡ false

@@ -9,7 +9,7 @@ use lib.Dec.{leb, lit<}
 use borrow.Author.Tests.{le-leb}
 use Rattle.format.specs.Bytes.{beAt, fieldBytes, fieldsAt}
 use Rattle.format.specs.ClipRecord.{Clip, lettersRight, sequencesStart, programsStart, cpiStart, marksStart, scalarsOf, clipInfoIn, atcsFrom, stcsFrom, sequencesEnd, marksFrom, marksIn}
-use Rattle.format.specs.EntryPoints.{mapsFrom, entriesFrom, cpiIn, mapsIn}
+use Rattle.format.specs.EntryPoints.{mapsFrom, entriesFrom, cpiIn, mapsIn, mapsRefusal}
 use Rattle.format.specs.Extensions.{extensionRows, extensionsFrom, listData, listIn}
 use Rattle.format.specs.Programs.{programsFrom, streamsFrom, programsEnd, loweredStream, loweredClip}
 use Rattle.format.specs.Reading.{clipOf, recordOf}
@@ -21,7 +21,8 @@ use Rattle.format.proofs.Good.{IsWord, letters-are, Writable}
 use Rattle.format.proofs.Lengths.{sequences-bound, programs-bound, cpi-bound}
 use Rattle.format.proofs.Numbers.{Stands, left, right, bytes-length, Fill, fill, fields-back, fields-length}
 use Rattle.format.proofs.Sections.{sequences-back, programs-back}
-use Rattle.format.proofs.Tests.{true-both, pass}
+use Rattle.format.proofs.Tests.{true-both, pass, pass-on}
+use Rattle.format.proofs.MapRefusals.{maps-pass}
 
 -- either word is a number of 32 bits
 word-below : {l : ℕ} → IsWord l → l < 2 ^ 32
@@ -121,7 +122,7 @@ module _ (c : Clip) (w : Writable c) where
       × (programsEnd (encode c) (pr c w) ≡ pr c w + length (programsBytes c))
   programs = let pb = programs-bound c (w .good) in programs-back (encode c) (pr c w) 65535 c (w .good) (omega arith) (facts c w .programs-at)
 
-  -- its CPI reads to the maps and entries of the record, and passes the tests of refusals 6 and 7
+  -- its CPI reads to the maps and entries of the record, and passes the tests of refusal 6 and those of each map
   cpi : (mapsFrom (encode c) (cp c w) ≡ c .maps) × (entriesFrom (encode c) (cp c w) ≡ c .entries)
       × (cpiIn (encode c) (cp c w) ≡ true) × (mapsIn (encode c) (cp c w) ≡ true)
   unfolding cpiBytes
@@ -186,7 +187,7 @@ module _ (c : Clip) (w : Writable c) where
       let t5 : leb (programsEnd (encode c) (programsStart (encode c))) n ≡ true =
       rw (at 3, programs .2) (le-leb (pr c w + length (programsBytes c)) n (omega arith)) in
       let t6 : cpiIn (encode c) (cpiStart (encode c)) ≡ true = rw (at 4) (cpi .2) in
-      let t7 : mapsIn (encode c) (cpiStart (encode c)) ≡ true = rw (at 4) (cpi .3) in
+      let t7 : mapsRefusal (encode c) (cpiStart (encode c)) ≡ 0 = maps-pass (encode c) (cpiStart (encode c)) (rw (at 4) (cpi .3)) in
       let t8 : marksIn (encode c) (marksStart (encode c)) ≡ true =
       rw (at 5, is-present (encode c) (mk c w) (λ e. omega arith) (omega arith)) (le-leb (mk c w + 6) n (omega arith)) in
       pass 20 (le-leb n 536870912 (omega arith))
@@ -194,4 +195,4 @@ module _ (c : Clip) (w : Writable c) where
       (pass 2 t2
       (pass 1 (le-leb 40 n (omega arith))
       (pass 3 t3
-      (pass 4 t4 (pass 5 t5 (pass 6 t6 (pass 7 t7 (pass 8 t8 refl)))))))))
+      (pass 4 t4 (pass 5 t5 (pass 6 t6 (pass-on t7 (pass 8 t8 refl)))))))))

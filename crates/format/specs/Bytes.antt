@@ -40,6 +40,16 @@ abbrev pub unless : Bool → ℕ → ℕ → ℕ
 unless true number later = later
 unless false number later = number
 
+-- a refusal that stands before what the later tests answer
+abbrev pub orLater : ℕ → ℕ → ℕ
+orLater zero later = later
+orLater (suc n) later = suc n
+
+-- the first refusal of those given; 0 where none is
+abbrev pub firstRefusal : List ℕ → ℕ
+firstRefusal [] = 0
+firstRefusal (refusal ∷ later) = orLater refusal (firstRefusal later)
+
 -- ---- numbers: integers in files are big-endian
 
 -- the number of the n bytes of f from place p; a byte past the end counts 0

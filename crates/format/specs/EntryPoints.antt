@@ -5,7 +5,7 @@ use mathlib.Core.Bool.{Bool, true}
 use lib.ListN.{length, getD}
 use lib.Bits.{bitOr}
 use lib.Dec.{leb, ltb, eqb}
-use Rattle.format.specs.Bytes.{both, pick, every, beAt, unpacked, rowsAt, gather}
+use Rattle.format.specs.Bytes.{both, pick, every, unless, firstRefusal, beAt, unpacked, rowsAt, gather}
 use Rattle.format.specs.ClipRecord.{Row, entryRow, present}
 
 -- ---- rows of a map
@@ -164,13 +164,13 @@ mapHeadersIn f c = pick (hasMaps f c) (leb (c + 8 + 12 * mapCount f c) (length f
 unfoldable pub cpiIn : List ℕ → ℕ → Bool
 cpiIn f c = both (cpiLengthIn f c) (mapHeadersIn f c)
 
--- ---- refusal 7: its four causes for the map whose header is at p, in the order in which they are tested
+-- ---- a map's four tests, for the map whose header is at p
 
 -- the body must be below the CPI end
 abbrev pub addressIn : List ℕ → ℕ → ℕ → Bool
 addressIn f c p = ltb (bodyAt f c p) (cpiEnd f c)
 
--- the fine address and the coarse rows may pass the CPI end, not the file's
+-- the body's first four bytes and its coarse rows may pass the CPI end, not the file's
 abbrev pub coarseRowsIn : List ℕ → ℕ → ℕ → Bool
 coarseRowsIn f c p = leb (bodyAt f c p + 4 + 8 * coarseCountAt f p) (length f)
 
@@ -182,10 +182,25 @@ fineAddressIn f c p = leb (fineStart f c p) (cpiEnd f c)
 abbrev pub fineRowsIn : List ℕ → ℕ → ℕ → Bool
 fineRowsIn f c p = leb (fineStart f c p + 4 * fineCountAt f p) (length f)
 
--- none of the four causes holds
+-- the map lies as it must
 abbrev pub mapIn : List ℕ → ℕ → ℕ → Bool
 mapIn f c p = both (addressIn f c p) (both (coarseRowsIn f c p) (both (fineAddressIn f c p) (fineRowsIn f c p)))
 
--- so it is for each map, else 7
+-- and so does each map of the section
 unfoldable pub mapsIn : List ℕ → ℕ → Bool
 mapsIn f c = every (λ b. b) (rowsAt (mapIn f c) nextMap (c + 8) (mapCount f c))
+
+-- ---- refusals 7, 41 and 42
+
+-- in the order address, coarse rows, fine address, fine rows: 7 a map's address; 41 a fine address past the CPI end; 42 a read in a map's body,
+-- its first four bytes included, passes the file's end
+abbrev pub mapRefusal : List ℕ → ℕ → ℕ → ℕ
+mapRefusal f c p =
+    unless (addressIn f c p) 7
+    (unless (coarseRowsIn f c p) 42
+    (unless (fineAddressIn f c p) 41
+    (unless (fineRowsIn f c p) 42 0)))
+
+-- map by map, in the order of their headers
+unfoldable pub mapsRefusal : List ℕ → ℕ → ℕ
+mapsRefusal f c = firstRefusal (rowsAt (mapRefusal f c) nextMap (c + 8) (mapCount f c))

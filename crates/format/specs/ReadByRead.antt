@@ -4,7 +4,7 @@ use mathlib.Core.List.{List, [], _∷_}
 use mathlib.Core.Bool.{Bool, true, false}
 use lib.ListN.{length}
 use lib.Dec.{leb, eqb, ltb}
-use Rattle.format.specs.Bytes.{both, pick, every, unless, beAt, rowsAt}
+use Rattle.format.specs.Bytes.{both, pick, every, unless, orLater, firstRefusal, beAt, rowsAt}
 use Rattle.format.specs.ClipRecord.{lettersRight, sequencesStart, programsStart, cpiStart, marksStart, nextStc, nextAtc, present}
 use Rattle.format.specs.Programs.{nextStream, nextProgram}
 use Rattle.format.specs.EntryPoints.{nextCoarse, nextFine, nextMap, cpiLength, cpiEnd, cpiType, mapCount, coarseCountAt, fineCountAt, bodyAt, fineStart, addressIn, fineAddressIn}
@@ -77,18 +77,19 @@ cpiRead f c =
     (both (readsIn f c (4 ∷ [])) (both (startIn f (cpiEnd f c)) (pick (ltb (cpiLength f c) 2) true (cpiTypeRead f c))))
     true
 
--- a map: its address; the fine address and the coarse rows; the fine address's place; the fine rows
-abbrev pub mapRead : List ℕ → ℕ → ℕ → Bool
-mapRead f c p =
-    both (addressIn f c p)
-    (both (readsIn f (bodyAt f c p) (4 ∷ []))
-    (both (itemsIn (λ q. readsIn f q (8 ∷ [])) nextCoarse (bodyAt f c p + 4) (coarseCountAt f p))
-    (both (fineAddressIn f c p)
-    (both (startIn f (fineStart f c p)) (itemsIn (λ q. readsIn f q (4 ∷ [])) nextFine (fineStart f c p) (fineCountAt f p))))))
+-- a map, test by test: its address; the word of its fine address, then each coarse row; the fine address's place; each fine row
+abbrev pub mapReadRefusal : List ℕ → ℕ → ℕ → ℕ
+mapReadRefusal f c p =
+    unless (addressIn f c p) 7
+    (unless (readsIn f (bodyAt f c p) (4 ∷ [])) 42
+    (unless (itemsIn (λ q. readsIn f q (8 ∷ [])) nextCoarse (bodyAt f c p + 4) (coarseCountAt f p)) 42
+    (unless (fineAddressIn f c p) 41
+    (unless (startIn f (fineStart f c p)) 42
+    (unless (itemsIn (λ q. readsIn f q (4 ∷ [])) nextFine (fineStart f c p) (fineCountAt f p)) 42 0)))))
 
 -- the maps in the order of their headers, each whole before the next
-unfoldable pub mapsRead : List ℕ → ℕ → Bool
-mapsRead f c = itemsIn (mapRead f c) nextMap (c + 8) (mapCount f c)
+unfoldable pub mapsReadRefusal : List ℕ → ℕ → ℕ
+mapsReadRefusal f c = firstRefusal (rowsAt (mapReadRefusal f c) nextMap (c + 8) (mapCount f c))
 
 -- marks: a word that is ignored, and the count
 unfoldable pub marksRead : List ℕ → ℕ → Bool
@@ -105,7 +106,7 @@ refusalRead f =
     (unless (sequencesRead f (sequencesStart f)) 4
     (unless (programsRead f (programsStart f)) 5
     (unless (cpiRead f (cpiStart f)) 6
-    (unless (mapsRead f (cpiStart f)) 7
+    (orLater (mapsReadRefusal f (cpiStart f))
     (unless (marksRead f (marksStart f)) 8 0)))))))))
 
 -- extensions: whether entries are read. Block length, and where it is not 0 the ignored word, spare bytes, count and entries; a failed read gives none

@@ -4,16 +4,16 @@ use mathlib.Core.List.{List, [], _∷_}
 use mathlib.Core.Bool.{Bool, true, false}
 use lib.ListN.{length, getD, take, drop, replicate}
 use lib.Dec.{leb, ltb, eqb}
-use Rattle.format.specs.Bytes.{both, pick, every, unless, fits}
+use Rattle.format.specs.Bytes.{both, pick, every, unless, orLater, fits}
 use Rattle.format.specs.ClipRecord.{Row, Scalars, Clip, areLetters, atcStcCount, streamCount, codingType, aspect, language, mapType, entryCount, time, entryType, lettersRight, clipInfoIn, sequencesStart, programsStart, cpiStart, marksStart, extensionsStart, sequencesEnd, marksIn, entryCells}
 use Rattle.format.specs.Programs.{isVideo, programsEnd}
-use Rattle.format.specs.EntryPoints.{cpiIn, mapsIn}
+use Rattle.format.specs.EntryPoints.{cpiIn, mapsRefusal}
 use Rattle.format.specs.Extensions.{extensionRows, dataStart, dataLength, dataOf, dataIn}
 use Rattle.format.specs.Reading.{recordOf}
 use Rattle.format.specs.Tables.{Nine, mapNine, zipNine, tableBytes, rowRoom, overwritten, Table, isStated, addUp, rowsOf, ClipTables, clipIn, atcCells, stcCells, programCells, streamCells, mapCells, extensionCells}
 use Rattle.format.specs.Rewriting.{runs, encode}
 
--- ---- reading a file: 20, 1 (8 bytes), 2, 1 (40 bytes), 3 to 8
+-- ---- reading a file: 20, 1 (8 bytes), 2, 1 (40 bytes), 3 to 6, then 7, 41 and 42 map by map, then 8
 
 -- 0 where the file is accepted, document 01's word for a file that reading into tables long enough does not refuse
 unfoldable pub refusalOf : List ℕ → ℕ
@@ -26,7 +26,7 @@ refusalOf f =
     (unless (leb (sequencesEnd f (sequencesStart f)) (length f)) 4
     (unless (leb (programsEnd f (programsStart f)) (length f)) 5
     (unless (cpiIn f (cpiStart f)) 6
-    (unless (mapsIn f (cpiStart f)) 7
+    (orLater (mapsRefusal f (cpiStart f))
     (unless (marksIn f (marksStart f)) 8 0)))))))))
 
 -- ---- reading into nine lent tables

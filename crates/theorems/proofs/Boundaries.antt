@@ -8,7 +8,7 @@ use lib.Seq.{getD-append-seam}
 use Rattle.format.specs.Bytes.{beAt, rowsAt}
 use Rattle.format.specs.ClipRecord.{Row, time, packet, lettersRight, scalarsOf, clipInfoIn, atcsFrom, stcsFrom, sequencesEnd, marksIn}
 use Rattle.format.specs.Programs.{programsFrom, streamsFrom, programsEnd}
-use Rattle.format.specs.EntryPoints.{joinTime, joinPacket, entriesFor, fineAt, nextFine, fineStart, coarseCountAt, fineCountAt, mapTypeAt, entriesOf, cpiType, hasMaps, mapCount, mapsFrom, entriesFrom, cpiIn, mapsIn}
+use Rattle.format.specs.EntryPoints.{joinTime, joinPacket, entriesFor, fineAt, nextFine, fineStart, coarseCountAt, fineCountAt, mapTypeAt, entriesOf, cpiType, hasMaps, mapCount, mapsFrom, entriesFrom, cpiIn, mapsRefusal}
 use Rattle.format.specs.Reading.{clipOf}
 use Rattle.format.specs.Refusals.{refusalOf}
 use Rattle.format.proofs.Fields.{narrow-cells}
@@ -67,5 +67,5 @@ low-bits before high low behind c h =
 
 -- the statements together; the two files have no unknowns
 pub boundaries : Boundaries
-unfolding listedClip listedFile beAt lettersRight scalarsOf clipInfoIn atcsFrom stcsFrom sequencesEnd marksIn programsFrom streamsFrom programsEnd joinTime joinPacket hasMaps mapCount mapsFrom entriesFrom cpiIn mapsIn clipOf refusalOf
+unfolding listedClip listedFile beAt lettersRight scalarsOf clipInfoIn atcsFrom stcsFrom sequencesEnd marksIn programsFrom streamsFrom programsEnd joinTime joinPacket hasMaps mapCount mapsFrom entriesFrom cpiIn mapsRefusal clipOf refusalOf
 boundaries = record { no-coarse-rows = no-coarse; cpi-type = low-bits; twelve-bits = (refl, refl); another-type = (refl, refl) }

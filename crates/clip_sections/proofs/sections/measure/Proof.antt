@@ -15,7 +15,7 @@ use Rattle.info_sections.specs.Sections.{sectionMeasured}
 use Rattle.info_sections.proofs.Sections.{CountsAre, counts-are, past-end}
 use Rattle.cpi.specs.Maps.{cpiMeasured}
 use Rattle.clip_sections.specs.Clips.{frontOf}
-use Rattle.clip_sections.proofs.Laws.{front-facts, front-refused, sequences-refused, programs-refused, cpi-refused, maps-refused, marks-refused, all-counted, cpi-past, map-past, cpi-counts}
+use Rattle.clip_sections.proofs.Laws.{front-facts, front-refused, sequences-refused, programs-refused, index-refused, marks-refused, all-counted, cpi-refused, cpi-counts}
 use borrow.Author.Needs.{needs}
 use Rattle.clip_sections.proofs.sections.measure.Statement.{statement}
 use Rattle.clip_sections.proofs.sections.measure.Tie as tie
@@ -111,16 +111,9 @@ returns-4 c =
     let s : tie.After-atcs = search in
     let p : tie.After-programs = search in
     let m : tie.After-measure3 = search in
-    cpi-refused (F k) (front k) (sequences-in s) (programs-in p) (cpi-past (F k) (cpiStart (F k)) (index m ∙ c .enum-told3 .given .1))
-
-returns-5 : tie.Need-returns-5
-returns-5 c =
-    let k : tie.Else1 = search in
-    let s : tie.After-atcs = search in
-    let p : tie.After-programs = search in
-    let m : tie.After-measure3 = search in
-    let i = map-past (F k) (cpiStart (F k)) (index m ∙ c .enum-told4 .given .1) in
-    maps-refused (F k) (front k) (sequences-in s) (programs-in p) (i .0) (i .1)
+    let n : tie.After-number = search in
+    let i = cpi-refused (F k) (cpiStart (F k)) (index m ∙ n .number .given .1) in
+    index-refused (F k) (front k) (sequences-in s) (programs-in p) (n .number .given .0 .0) (i .0) (i .1)
 
 -- the marks were looked for where they start
 module _ (m : tie.After-marks-in) where
@@ -129,6 +122,18 @@ module _ (m : tie.After-marks-in) where
 
   marks : marksIn (F K6) (marksStart (F K6)) ≡ m .marks-in .result
   marks = let r : tie.After-read = search in sym (ap (marksIn (F K6)) (r .read .ensures .marks)) ∙ sym (m .marks-in .ensures)
+
+returns-5 : tie.Need-returns-5
+returns-5 c =
+    let k : tie.Else1 = search in
+    let s : tie.After-atcs = search in
+    let p : tie.After-programs = search in
+    let m : tie.After-measure3 = search in
+    let n : tie.After-maps = search in
+    let h : tie.After-marks-in = search in
+    let i = cpi-counts (F k) (cpiStart (F k)) _ _ (index m ∙ n .maps .given .1) in
+    all-counted (F k) (front k) (sequences-in s) (programs-in p) (i .0) (marks h ∙ c .if2 .taken)
+    (sequences-are s .heads-are) (sequences-are s .rows-are) (programs-are p .heads-are) (programs-are p .rows-are) (i .1) (i .2)
 
 returns-6 : tie.Need-returns-6
 returns-6 c =
@@ -139,19 +144,7 @@ returns-6 c =
     let n : tie.After-maps = search in
     let h : tie.After-marks-in = search in
     let i = cpi-counts (F k) (cpiStart (F k)) _ _ (index m ∙ n .maps .given .1) in
-    all-counted (F k) (front k) (sequences-in s) (programs-in p) (i .0) (i .1) (marks h ∙ c .if2 .taken)
-    (sequences-are s .heads-are) (sequences-are s .rows-are) (programs-are p .heads-are) (programs-are p .rows-are) (i .2) (i .3)
-
-returns-7 : tie.Need-returns-7
-returns-7 c =
-    let k : tie.Else1 = search in
-    let s : tie.After-atcs = search in
-    let p : tie.After-programs = search in
-    let m : tie.After-measure3 = search in
-    let n : tie.After-maps = search in
-    let h : tie.After-marks-in = search in
-    let i = cpi-counts (F k) (cpiStart (F k)) _ _ (index m ∙ n .maps .given .1) in
-    marks-refused (F k) (front k) (sequences-in s) (programs-in p) (i .0) (i .1) (marks h ∙ c .if2 .left)
+    marks-refused (F k) (front k) (sequences-in s) (programs-in p) (i .0) (marks h ∙ c .if2 .left)
 
 pub measure-spec : {M : Type 1} → statement M
 measure-spec =
@@ -171,9 +164,7 @@ measure-spec =
     measure-requires-3
     (λ c. search needs)
     (λ c. search needs)
-    (λ c. search needs)
     (λ c κs. search needs)
     returns-4
     returns-5
-    returns-6
-    returns-7)
+    returns-6)

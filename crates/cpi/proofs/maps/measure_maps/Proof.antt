@@ -33,9 +33,11 @@ returns c =
     let turn : tie.At-loop Inv-loop μ-loop = search in
     let t : tie.In-loop Inv-loop μ-loop = search in
     let map-rows : tie.After-map-rows Inv-loop μ-loop = search in
+    let number : tie.After-number Inv-loop μ-loop = search in
     let l = turn .loop in
-    counting-bad (now (s .args .file)) (s .args .start) (s .args .count) (s .pre .counted) (l .entries) (l .k) (l .inv .1) (t .loop-test .taken)
-    (sym (map-rows .map-rows .ensures) ∙ c .enum-told .given .1)
+    let v = number .number .given in
+    counting-bad (now (s .args .file)) (s .args .start) (s .args .count) (s .pre .counted) (l .entries) (l .k) (l .inv .1) (v .0 .0) (t .loop-test .taken)
+    (sym (map-rows .map-rows .ensures) ∙ v .1)
 
 add-entries : tie.Need-add-entries Inv-loop μ-loop
 add-entries c =
@@ -84,8 +86,8 @@ measure-maps-spec =
     (λ c. search needs)
     map-rows-requires
     (λ c. search needs)
-    (λ c. search needs)
     returns
+    (λ c. search needs)
     add-entries
     (λ c. search needs)
     (λ c. search needs)
