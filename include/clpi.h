@@ -34,7 +34,7 @@ extern "C" {
  * Another major number means that programs must be changed, or compiled anew; a higher minor number, that there is more
  * to call. */
 
-#define CLPI_VERSION_MAJOR 4
+#define CLPI_VERSION_MAJOR 5
 #define CLPI_VERSION_MINOR 0
 #define CLPI_VERSION_PATCH 0
 
@@ -54,20 +54,28 @@ static inline int clpi_version_fits(void)
 /* ---- refusals
  *
  * A start of 0, or at or past the file's end, is no refusal of the CPI, the marks or the extensions: the file has none
- * then, so that one cut off right before its CPI reads as a file without maps. */
+ * then, so that one cut off right before its CPI reads as a file without maps.
+ *
+ * Reading tests 20, 1 for 8 bytes, 2, 1 for 40 bytes, 3 to 6, the maps, 8 and 21, in this order. A map's faults have
+ * three numbers, 7, 41 and 42. Maps are tested one by one, in the order of their headers, each in this order: 7 for its
+ * address, 42 for the first four bytes of its body, which are the fine address, and for its coarse rows, 41 for the fine
+ * address, 42 for its fine rows. The first fault found gives the number; others may be behind it. Both addresses are
+ * tested against the CPI end, which is CPI start + 4 + the CPI's length. */
 
 /* made by tools/refusals from docs/REFUSALS.md */
 enum clpi_refusal {
     CLPI_OK = 0,
     /* the disc's author: faults of the file */
-    CLPI_REFUSED_HEADER_SHORT = 1, /* the file has under 8 bytes, or the right letters and under 40 */
-    CLPI_REFUSED_LETTERS = 2,      /* the file begins neither with HDMV nor with CLPI */
-    CLPI_REFUSED_CLIP_INFO = 3,    /* the file has under 194 bytes, or the ClipInfo passes its end */
-    CLPI_REFUSED_SEQUENCES = 4,    /* the sequences pass the file's end */
-    CLPI_REFUSED_PROGRAMS = 5,     /* the programs pass the file's end */
-    CLPI_REFUSED_CPI = 6,          /* the CPI's length or its map headers pass the file's end */
-    CLPI_REFUSED_EP_MAP = 7,       /* a map's address, fine address or rows pass their end */
-    CLPI_REFUSED_MARKS = 8,        /* the marks pass the file's end */
+    CLPI_REFUSED_HEADER_SHORT = 1,  /* the file has under 8 bytes, or the right letters and under 40 */
+    CLPI_REFUSED_LETTERS = 2,       /* the file begins neither with HDMV nor with CLPI */
+    CLPI_REFUSED_CLIP_INFO = 3,     /* the file has under 194 bytes, or the ClipInfo passes its end */
+    CLPI_REFUSED_SEQUENCES = 4,     /* the sequences pass the file's end */
+    CLPI_REFUSED_PROGRAMS = 5,      /* the programs pass the file's end */
+    CLPI_REFUSED_CPI = 6,           /* the CPI's length or its map headers pass the file's end */
+    CLPI_REFUSED_MAP_ADDRESS = 7,   /* a map's address: its body at CPI start + 6 + address is not below the CPI end */
+    CLPI_REFUSED_MARKS = 8,         /* the marks pass the file's end */
+    CLPI_REFUSED_FINE_ADDRESS = 41, /* a map's fine address: body + fine address passes the CPI end */
+    CLPI_REFUSED_MAP_BODY = 42,     /* a map's body: its first four bytes, coarse or fine rows pass the file's end */
     /* the caller: faults of the call */
     CLPI_REFUSED_FILE_TOO_LONG = 20, /* the file has over 536870912 bytes, `CLPI_MOST_BYTES` */
     CLPI_REFUSED_TABLE_SHORT = 21,   /* a table is too short: `table` and `rows_needed` tell which, and how many rows
@@ -97,8 +105,8 @@ static inline const char *clpi_refusal_words(uint32_t refusal)
         return "the programs pass the file's end";
     case CLPI_REFUSED_CPI:
         return "the length or the map headers of the entry index pass the file's end";
-    case CLPI_REFUSED_EP_MAP:
-        return "the address, the fine address or the rows of an entry map pass their end";
+    case CLPI_REFUSED_MAP_ADDRESS:
+        return "the address of an entry map is at or past the end of the entry index";
     case CLPI_REFUSED_MARKS:
         return "the marks pass the file's end";
     case CLPI_REFUSED_FILE_TOO_LONG:
@@ -115,6 +123,10 @@ static inline const char *clpi_refusal_words(uint32_t refusal)
         return "an entry map has over 65535 runs, more than a clip file can hold";
     case CLPI_REFUSED_RECORD_LETTERS:
         return "the record's letters are neither HDMV nor CLPI";
+    case CLPI_REFUSED_FINE_ADDRESS:
+        return "the fine address of an entry map passes the end of the entry index";
+    case CLPI_REFUSED_MAP_BODY:
+        return "the first four bytes or the rows of an entry map pass the file's end";
     default:
         return "";
     }
@@ -368,9 +380,9 @@ static inline struct clpi_writing clpi_write_tables(
 }
 
 /* Rewrites a file, straight from its bytes: reads it and writes its record, with no tables lent. It tests what reading
- * tests (20, then 1 to 8; never 21), then CLPI_REFUSED_RUNS, then CLPI_REFUSED_OUTPUT_SHORT. The new file begins with
- * the old one's letters and reads to the same record apart from the mark count and the extensions, every question on it
- * has the same answer, and rewriting it again changes no byte. */
+ * tests, in that order but for 21, then CLPI_REFUSED_RUNS, then CLPI_REFUSED_OUTPUT_SHORT. The new file begins with the
+ * old one's letters and reads to the same record apart from the mark count and the extensions, every question on it has
+ * the same answer, and rewriting it again changes no byte. */
 struct clpi_writing clpi_rewrite(const uint8_t *file, size_t file_bytes, uint8_t *output, size_t output_bytes);
 
 /* How long the new file is, at most CLPI_MOST_REWRITTEN_BYTES; it may be longer than the old one. `bytes` is 0 where

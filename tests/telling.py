@@ -146,10 +146,18 @@ def files():
     yield "refused_6_length", clip(PLAIN, order="spmc")[:-4] + be(4, 1)
     yield "refused_6_headers", clip({**PLAIN, "c": be(4, 4) + be(2, 1) + bytes([0, 1])}, order="spmc", tail=bytes(11))
     yield "refused_7_address", with_cpi(cpi([header(0x1011, 1, 0, 0, 14)], b""), tail=bytes(20))
-    yield "refused_7_fine_address", with_cpi(cpi([header(0x1011, 1, 0, 0, 14)], be(4, 5)), tail=bytes(20))
-    yield "refused_7_coarse_rows", clip({**PLAIN, "c": cpi([header(0x1011, 1, 2, 0, 14)], be(4, 4) + bytes(15))}, order="spmc")
-    yield "refused_7_fine_rows", clip({**PLAIN, "c": cpi([header(0x1011, 1, 2, 3, 14)], body(ONE, FINE)[:-1])}, order="spmc")
+    yield "refused_42_four_bytes", clip({**PLAIN, "c": cpi([header(0x1011, 1, 0, 0, 14)], bytes(3))}, order="spmc")
+    yield "refused_42_coarse_rows", clip({**PLAIN, "c": cpi([header(0x1011, 1, 2, 0, 14)], be(4, 4) + bytes(15))}, order="spmc")
+    yield "refused_41_fine_address", with_cpi(cpi([header(0x1011, 1, 0, 0, 14)], be(4, 5)), tail=bytes(20))
+    yield "refused_42_fine_rows", clip({**PLAIN, "c": cpi([header(0x1011, 1, 2, 3, 14)], body(ONE, FINE)[:-1])}, order="spmc")
     yield "refused_8_cut", clip(PLAIN)[:-1]
+    # in a map the address, the coarse rows, the fine address, the fine rows; then the next map; all maps before the marks
+    yield "refused_7_before_41", clip({**PLAIN, "c": cpi([header(0x1011, 1, 0, 0, 14)], b"")}, order="spmc", tail=be(4, 1))
+    yield "refused_42_before_41", clip({**PLAIN, "c": cpi([header(0x1011, 1, 2, 0, 14)], be(4, 20) + bytes(15))}, order="spmc")
+    yield "refused_41_before_42", clip({**PLAIN, "c": cpi([header(0x1011, 1, 0, 1, 14)], be(4, 5))}, order="spmc", tail=bytes(4))
+    yield "refused_41_of_the_first_map", with_cpi(cpi([header(0x1011, 1, 0, 0, 26), header(0x1012, 1, 0, 0, 30)], be(4, 5)), tail=bytes(20))
+    yield "refused_42_of_the_first_map", clip({**PLAIN, "c": cpi([header(0x1011, 1, 2, 3, 26), header(0x1012, 1, 0, 0, 57)], body(ONE, FINE)[:-1])}, order="spmc")
+    yield "refused_41_before_8", with_cpi(cpi([header(0x1011, 1, 0, 0, 14)], be(4, 5)))[:-1]
     # all map headers before any map, 4 + N before "no maps", the ClipInfo before the sequences
     yield "refused_6_before_7", clip({**PLAIN, "c": cpi([header(1, 1, 9, 9, 999999)], b"")[:7] + bytes([2]) + header(1, 1, 9, 9, 999999)}, order="spmc")
     yield "refused_6_before_no_maps", clip(PLAIN, order="spmc")[:-4] + be(4, 2) + be(2, 2)[:1]

@@ -35,7 +35,7 @@ static const uint32_t refusals[] = {
     CLPI_REFUSED_SEQUENCES,
     CLPI_REFUSED_PROGRAMS,
     CLPI_REFUSED_CPI,
-    CLPI_REFUSED_EP_MAP,
+    CLPI_REFUSED_MAP_ADDRESS,
     CLPI_REFUSED_MARKS,
     CLPI_REFUSED_FILE_TOO_LONG,
     CLPI_REFUSED_TABLE_SHORT,
@@ -44,12 +44,14 @@ static const uint32_t refusals[] = {
     CLPI_REFUSED_CELLS,
     CLPI_REFUSED_RUNS,
     CLPI_REFUSED_RECORD_LETTERS,
+    CLPI_REFUSED_FINE_ADDRESS,
+    CLPI_REFUSED_MAP_BODY,
 };
 
 /* Whose fault they are. */
 static const char refusals_told[] =
-    "1 to 8 are faults of the file. 23, 30 and 40 come from the library alone, to\n"
-    "programs that call it.\n";
+    "1 to 8, 41 and 42 are faults of the file. 23, 30 and 40 come from the library\n"
+    "alone, to programs that call it.\n";
 /* end of what tools/refusals makes */
 
 /* Says that a file is refused, and why. */
@@ -120,7 +122,7 @@ static const char help_list[] =
     "  mark  number of marks\n"
     "The letters with which FILE begins are not listed: 'head -c 4 FILE' shows them.\n"
     "Of a file that is refused it prints one line, 'refused' and the number. The\n"
-    "words for it are on standard error.\n"
+    "words for it are on standard error; 'clip help refusals' says more.\n"
     "\n"
     "The listing has limits of its own: a file over 65536 bytes is refused by 20, one\n"
     "with over 4096 rows of a table by 21, followed by the table: 1 ATCs, 2 STCs,\n"
@@ -216,6 +218,15 @@ static int help_refusals(void)
     for (size_t i = 0; i < sizeof refusals / sizeof *refusals; i++)
         printf("  %2" PRIu32 "  %s\n", refusals[i], words_for(refusals[i]));
     printf("\n%s\n"
+           "In a damaged entry index, 6 says that its length or its number of maps is bad,\n"
+           "or that the file is cut short in it; 7, that the address of a map is bad; 41,\n"
+           "that the fine address of a map is bad; 42, that the file ends within the rows of\n"
+           "a map: it is cut short there, their number is bad, or an address is bad that\n"
+           "still leads into the index. Maps are tested in the order of the file, and the\n"
+           "first fault found is told; others may be behind it. Which map has it is not\n"
+           "told. The index ends where its length says: one that is too small may show as 7\n"
+           "or 41.\n"
+           "\n"
            "22, from 'clip minutes', says that the file has no STC of that number; the file\n"
            "itself has no fault. An entry index or marks that start at 0, or at or past the\n"
            "file's end, are no fault: the file has none. 'clip list' has lower limits for 20\n"

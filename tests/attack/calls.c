@@ -166,7 +166,7 @@ CALL(transfer_duration_secs)
 #define BIT(refusal) (UINT64_C(1) << (refusal))
 /* The bytes of a row of table 6. */
 #define ENTRY sizeof(struct clpi_ep_entry)
-#define FILES (BIT(1) | BIT(2) | BIT(3) | BIT(4) | BIT(5) | BIT(6) | BIT(7) | BIT(8) | BIT(20))
+#define FILES (BIT(1) | BIT(2) | BIT(3) | BIT(4) | BIT(5) | BIT(6) | BIT(7) | BIT(8) | BIT(20) | BIT(41) | BIT(42))
 #define NAMED(call) .name = "clpi_" #call, .run = run_##call
 
 /* A question of one table, and of two; and the rows that a row has in the next table. */

@@ -1,5 +1,6 @@
 /* Hostile files, made of one small file that has some of everything: each prefix, each place overwritten by each of the
- * numbers that sections, lengths, addresses and counts go wrong by, sections over one another, and any bytes at all. */
+ * numbers that sections, lengths, addresses and counts go wrong by, sections over one another, and any bytes at all; and
+ * files whose maps have faults of known numbers. */
 #include <string.h>
 
 #include "attack.h"
@@ -192,6 +193,88 @@ static void any_bytes(void)
     }
 }
 
+/* A map by the numbers of its header, and by its fine address. */
+struct map {
+    uint32_t address, coarse, fine, fine_address;
+};
+
+/* A file of two maps: the refusal that it has, the bytes behind the CPI end, and the maps. With the addresses 26 and 42 their
+ * bodies have room for a coarse row and a fine row each; 58 is the CPI end. */
+struct known {
+    uint32_t refusal;
+    size_t behind;
+    struct map maps[2];
+};
+
+/* A map with no fault, the first and the second, and one at the CPI end. */
+#define SOUND_FIRST {26, 1, 1, 12}
+#define SOUND_SECOND {42, 1, 1, 12}
+#define AT_END {58, 0, 0, 0}
+
+/* Each fault of a map and its limit, two in one map, and one in each of two maps. */
+static const struct known known[] = {
+    {CLPI_OK, 0, {SOUND_FIRST, SOUND_SECOND}},
+    {CLPI_OK, 3, {{57, 0, 0, 0}, SOUND_SECOND}},
+    {CLPI_REFUSED_MAP_ADDRESS, 20, {AT_END, SOUND_SECOND}},
+    {CLPI_REFUSED_MAP_ADDRESS, 20, {SOUND_FIRST, AT_END}},
+    {CLPI_REFUSED_MAP_BODY, 2, {{57, 0, 0, 0}, SOUND_SECOND}},
+    {CLPI_REFUSED_MAP_BODY, 0, {SOUND_FIRST, {55, 0, 0, 0}}},
+    {CLPI_OK, 20, {{26, 6, 1, 12}, SOUND_SECOND}},
+    {CLPI_REFUSED_MAP_BODY, 20, {{26, 7, 1, 12}, SOUND_SECOND}},
+    {CLPI_OK, 20, {{26, 1, 0, 32}, SOUND_SECOND}},
+    {CLPI_REFUSED_FINE_ADDRESS, 20, {{26, 1, 0, 33}, SOUND_SECOND}},
+    {CLPI_REFUSED_FINE_ADDRESS, 20, {{26, 1, 0, 53}, SOUND_SECOND}},
+    {CLPI_REFUSED_FINE_ADDRESS, 20, {SOUND_FIRST, {42, 1, 0, 0xFFFFFFFFu}}},
+    {CLPI_OK, 20, {{26, 1, 10, 12}, SOUND_SECOND}},
+    {CLPI_REFUSED_MAP_BODY, 20, {{26, 1, 11, 12}, SOUND_SECOND}},
+    {CLPI_REFUSED_MAP_ADDRESS, 20, {{58, 9, 0, 1}, SOUND_SECOND}},
+    {CLPI_REFUSED_MAP_BODY, 20, {{26, 7, 0, 33}, SOUND_SECOND}},
+    {CLPI_REFUSED_FINE_ADDRESS, 20, {{26, 1, 5, 33}, SOUND_SECOND}},
+    {CLPI_REFUSED_MAP_ADDRESS, 20, {AT_END, {42, 1, 0, 17}}},
+    {CLPI_REFUSED_FINE_ADDRESS, 20, {{26, 1, 0, 33}, AT_END}},
+    {CLPI_REFUSED_MAP_BODY, 20, {{26, 7, 1, 12}, AT_END}},
+    {CLPI_REFUSED_MAP_BODY, 20, {{26, 1, 11, 12}, {42, 1, 0, 17}}},
+};
+
+/* Makes a file of known maps; its length. A fine address that passes the file's end is cut there. */
+static size_t make_known(uint8_t *file, const struct known *k)
+{
+    enum { CPI = 206, END = CPI + 64 };
+    memset(file, 0, MOST_MADE);
+    memcpy(file, "HDMV0200", 8);
+    put_be(file + 8, 194, 4);
+    put_be(file + 12, 200, 4);
+    put_be(file + 16, CPI, 4);
+    put_be(file + CPI, END - CPI - 4, 4);
+    memcpy(file + CPI + 4, "\0\1\0\2", 4);
+    for (int i = 0; i < 2; i++) {
+        const struct map *m = &k->maps[i];
+        uint8_t *header = file + CPI + 8 + 12 * i;
+        memcpy(header, "\20\21", 2);
+        put_be(header + 2, 1u << 18 | m->coarse << 2, 4);
+        put_be(header + 6, m->fine, 2);
+        put_be(header + 8, m->address, 4);
+        put_be(file + CPI + 6 + m->address, m->fine_address, 4);
+    }
+    return END + k->behind;
+}
+
+/* Files with known maps: each fault has its number, the first map's first one alone. */
+static void known_maps(void)
+{
+    for (size_t i = 0; i < sizeof known / sizeof *known; i++) {
+        uint8_t file[MOST_MADE];
+        size_t bytes = make_known(file, &known[i]);
+        struct ask a;
+        memset(&a, 0, sizeof a);
+        a.in[0] = (struct buffer){file, bytes};
+        for (int table = 0; table < 9; table++)
+            a.room[table] = 400;
+        must(try_file(file, bytes) == (known[i].refusal == CLPI_OK), "a map's fault accepted, or a map with none refused");
+        must(attempt(call_named("clpi_read"), &a).number[0] == known[i].refusal, "another number than a map's first fault has");
+    }
+}
+
 /* A file of one map with so many runs: the times of its fine rows are 0 and 524,288 in turn. */
 static void many_runs(uint32_t runs, int is_rewritten)
 {
@@ -219,6 +302,7 @@ void attack_files(void)
 {
     make();
     look_at_made();
+    known_maps();
     cut();
     overwrite();
     overlap();

@@ -29,9 +29,29 @@ static int is(const char *wrong)
     return strcmp(asked, wrong) == 0;
 }
 
+/* What is wrong in the number of a map's fault, in all three calls that tell it. */
+static uint32_t wrong_number(uint32_t refusal)
+{
+    int is_fine = refusal == CLPI_REFUSED_FINE_ADDRESS, is_body = refusal == CLPI_REFUSED_MAP_BODY;
+    if (refusal == CLPI_REFUSED_MAP_ADDRESS && is("41 in place of 7"))
+        return CLPI_REFUSED_FINE_ADDRESS;
+    if (refusal == CLPI_REFUSED_MAP_ADDRESS && is("42 in place of 7"))
+        return CLPI_REFUSED_MAP_BODY;
+    if ((is_fine && is("7 in place of 41")) || (is_body && is("7 in place of 42")))
+        return CLPI_REFUSED_MAP_ADDRESS;
+    if (is_fine && is("42 in place of 41"))
+        return CLPI_REFUSED_MAP_BODY;
+    if (is_body && is("41 in place of 42"))
+        return CLPI_REFUSED_FINE_ADDRESS;
+    if ((is_fine || is_body) && is("7 for every fault of a map"))
+        return CLPI_REFUSED_MAP_ADDRESS;
+    return refusal;
+}
+
 /* What is wrong in an answer of reading. */
 static struct clpi_reading wrong_reading(struct clpi_reading r)
 {
+    r.refusal = wrong_number(r.refusal);
     if (r.refusal == CLPI_REFUSED_TABLE_SHORT && is("21 a row more"))
         r.rows_needed++;
     if (r.refusal == CLPI_REFUSED_TABLE_SHORT && r.rows_needed > 1 && is("21 a row less"))
@@ -40,7 +60,7 @@ static struct clpi_reading wrong_reading(struct clpi_reading r)
         r.table++;
     if (r.refusal && r.refusal != CLPI_REFUSED_TABLE_SHORT && is("a number beside a refusal"))
         r.version = 1;
-    if (r.refusal == CLPI_REFUSED_EP_MAP && is("a refusal that isn't there"))
+    if (r.refusal == CLPI_REFUSED_MAP_ADDRESS && is("a refusal that isn't there"))
         r.refusal = 9;
     if (!r.refusal && is("no entries read"))
         r.entries = 0;
@@ -93,6 +113,7 @@ STANDS_BEFORE(struct clpi_writing, rewrite, const uint8_t *file, size_t file_byt
     if (is("valgrind: the output looked at") && output_bytes > 0 && output[0] == 1)
         looked++;
     w = __real_clpi_rewrite(file, file_bytes, output, output_bytes);
+    w.refusal = wrong_number(w.refusal);
     if (w.refusal && output_bytes > 0 && is("the output zeroed by a refusal"))
         memset(output, 0, output_bytes);
     if (!w.refusal && output_bytes > w.bytes_written && is("a byte behind the new file"))
@@ -117,6 +138,7 @@ STANDS_BEFORE(struct clpi_writing, rewrite, const uint8_t *file, size_t file_byt
 STANDS_BEFORE(struct clpi_length, rewritten_length, const uint8_t *file, size_t file_bytes)
 {
     struct clpi_length l = __real_clpi_rewritten_length(file, file_bytes);
+    l.refusal = wrong_number(l.refusal);
     if (l.refusal == CLPI_REFUSED_RUNS && is("31 not measured")) {
         l.refusal = CLPI_OK;
         l.bytes = 786686;

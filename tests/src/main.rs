@@ -16,6 +16,7 @@ mod long_minutes;
 mod long_times;
 mod made;
 mod make;
+mod map_faults;
 mod model;
 mod mutants;
 mod mutation;
@@ -43,7 +44,7 @@ use std::process::ExitCode;
 const USAGE: &str = "usage: compare compare FIRST COUNT   the files and tables of COUNT seeds from FIRST on
        compare mutants COUNT         wrong readers, answerers and writers must be caught by one of the first COUNT seeds
        compare rows FIRST COUNT      lookups over rows of records of COUNT seeds from FIRST on
-       compare limits                lookups at the limits of times, minutes and writing at theirs, each by its name
+       compare limits                lookups at the limits of times, minutes and writing at theirs, faults of maps, each by its name
        compare large                 the longest file, tables and new file (needs 8 GB)
        compare libbluray COUNT       libbluray, where it is installed, reads the new files of the first COUNT seeds
        compare sample FOLDER COUNT   COUNT files of each class with the Rust's answers, for crates/replay
@@ -58,7 +59,8 @@ fn main() -> ExitCode {
         (Some("mutants"), 2, Some(count), None) => mutants::mutants(count),
         (Some("rows"), 3, Some(first), Some(count)) => entry_rows::rows(first, count),
         (Some("limits"), 1, None, None) => {
-            long_times::lookups() & long_minutes::places() & great_minutes::places() & limits::limits()
+            let questions = long_times::lookups() & long_minutes::places() & great_minutes::places();
+            questions & map_faults::files() & limits::limits()
         }
         (Some("large"), 1, None, None) => large::large(),
         (Some("libbluray"), 2, Some(count), None) => libbluray::libbluray(count),

@@ -5,6 +5,7 @@ mod extensions;
 mod faults;
 mod greatest;
 mod layouts;
+mod map_faults;
 mod maps;
 mod parts;
 mod sections;
@@ -42,6 +43,7 @@ pub const CLASSES: &[Class] = &[
     ("coarse references in any order", maps::references),
     ("odd and large coarse times", maps::times),
     ("map counts in high bits", maps::high_counts),
+    ("two faults of maps", map_faults::two_faults),
     ("stream bodies of 0 to 8 bytes", streams::bodies),
     ("languages", streams::languages),
     ("counts of 255", streams::counts),

@@ -37,7 +37,11 @@ fn whole(file: &[u8], wrong: Mutation, out: &mut Record) -> Result<(), u32> {
     if !(wrong == ZeroProgramsNone && start(12) == 0) {
         programs::read(file, start(12), wrong, rows, streams).ok_or(5u32)?;
     }
-    entries::read(file, start(16), wrong, out)?;
+    let maps = entries::read(file, start(16), wrong, out);
+    if wrong == MarksBeforeMaps && maps != Err(6) {
+        marks(file, start(20), wrong, out)?;
+    }
+    maps?;
     marks(file, start(20), wrong, out)?;
     extensions::read(file, start(24), wrong, out)
 }

@@ -10,14 +10,15 @@ use crate::limits::Limits;
 use crate::long_minutes;
 use crate::long_times;
 use crate::make::{CLASSES, Maker};
-use crate::mutation::{Mutation, WRONG};
+use crate::map_faults;
+use crate::mutation::{Mutation, WRONG, WRONG_OF_MAPS};
 use crate::plain_answers::Plain;
 use crate::plain_writer;
 use crate::records::Records;
 use crate::wrong::Wrong;
 use crate::wrong_answers::{BY_GREAT_TABLE, BY_NAMES, NOT_BY_FILES, OF_RECORDS};
 use crate::wrong_answers::{WRONG_ANSWERS, WrongAnswer, of_records, questions_of};
-use crate::wrong_writes::{ALSO_BY_RECORDS, BY_FILES, NOT_BY_RECORDS, WrongWrite, by_hand as by_limits};
+use crate::wrong_writes::{ALSO_BY_RECORDS, BY_FILES, BY_MAP_FAULTS, NOT_BY_RECORDS, WrongWrite, by_hand as by_limits};
 
 /// The first seed below `count` whose file catches a reader, an answerer or a writer.
 fn by_file(mutation: Mutation, mut answerer: Plain, wrong: WrongWrite, count: u64) -> Option<u64> {
@@ -40,15 +41,26 @@ fn by_limit(wrong: WrongWrite) -> Option<String> {
     Limits { reader: Wrong::new(Mutation::Right), answerer: Plain::right(), writer }.first().map(|(name, _)| name)
 }
 
-/// How many wrong writers there are, and how many aren't caught: by a file and a record made by hand, those that these can
-/// catch, the others by a limit with a name, some of them by a record too.
+/// The name of the first fault of a map that catches a reader or a writer.
+fn by_map_fault(mutation: Mutation, wrong: WrongWrite) -> Option<String> {
+    map_faults::first(&mut Wrong::new(mutation), &mut plain_writer::Plain::new(wrong))
+}
+
+/// How many wrong writers there are, and how many aren't caught: by a file and a record made by hand, or a fault of a map with
+/// a name in its place, those that these can catch, the others by a limit with a name, some of them by a record too.
 fn writers_not_caught(count: u64) -> [usize; 2] {
     let mut missed = 0;
     for (wrong, words) in BY_FILES {
         let file = by_file(Mutation::Right, Plain::right(), *wrong, count);
-        let record = if NOT_BY_RECORDS.contains(wrong) { Some(0) } else { by_record(*wrong, count) };
-        println!("{}, {}: {words}", told(file), if record.is_some() { "a record too" } else { "no record" });
-        missed += usize::from(file.is_none() || record.is_none());
+        let too = match wrong {
+            wrong if NOT_BY_RECORDS.contains(wrong) => Some("no record can".into()),
+            wrong if BY_MAP_FAULTS.contains(wrong) => {
+                by_map_fault(Mutation::Right, *wrong).map(|name| format!("\"{name}\" too"))
+            }
+            wrong => by_record(*wrong, count).map(|seed| format!("record {seed} too")),
+        };
+        println!("{}, {}: {words}", told(file), too.as_deref().unwrap_or("NOT a record or a name"));
+        missed += usize::from(file.is_none() || too.is_none());
     }
     let others = by_limits();
     missed += others.iter().filter(|(wrong, words)| !caught_by_limit(*wrong, words, count)).count();
@@ -116,6 +128,22 @@ fn reader_caught(mutation: Mutation, words: &str, count: u64) -> bool {
     seed.is_some()
 }
 
+/// Whether a reader with this rule of maps wrong is caught, by a fault with a name too.
+fn map_reader_caught(mutation: Mutation, words: &str, count: u64) -> bool {
+    let seed = by_file(mutation, Plain::right(), WrongWrite::Right, count);
+    let name = by_map_fault(mutation, WrongWrite::Right);
+    let too = name.as_ref().map_or("no fault with a name".into(), |name| format!("\"{name}\" too"));
+    println!("{}, {too}: {words}", told(seed));
+    seed.is_some() && name.is_some()
+}
+
+/// How many wrong readers there are, and how many aren't caught.
+fn readers_not_caught(count: u64) -> [usize; 2] {
+    let others = WRONG.iter().filter(|(mutation, words)| !reader_caught(*mutation, words, count)).count();
+    let of_maps = WRONG_OF_MAPS.iter().filter(|(mutation, words)| !map_reader_caught(*mutation, words, count)).count();
+    [WRONG.len() + WRONG_OF_MAPS.len(), others + of_maps]
+}
+
 /// Whether an answerer that has a rule wrong in one question is caught by a question with a name, where it must be: each rule
 /// of minutes, and some of lookups.
 fn caught_by_name(answer: WrongAnswer, question: Question) -> bool {
@@ -172,7 +200,7 @@ fn great_tables_not_caught() -> [usize; 2] {
 
 /// Runs every wrong reader, answerer and writer until it is caught, and the right ones over all seeds, which must not be.
 pub fn mutants(count: u64) -> bool {
-    let readers = WRONG.iter().filter(|(mutation, words)| !reader_caught(*mutation, words, count)).count();
+    let [readers, readers_missed] = readers_not_caught(count);
     let [mut answerers, mut answerers_missed] = great_tables_not_caught();
     for (answer, words, of) in WRONG_ANSWERS.iter().filter(|(answer, ..)| !BY_GREAT_TABLE.contains(answer)) {
         let questions: Vec<Question> = questions_of(*of).collect();
@@ -189,14 +217,14 @@ pub fn mutants(count: u64) -> bool {
         .or(long_times::first(&mut Plain::right()))
         .or(long_minutes::first(&mut Plain::right()))
         .or(great_minutes::first(&mut Plain::right()).flatten())
+        .or(by_map_fault(Mutation::Right, WrongWrite::Right))
         .or(by_limit(WrongWrite::Right));
     if let Some(name) = &right {
         println!("{name} accuses the reader, the answerer or the writer with no wrong rule");
     }
     println!(
-        "{} wrong readers, {readers} not caught; {answerers} wrong answerers, {answerers_missed} not caught; {row_answerers} about rows of records, {rows_missed} not caught; {writers} wrong writers, {missed} not caught; the right ones {}",
-        WRONG.len(),
+        "{readers} wrong readers, {readers_missed} not caught; {answerers} wrong answerers, {answerers_missed} not caught; {row_answerers} about rows of records, {rows_missed} not caught; {writers} wrong writers, {missed} not caught; the right ones {}",
         if right.is_none() { "are not accused" } else { "are accused" }
     );
-    readers == 0 && answerers_missed == 0 && rows_missed == 0 && missed == 0 && right.is_none()
+    readers_missed == 0 && answerers_missed == 0 && rows_missed == 0 && missed == 0 && right.is_none()
 }

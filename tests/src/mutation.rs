@@ -1,5 +1,20 @@
 //! The wrong rules that the comparison must catch, one at a time.
 
+/// What is tested of a map, in the order of the tests.
+#[derive(Clone, Copy, PartialEq, Eq, Debug)]
+pub enum Test {
+    /// Its address, against the CPI end.
+    Address,
+    /// The four bytes of its fine address, against the file's end.
+    FourBytes,
+    /// Its coarse rows, against the file's end.
+    CoarseRows,
+    /// Its fine address, against the CPI end.
+    FineAddress,
+    /// Its fine rows, against the file's end.
+    FineRows,
+}
+
 /// Which rule a reader has wrong.
 #[derive(Clone, Copy, PartialEq, Eq, Debug)]
 pub enum Mutation {
@@ -48,25 +63,48 @@ pub enum Mutation {
     IEndOf4Bits,
     MapTypeWithSpare,
     AddressFromCpiStart,
-    MapAtCpiEnd,
     CpiEndWithoutFour,
-    RowsStopAtCpiEnd,
-    FineWordStopsAtCpiEnd,
-    CoarseRowsNotTested,
-    FineRowsNotTested,
     RowsFromFirstReference,
     OnlyFirstMap,
     NearestCoarse,
     OneStepOnly,
     NoCoarseNoRows,
-    FineAtCpiEndRefused,
-    FinePastCpiEnd,
     HeadersStopAtCpiEnd,
     LengthOfOtherType,
-    SevenBeforeSix,
     TypeOfWholeWord,
     MapsOfShortCpi,
     FineCountOf16Bits,
+    // faults of maps: a test left out, its limit one byte too far or too near, its number
+    NotTested(Test),
+    LimitPassed(Test),
+    LimitRefused(Test),
+    Told(Test, u32),
+    RowsStopAtCpiEnd,
+    FourBytesStopAtCpiEnd,
+    AddressesOf32Bits,
+    SevenForEveryFault,
+    FineAddressInFileTold42,
+    FineAddressPastFileTold42,
+    // their order in a map
+    FourBytesBeforeAddress,
+    AddressLast,
+    FineAddressBeforeCoarseRows,
+    FineRowsBeforeFineAddress,
+    LastFaultOfMap,
+    // their order among maps, and beside other refusals
+    AddressesOfAllMapsFirst,
+    BothAddressesOfAllMapsFirst,
+    CoarseRowsOfAllMapsFirst,
+    TestByTest,
+    LastFaultyMap,
+    LowestNumber,
+    OnlyFirstMapTested,
+    LastMapNotTested,
+    SevenBeforeSix,
+    LengthAfterMaps,
+    MarksBeforeMaps,
+    ShortBeforeMaps,
+    TouchedBeforeMaps,
     // marks
     MarksAtZero,
     MarksPastEndRefused,
@@ -105,8 +143,9 @@ pub enum Mutation {
 }
 
 use Mutation::*;
+use Test::*;
 
-/// Every wrong rule, in words.
+/// Every wrong rule but those of the faults of maps, in words.
 pub const WRONG: &[(Mutation, &str)] = &[
     (Least39, "39 bytes are enough for the header"),
     (LettersAfterLength, "the letters tested after the 40 bytes"),
@@ -147,22 +186,14 @@ pub const WRONG: &[(Mutation, &str)] = &[
     (IEndOf4Bits, "an I-end of 4 bits"),
     (MapTypeWithSpare, "a map's type with spare bits"),
     (AddressFromCpiStart, "a map's address counted from the CPI start"),
-    (MapAtCpiEnd, "a map at the CPI end accepted"),
     (CpiEndWithoutFour, "the CPI end counted from the CPI start"),
-    (RowsStopAtCpiEnd, "rows stopped at the CPI end"),
-    (FineWordStopsAtCpiEnd, "the fine address's own bytes stopped at the CPI end"),
-    (CoarseRowsNotTested, "coarse rows past the file's end taken as zeros"),
-    (FineRowsNotTested, "fine rows past the file's end taken as zeros"),
     (RowsFromFirstReference, "fine rows only from the first coarse reference on"),
     (OnlyFirstMap, "only the first map filled"),
     (NearestCoarse, "the coarse row of the nearest reference, not by stepping"),
     (OneStepOnly, "at most one coarse row stepped on for a fine row"),
     (NoCoarseNoRows, "no entries where there are no coarse rows"),
-    (FineAtCpiEndRefused, "a fine address at the CPI end refused"),
-    (FinePastCpiEnd, "a fine address one past the CPI end accepted"),
     (HeadersStopAtCpiEnd, "map headers stopped at the CPI end"),
     (LengthOfOtherType, "4 + N not tested where the type isn't 1"),
-    (SevenBeforeSix, "a map's rows tested before the next header"),
     (TypeOfWholeWord, "the CPI type taken from all 16 bits"),
     (MapsOfShortCpi, "maps read where N is below 4"),
     (FineCountOf16Bits, "a fine count of 16 bits"),
@@ -197,4 +228,57 @@ pub const WRONG: &[(Mutation, &str)] = &[
     (RowAtTheEnd, "an extension row equal to the rows stated"),
     (MoreStatedThanThere, "more extension rows stated than lent"),
     (DataOutsideFile, "extension data outside the file"),
+];
+
+/// Every wrong rule of the faults of maps, in words: a file with a name must catch each of these too.
+pub const WRONG_OF_MAPS: &[(Mutation, &str)] = &[
+    (NotTested(Address), "a map's address not tested"),
+    (NotTested(FourBytes), "four bytes past the file's end taken as zeros"),
+    (NotTested(CoarseRows), "coarse rows past the file's end taken as zeros"),
+    (NotTested(FineAddress), "a fine address not tested"),
+    (NotTested(FineRows), "fine rows past the file's end taken as zeros"),
+    (LimitPassed(Address), "a map at the CPI end accepted"),
+    (LimitPassed(FourBytes), "four bytes one past the file's end accepted"),
+    (LimitPassed(CoarseRows), "coarse rows one byte past the file's end accepted"),
+    (LimitPassed(FineAddress), "a fine address one past the CPI end accepted"),
+    (LimitPassed(FineRows), "fine rows one byte past the file's end accepted"),
+    (LimitRefused(Address), "a map one before the CPI end refused"),
+    (LimitRefused(FourBytes), "four bytes up to the file's end refused"),
+    (LimitRefused(CoarseRows), "coarse rows up to the file's end refused"),
+    (LimitRefused(FineAddress), "a fine address at the CPI end refused"),
+    (LimitRefused(FineRows), "fine rows up to the file's end refused"),
+    (Told(Address, 41), "41 for a map's address"),
+    (Told(Address, 42), "42 for a map's address"),
+    (Told(FourBytes, 7), "7 for the four bytes"),
+    (Told(FourBytes, 41), "41 for the four bytes"),
+    (Told(CoarseRows, 7), "7 for coarse rows"),
+    (Told(CoarseRows, 41), "41 for coarse rows"),
+    (Told(FineAddress, 7), "7 for a fine address"),
+    (Told(FineAddress, 42), "42 for a fine address"),
+    (Told(FineRows, 7), "7 for fine rows"),
+    (Told(FineRows, 41), "41 for fine rows"),
+    (SevenForEveryFault, "7 for every fault of a map"),
+    (FineAddressInFileTold42, "42 for a fine address past the CPI end but not past the file's"),
+    (FineAddressPastFileTold42, "42 for a fine address past the file's end"),
+    (RowsStopAtCpiEnd, "rows stopped at the CPI end"),
+    (FourBytesStopAtCpiEnd, "the fine address's own bytes stopped at the CPI end"),
+    (AddressesOf32Bits, "a map's addresses added in 32 bits"),
+    (FourBytesBeforeAddress, "the four bytes tested before the address"),
+    (AddressLast, "a map's address tested last"),
+    (FineAddressBeforeCoarseRows, "the fine address tested before the coarse rows"),
+    (FineRowsBeforeFineAddress, "the fine rows tested before the fine address"),
+    (LastFaultOfMap, "a map's last fault told, not its first"),
+    (AddressesOfAllMapsFirst, "the addresses of all maps tested before the rest"),
+    (BothAddressesOfAllMapsFirst, "addresses and fine addresses of all maps tested before any rows"),
+    (CoarseRowsOfAllMapsFirst, "the coarse rows of all maps tested before any fine address"),
+    (TestByTest, "each test made of all maps before the next test"),
+    (LastFaultyMap, "the last faulty map's number, not the first's"),
+    (LowestNumber, "the lowest number of all faulty maps, not the first's"),
+    (OnlyFirstMapTested, "only the first map tested"),
+    (LastMapNotTested, "the last map not tested"),
+    (SevenBeforeSix, "a map's rows tested before the next header"),
+    (LengthAfterMaps, "4 + N tested after the maps"),
+    (MarksBeforeMaps, "the marks tested before the maps' faults"),
+    (ShortBeforeMaps, "21 told before a map's fault"),
+    (TouchedBeforeMaps, "tables touched before a map's fault"),
 ];

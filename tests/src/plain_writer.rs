@@ -77,6 +77,11 @@ impl Plain {
     }
 }
 
+/// A file's refusal as it is told: of a map's faults 7 for all, where that is asked for.
+fn told(refusal: u32, seven: bool) -> u32 {
+    if seven && matches!(refusal, 41 | 42) { 7 } else { refusal }
+}
+
 impl Writer for Plain {
     /// Every refusal in its order, then the bytes.
     fn write(&mut self, info: Info, input: &Input, output: &mut [u8]) -> Writing {
@@ -105,7 +110,7 @@ impl Writer for Plain {
             if self.wrong == TouchedBeforeReading && !output.is_empty() {
                 output[0] ^= 1;
             }
-            return Writing::refused(refusal);
+            return Writing::refused(told(refusal, self.wrong == RewriteTells7));
         }
         if self.wrong == OldFile {
             return self.put(file, output);
@@ -130,9 +135,9 @@ impl Writer for Plain {
     /// Reads, tests the runs, and measures.
     fn rewritten_length(&mut self, file: &[u8]) -> Length {
         let refusal = self.read(file);
-        let told = if self.wrong == LengthBesideRefusal { file.len() as u32 } else { 0 };
+        let bytes = if self.wrong == LengthBesideRefusal { file.len() as u32 } else { 0 };
         if refusal != 0 {
-            return Length { refusal, bytes: told };
+            return Length { refusal: told(refusal, self.wrong == LengthTells7), bytes };
         }
         if self.wrong == LengthOfOldFile {
             return Length { refusal: 0, bytes: file.len() as u32 };
@@ -143,7 +148,7 @@ impl Writer for Plain {
         }
         let refusal = refusals::refusal(&info, &input, || false, self.wrong);
         if refusal != 0 && self.wrong != LengthWithoutRuns {
-            return Length { refusal, bytes: told };
+            return Length { refusal, bytes };
         }
         Length { refusal: 0, bytes: bytes::encode(&info, &input, self.wrong).len() as u32 }
     }

@@ -15,6 +15,9 @@ use oracle::bdmv::clpi::ClipInformation;
 use std::ops::Range;
 use std::thread;
 
+/// Every refusal's number is below this.
+const REFUSALS: usize = 64;
+
 /// How many differences are told in full; all are counted.
 const TOLD: u64 = 20;
 
@@ -22,7 +25,7 @@ const TOLD: u64 = 20;
 struct Tally {
     /// Of each class the files made and the files accepted.
     files: [[u64; 2]; CLASSES.len()],
-    refusals: [u64; 32],
+    refusals: [u64; REFUSALS],
     of_files: Questions,
     by_hand: Questions,
     /// New files of files, and of records made by hand.
@@ -38,7 +41,7 @@ impl Tally {
         let questions = Questions::default();
         let (of_files, by_hand) = (questions, questions);
         let (new_files, new_records) = (Counts::default(), Counts::default());
-        let (files, refusals) = ([[0; 2]; CLASSES.len()], [0; 32]);
+        let (files, refusals) = ([[0; 2]; CLASSES.len()], [0; REFUSALS]);
         Tally { files, refusals, of_files, by_hand, new_files, new_records, differences: 0, told: Vec::new() }
     }
 

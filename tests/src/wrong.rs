@@ -61,11 +61,15 @@ impl Reader for Wrong {
     fn read(&mut self, file: &[u8], mut tables: [&mut [u8]; 9]) -> Reading {
         let number = model::read(file, self.mutation, &mut self.record);
         let short = self.short(&tables);
-        if self.mutation == TouchedBeforeRefusal && number == 8 {
+        let of_map = matches!(number, 7 | 41 | 42);
+        if self.mutation == TouchedBeforeRefusal && number == 8 || self.mutation == TouchedBeforeMaps && of_map {
             self.fill(&mut tables);
         }
         match (number, short) {
             (8, Some(table)) if self.mutation == ShortBeforeMarks => Reading::too_short(table, self.record.rows(table)),
+            (_, Some(table)) if self.mutation == ShortBeforeMaps && of_map => {
+                Reading::too_short(table, self.record.rows(table))
+            }
             (0, Some(table)) => {
                 let there = if self.mutation == RowsMissing { tables[table].len() / row_bytes(table) } else { 0 };
                 Reading::too_short(table, self.record.rows(table) - there)

@@ -73,6 +73,8 @@ pub enum WrongWrite {
     TouchedBefore40,
     TouchedBefore22,
     TouchedBeforeReading,
+    RewriteTells7,
+    LengthTells7,
     RewriteOf4096,
     LengthOfOldFile,
     LengthBesideRefusal,
@@ -191,6 +193,8 @@ pub const BY_FILES: &[(WrongWrite, &str)] = &[
     (RestCleared, "the bytes beyond the last one cleared"),
     (TouchedBefore23, "the output touched before 23"),
     (TouchedBeforeReading, "the output touched before the file's refusal"),
+    (RewriteTells7, "7 from rewriting for every fault of a map"),
+    (LengthTells7, "7 from the rewritten length for every fault of a map"),
     (LengthOfOldFile, "the old file's length for the new one's"),
     (LengthBesideRefusal, "a length told beside a refusal"),
     (OutputBeforeRows, "23 before the file's refusal"),
@@ -198,6 +202,9 @@ pub const BY_FILES: &[(WrongWrite, &str)] = &[
 
 /// Those of them that no record made by hand catches: the old files of these are new files already, or not refused.
 pub const NOT_BY_RECORDS: [WrongWrite; 3] = [TouchedBeforeReading, LengthOfOldFile, LengthBesideRefusal];
+
+/// Those of them that a fault of a map with a name must catch, in place of a record.
+pub const BY_MAP_FAULTS: [WrongWrite; 2] = [RewriteTells7, LengthTells7];
 
 /// Those of the rules below that a record made by hand of a seed must catch too: those of the letters.
 pub const ALSO_BY_RECORDS: [WrongWrite; 11] = [

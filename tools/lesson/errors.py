@@ -83,6 +83,8 @@ def changes():
         "one_stc": Change(230, 0x01, [first, later]), "no_stc": Change(230, 0x00, [first]), "no_atc": Change(225, 0x00, [first]),
         "shared": Change(337, 0x9A, [entry(5)]), "coarse": Change(321, 0x0A, [entry(0)]),
         "first": Change(320, 0x00, [entry(0)]), "i_end": Change(342, 0x0A, [entry(0)]),
+        "address": Change(307, 0x48, [entry(0)]), "fine_address": Change(317, 0x35, [entry(0)]),
+        "fine_at_end": Change(317, 0x34, [entry(0)]),
     }
 
 
@@ -122,7 +124,18 @@ def try_answers(old):
         "try_start": place90(after["start"].start(0), 0),
         "try_crossed": answer(after[CROSSED], command(1, START)), "try_one": answer(after["one_stc"], command(1, START)),
         "try_sum": place90(reading.TimesAdded(after["shared"].file).maps[0]["entries"][5]["time"], 0),
-        "try_or": place90(after["shared"].maps[0]["entries"][5]["time"], 0),
+        "try_or": place90(after["shared"].maps[0]["entries"][5]["time"], 0), **try_addresses(r, after),
+    }
+
+
+def try_addresses(r, after):
+    """Where each changed address leads, and by which number the file is refused."""
+    m, told = r.maps[0], changes()
+    body = r.body_at(r.starts()[2], told["address"].byte)
+    past, at_end = (m["body"] + told[name].byte for name in ("fine_address", "fine_at_end"))
+    return {
+        "try_body": body, "try_past": past, "try_at_end": at_end, "try_rows_end": at_end + 4 * m["fine_count"],
+        **{f"try_{name}": answer(after[name], entry(0)) for name in ("address", "fine_address", "fine_at_end")},
     }
 
 

@@ -102,6 +102,7 @@ CONSTANTS = [
     ("Questions", "minutesLeft", "minutes (plus90 (leftOf stc at) (durationsOf later))"),
     ("Questions", "answer", "ofStc (c .stcs) stc (λ s. number (minutesLeft s (drop (suc stc) (c .stcs)) at))"),
     ("Questions", "unless22", "unless22 false answer = refused 22"), ("EntryPoints", "bodyAt", "c + 6 +"),
+    ("EntryPoints", "addressIn", "ltb (bodyAt f c p) (cpiEnd f c)"), ("EntryPoints", "fineAddressIn", "leb (fineStart f c p) (cpiEnd f c)"),
     ("EntryPoints", "joinTime", "coarse * 524288 % 2 ^ 32"), ("EntryPoints", "joinTime", "fine * 512"),
     ("EntryPoints", "joinPacket", "coarse / 2 ^ 17 * 2 ^ 17 + fine"), ("Questions", "packetBytes", "4 + 188"),
 ]
@@ -122,6 +123,18 @@ def rules():
                 values = unpacked(row["word"], page.widths(ROOT, name))
                 if any(field and row[field] != value for field, value in zip(fields, values)):
                     yield f"EntryPoints: {name} takes a row apart in another way than the page"
+
+
+def map_faults():
+    """Files whose names tell a fault of a map, and which the page's reading refuses by another number."""
+    for number in (7, 41, 42):
+        files = sorted((ROOT / "crates/listing_test/data").glob(f"refused_{number}_*"))
+        if not files:
+            yield f"no file that is refused by {number}"
+        for file in files:
+            given = Reading(file.read_bytes()).refusal
+            if given != number:
+                yield f"{file.name}: {given} by the page's reading"
 
 
 def names():
@@ -162,7 +175,7 @@ def numbers():
             yield f"tools/lesson/page.md has a number that is not computed: {line}"
 
 
-CHECKS = (differences, wrong_numbers, times_apart, times_test, rules, names, numbers, *programs.CHECKS)
+CHECKS = (differences, wrong_numbers, times_apart, times_test, rules, map_faults, names, numbers, *programs.CHECKS)
 
 
 def main(arguments):

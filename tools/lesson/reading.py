@@ -141,23 +141,23 @@ class Reading:
         m["body"] = self.body_at(cpi, m["address"])
         if m["body"] >= end:
             raise Refused(7)
-        m["fine_address"] = self.number(m["body"], 4, 7)
+        m["fine_address"] = self.number(m["body"], 4, 42)
         m["fine_at"] = m["body"] + m["fine_address"]
         m["coarse"] = [self.coarse_row(m["body"] + 4 + 8 * k) for k in range(m["coarse_count"])]
         if m["fine_at"] > end:
-            raise Refused(7)
+            raise Refused(41)
         count = self.rows_within(m["fine_at"], m["fine_count"], end)
         m["fine"] = [self.fine_row(m["fine_at"] + 4 * k) for k in range(count)]
         m["entries"] = [self.entry(m["coarse"], k, m["fine"][k]) for k in range(self.first_row(m["coarse"]), count)]
         self.maps.append(m)
 
     def coarse_row(self, at):
-        word = self.number(at, 8, 7)
+        word = self.number(at, 8, 42)
         return {"at": at, "bytes": self.file[at:at + 8], "word": word,
                 "first": word >> 46, "time": word >> 32 & 0x3FFF, "packet": word & 0xFFFFFFFF}
 
     def fine_row(self, at):
-        word = self.number(at, 4, 7)
+        word = self.number(at, 4, 42)
         return {"at": at, "bytes": self.file[at:at + 4], "word": word,
                 "angle": word >> 31, "i_end": word >> 28 & 7, "time": word >> 17 & 0x7FF, "packet": word & 0x1FFFF}
 
@@ -304,7 +304,7 @@ class RowsStopAtCpiEnd(Reading):
 class RowsPastCpiEndRefused(Reading):
     def rows_within(self, at, count, cpi_end):
         if at + 4 * count > cpi_end:
-            raise Refused(7)
+            raise Refused(42)
         return count
 
 

@@ -5,7 +5,7 @@ use super::parts::{coarse_row, packed_counts};
 
 impl Maker {
     /// The front, sequences and programs, and marks now and then.
-    fn before_cpi(&mut self) {
+    pub fn before_cpi(&mut self) {
         let marks = self.random.one_in(2);
         self.clip(if marks { b"spm" } else { b"sp" });
     }
@@ -23,7 +23,7 @@ impl Maker {
     }
 
     /// Sets a map header's counts, and keeps its spare bits and type.
-    fn set_counts(&mut self, map: usize, coarse: u64, fine: u64) {
+    pub fn set_counts(&mut self, map: usize, coarse: u64, fine: u64) {
         let header = self.maps[map].header;
         let kept = self.get(header + 2, 6) >> 34;
         self.set(header + 2, 6, packed_counts(kept >> 4, kept & 15, coarse, fine));

@@ -2,6 +2,7 @@
 
 use super::number;
 use crate::mutation::Mutation::{self, *};
+use crate::mutation::Test::{self, *};
 use crate::record::{CELLS, ENTRIES, MAPS, Record, entry_cells};
 
 /// The CPI section of a file.
@@ -21,15 +22,16 @@ struct Header {
     address: u64,
 }
 
-/// Where a map's rows stand.
+/// Where a map's body and its rows stand.
 struct Rows {
+    body: u64,
     coarse_at: u64,
     coarse: u64,
     fine_at: u64,
     fine: u64,
 }
 
-/// Reads the maps; a refusal is 6 or 7.
+/// Reads the maps; a refusal is 6 or, once all headers are read, a map's.
 pub fn read(file: &[u8], start: u64, wrong: Mutation, out: &mut Record) -> Result<(), u32> {
     let bytes = file.len() as u64;
     if start >= bytes {
@@ -42,24 +44,25 @@ pub fn read(file: &[u8], start: u64, wrong: Mutation, out: &mut Record) -> Resul
     let end = start + if wrong == CpiEndWithoutFour { length } else { 4 + length };
     let word = number(file, start + 4, 2).unwrap_or(0);
     let kind = if wrong == TypeOfWholeWord { word } else { word & 15 };
-    if end > bytes && !(wrong == LengthOfOtherType && kind != 1) {
+    let no_maps = length < 2 || kind != 1 || length < 4 && wrong != MapsOfShortCpi;
+    let not_yet = wrong == LengthOfOtherType && kind != 1 || wrong == LengthAfterMaps && !no_maps;
+    if end > bytes && !not_yet {
         return Err(6);
     }
-    if length < 2 || kind != 1 || length < 4 && wrong != MapsOfShortCpi {
+    if no_maps {
         return Ok(());
     }
     let cpi = Cpi { file, start, end, wrong };
-    let count = number(file, start + 7, 1).ok_or(6u32)?;
-    if wrong != SevenBeforeSix {
-        for row in 0..count {
-            cpi.header(row).ok_or(6u32)?;
+    let mut headers = Vec::new();
+    for row in 0..number(file, start + 7, 1).ok_or(6u32)? {
+        headers.push(cpi.header(row).ok_or(6u32)?);
+        if wrong == SevenBeforeSix {
+            cpi.test(&headers[row as usize..])?;
         }
     }
-    for row in 0..count {
-        let header = cpi.header(row).ok_or(6u32)?;
-        cpi.map(row, &header, out).ok_or(7u32)?;
-    }
-    Ok(())
+    cpi.test(&headers)?;
+    headers.iter().enumerate().for_each(|(row, header)| cpi.map(row, header, out));
+    if wrong == LengthAfterMaps && end > bytes { Err(6) } else { Ok(()) }
 }
 
 impl Cpi<'_> {
@@ -81,43 +84,95 @@ impl Cpi<'_> {
         })
     }
 
-    /// Puts a map and its entries into the tables; none where its address, fine address or rows pass their end.
-    fn map(&self, row: u64, header: &Header, out: &mut Record) -> Option<()> {
-        let rows = self.rows(header)?;
+    /// The places of a map's rows; a fine address that isn't there is taken as 0.
+    fn rows(&self, header: &Header) -> Rows {
+        let base = if self.wrong == AddressFromCpiStart { 0 } else { 6 };
+        let sum = |place: u64| if self.wrong == AddressesOf32Bits { place & 0xFFFF_FFFF } else { place };
+        let body = sum(self.start + base + header.address);
+        let fine_at = sum(body + self.word(body));
+        Rows { body, coarse_at: body + 4, coarse: header.coarse, fine_at, fine: header.fine }
+    }
+
+    /// Tests map by map; the first faulty map is refused.
+    fn test(&self, headers: &[Header]) -> Result<(), u32> {
+        let tested = match self.wrong {
+            OnlyFirstMapTested => headers.len().min(1),
+            LastMapNotTested => headers.len().saturating_sub(1),
+            _ => headers.len(),
+        };
+        for tests in self.tests() {
+            let mut numbers = headers[..tested].iter().filter_map(|header| self.refusal(tests, &self.rows(header)));
+            let first = match self.wrong {
+                LastFaultyMap => numbers.last(),
+                LowestNumber => numbers.min(),
+                _ => numbers.next(),
+            };
+            first.map_or(Ok(()), Err)?;
+        }
+        Ok(())
+    }
+
+    /// The tests of a map in their order. Only wrong rules have several lists of them, each for all maps before the next.
+    fn tests(&self) -> &'static [&'static [Test]] {
+        match self.wrong {
+            FourBytesBeforeAddress => &[&[FourBytes, Address, CoarseRows, FineAddress, FineRows]],
+            AddressLast => &[&[FourBytes, CoarseRows, FineAddress, FineRows, Address]],
+            FineAddressBeforeCoarseRows => &[&[Address, FourBytes, FineAddress, CoarseRows, FineRows]],
+            FineRowsBeforeFineAddress => &[&[Address, FourBytes, CoarseRows, FineRows, FineAddress]],
+            AddressesOfAllMapsFirst => &[&[Address], &[FourBytes, CoarseRows, FineAddress, FineRows]],
+            BothAddressesOfAllMapsFirst => &[&[Address, FourBytes, FineAddress], &[CoarseRows, FineRows]],
+            CoarseRowsOfAllMapsFirst => &[&[Address, FourBytes, CoarseRows], &[FineAddress, FineRows]],
+            TestByTest => &[&[Address], &[FourBytes], &[CoarseRows], &[FineAddress], &[FineRows]],
+            _ => &[&[Address, FourBytes, CoarseRows, FineAddress, FineRows]],
+        }
+    }
+
+    /// The refusal of a map's first fault: 7 for its address, 41 for its fine address, 42 for a read.
+    fn refusal(&self, tests: &[Test], rows: &Rows) -> Option<u32> {
+        let mut faults = tests.iter().filter(|test| self.fails(**test, rows));
+        let fault = if self.wrong == LastFaultOfMap { faults.next_back() } else { faults.next() }?;
+        let in_file = rows.fine_at <= self.file.len() as u64;
+        Some(match (self.wrong, fault) {
+            (Told(test, number), _) if test == *fault => number,
+            (SevenForEveryFault, _) => 7,
+            (FineAddressInFileTold42, FineAddress) if in_file => 42,
+            (FineAddressPastFileTold42, FineAddress) if !in_file => 42,
+            (_, Address) => 7,
+            (_, FineAddress) => 41,
+            (_, FourBytes | CoarseRows | FineRows) => 42,
+        })
+    }
+
+    /// Whether a map fails a test: something of it ends past the end that it may reach. No rows end nowhere.
+    fn fails(&self, test: Test, rows: &Rows) -> bool {
+        let bytes = self.file.len() as u64;
+        let last_row = if self.wrong == RowsStopAtCpiEnd { self.end } else { bytes };
+        let rows_end = |at: u64, rows: u64, width: u64| if rows == 0 { 0 } else { at + rows * width };
+        let (end, limit) = match test {
+            Address => (rows.body + 1, self.end),
+            FourBytes if self.wrong == FourBytesStopAtCpiEnd => (rows.body + 4, self.end),
+            FourBytes => (rows.body + 4, bytes),
+            CoarseRows => (rows_end(rows.coarse_at, rows.coarse, 8), last_row),
+            FineAddress => (rows.fine_at, self.end),
+            FineRows => (rows_end(rows.fine_at, rows.fine, 4), last_row),
+        };
+        match self.wrong {
+            NotTested(of) if of == test => false,
+            LimitPassed(of) if of == test => end > limit + 1,
+            LimitRefused(of) if of == test => end >= limit,
+            _ => end > limit,
+        }
+    }
+
+    /// Puts a map and its entries into the tables.
+    fn map(&self, row: usize, header: &Header, out: &mut Record) {
         let before = out.tables[ENTRIES].len();
         let skipped = self.wrong == OnlyFirstMap && row > 0 || self.wrong == NoCoarseNoRows && header.coarse == 0;
         if !skipped {
-            self.entries(&rows, header.kind, &mut out.tables[ENTRIES]);
+            self.entries(&self.rows(header), header.kind, &mut out.tables[ENTRIES]);
         }
         let entries = (out.tables[ENTRIES].len() - before) / CELLS[ENTRIES];
         out.tables[MAPS].extend([header.pid as u32, header.kind as u32, entries as u32]);
-        Some(())
-    }
-
-    /// The places of a map's rows, tested.
-    fn rows(&self, header: &Header) -> Option<Rows> {
-        let base = if self.wrong == AddressFromCpiStart { 0 } else { 6 };
-        let body = self.start + base + header.address;
-        let last_body = if self.wrong == MapAtCpiEnd { self.end } else { self.end - 1 };
-        if body > last_body || self.wrong == FineWordStopsAtCpiEnd && body + 4 > self.end {
-            return None;
-        }
-        let fine_at = body + number(self.file, body, 4)?;
-        let last_fine = match self.wrong {
-            FineAtCpiEndRefused => self.end - 1,
-            FinePastCpiEnd => self.end + 1,
-            _ => self.end,
-        };
-        let rows = Rows { coarse_at: body + 4, coarse: header.coarse, fine_at, fine: header.fine };
-        if fine_at > last_fine || !self.rows_there(&rows) { None } else { Some(rows) }
-    }
-
-    /// Whether a map's rows are in the file.
-    fn rows_there(&self, rows: &Rows) -> bool {
-        let limit = if self.wrong == RowsStopAtCpiEnd { self.end } else { self.file.len() as u64 };
-        let coarse_there = rows.coarse_at + 8 * rows.coarse <= limit || self.wrong == CoarseRowsNotTested;
-        let fine_there = rows.fine_at + 4 * rows.fine <= limit || self.wrong == FineRowsNotTested;
-        coarse_there && fine_there
     }
 
     /// Joins each fine row with its coarse row.
@@ -164,7 +219,7 @@ impl Cpi<'_> {
         self.word(rows.coarse_at + 8 * row) >> 14
     }
 
-    /// Four bytes of the file that are known to be there.
+    /// Four bytes of the file; 0 where they aren't there.
     fn word(&self, at: u64) -> u64 {
         number(self.file, at, 4).unwrap_or(0)
     }
