@@ -30,6 +30,7 @@ pub fn two_faults(m: &mut Maker) {
     let (before, between, behind) = (m.random.below(3), m.random.below(3), m.random.below(2));
     m.before_cpi();
     m.cpi(before + between + behind + 2, 0, 2, 3);
+    // the bytes behind the CPI end: four for what is read at an address there, at most two where four bytes pass the file's end
     let [least, most] = match in_one.unwrap_or(&of_two) {
         [Address, _] if in_one.is_some() => [4, 40],
         faults if faults.contains(&FourBytes) => [0, 2],

@@ -103,7 +103,7 @@ impl Cpi<'_> {
         for tests in self.tests() {
             let mut numbers = headers[..tested].iter().filter_map(|header| self.refusal(tests, &self.rows(header)));
             let first = match self.wrong {
-                LastFaultyMap => numbers.last(),
+                LastFaultyMap => numbers.next_back(),
                 LowestNumber => numbers.min(),
                 _ => numbers.next(),
             };
