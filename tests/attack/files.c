@@ -259,7 +259,7 @@ static size_t make_known(uint8_t *file, const struct known *k)
     return END + k->behind;
 }
 
-/* Files with known maps: each fault has its number, the first map's first one alone. */
+/* Files with known maps: each is refused for the first fault of the first map that has one. */
 static void known_maps(void)
 {
     for (size_t i = 0; i < sizeof known / sizeof *known; i++) {

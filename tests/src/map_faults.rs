@@ -61,7 +61,7 @@ struct Case {
 }
 
 /// One map at a limit, or one over it: its name, the refusal wanted, the room of the body, the bytes of the file behind the CPI
-/// end, and the map. Its body is at 232, and the CPI end is behind the room.
+/// end, and the map. A body of its own is at 232, and the CPI end is behind the room.
 type Limit = (&'static str, u32, usize, i64, Map);
 
 /// The address, against the CPI end.
@@ -183,8 +183,8 @@ const TWO_MAPS: [(Test, Test, u32); 25] = [
 const ONE_FAULT: [(Test, u32); 5] =
     [(Address, 7), (FourBytes, 42), (CoarseRows, 42), (FineAddress, 41), (FineRows, 42)];
 
-/// A map with this fault alone; that of four bytes needs a file that ends at most two bytes behind the CPI end, and where it
-/// ends before the fourth, an address that is at the CPI end has no four bytes either.
+/// A map with this fault alone, in a body of `ROOM` bytes. Four bytes are missing only where the file ends at most two bytes
+/// behind the CPI end; an address at the CPI end has no four bytes there either.
 fn with(fault: Test) -> Map {
     match fault {
         Address => map(End(0), 0, End(0), 0),

@@ -103,6 +103,7 @@ CONSTANTS = [
     ("Questions", "answer", "ofStc (c .stcs) stc (λ s. number (minutesLeft s (drop (suc stc) (c .stcs)) at))"),
     ("Questions", "unless22", "unless22 false answer = refused 22"), ("EntryPoints", "bodyAt", "c + 6 +"),
     ("EntryPoints", "addressIn", "ltb (bodyAt f c p) (cpiEnd f c)"), ("EntryPoints", "fineAddressIn", "leb (fineStart f c p) (cpiEnd f c)"),
+    ("EntryPoints", "coarseRowsIn", "leb (bodyAt f c p + 4 + 8 * coarseCountAt f p) (length f)"), ("EntryPoints", "fineRowsIn", "leb (fineStart f c p + 4 * fineCountAt f p) (length f)"),
     ("EntryPoints", "joinTime", "coarse * 524288 % 2 ^ 32"), ("EntryPoints", "joinTime", "fine * 512"),
     ("EntryPoints", "joinPacket", "coarse / 2 ^ 17 * 2 ^ 17 + fine"), ("Questions", "packetBytes", "4 + 188"),
 ]

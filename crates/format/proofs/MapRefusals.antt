@@ -1,4 +1,4 @@
--- The maps of a section: where it is in the file, no map is refused exactly where every map lies as it must, and the first that is decides.
+-- The maps of a section: it ends in the file; no map is refused exactly where every map lies as it must; the first that is refused decides.
 use Prim.Native.Nat.{ℕ, zero, suc, _+_, _*_, _<_, _≤_}
 use mathlib.Core.Path.{_≡_, refl, sym, ap₂, _∙_}
 use mathlib.Core.List.{List}

@@ -49,7 +49,7 @@ pub record FirstFault (f : List ℕ) (n : ℕ) : Type 0 where
   pub fault : Fault f (cpiStart f) (headerOfMap f of) n
   pub earlier : (k : ℕ) → k < of → Faultless f (cpiStart f) (headerOfMap f k)
 
--- a file whose maps are looked at: nothing is refused by 20, 1 to 5 and 6
+-- a file whose maps are looked at: nothing is refused by 20 and 1 to 6
 pub record Reached (f : List ℕ) : Type 0 where
   pub size : length f ≤ 536870912
   pub header : 40 ≤ length f
@@ -127,7 +127,7 @@ twoFaults =
     ∷ case 274 2 1 3 14 12 42
     ∷ []
 
--- a file that ends with its CPI, and leaves the body four, three or one byte, or none; one that ends within its marks; one that ends before its CPI
+-- a file that ends with its CPI, and leaves the body four, three or one byte, or none; one that ends within its marks; one that ends before its CPI does
 abbrev pub cutShort : List MapCase
 cutShort =
     case 268 1 0 0 26 12 41
