@@ -115,6 +115,9 @@ returns-4 c =
     let i = cpi-refused (F k) (cpiStart (F k)) (index m ∙ n .number .given .1) in
     index-refused (F k) (front k) (sequences-in s) (programs-in p) (n .number .given .0 .0) (i .0) (i .1)
 
+marks-in-requires : tie.Need-marks-in-requires
+marks-in-requires c κs = search needs
+
 -- the marks were looked for where they start
 module _ (m : tie.After-marks-in) where
   abbrev K6 : tie.Else1
@@ -164,7 +167,7 @@ measure-spec =
     measure-requires-3
     (λ c. search needs)
     (λ c. search needs)
-    (λ c κs. search needs)
+    marks-in-requires
     returns-4
     returns-5
     returns-6)
