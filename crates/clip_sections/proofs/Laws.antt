@@ -154,6 +154,7 @@ module _ (f : List ℕ) where
   unfolding sectionsOf
   refused-by r is h = rw (is, ne-eqb r 0 h)
 
+  -- so is every number above 0
   refused : (n : ℕ) → refusalOf f ≡ suc n → Sections.Refused (suc n) ≡ sectionsOf f
   refused n is = refused-by (suc n) is (λ e. omega arith)
 

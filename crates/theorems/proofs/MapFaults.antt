@@ -188,6 +188,7 @@ module _ (f : List ℕ) where
 -- ---- all maps of a file
 
 module _ (f : List ℕ) where
+  -- the section's start
   abbrev C : ℕ
   C = cpiStart f
 
@@ -229,10 +230,12 @@ module _ (f : List ℕ) where
 
   -- ---- the file
 
+  -- the first fault is what the file is refused for
   file-told : (n : ℕ) → Reached f → FirstFault f n → refusalOf f ≡ n
   file-told n r φ =
       reached-later f r ∙ rw (first-told (r .cpi) φ) (later-met n (unless (marksIn f (marksStart f)) 8 0) (not-0 (φ .fault)))
 
+  -- without one its marks decide
   file-no-fault : Reached f → ((k : ℕ) → k < mapCount f C → Faultless f C (headerOfMap f k)) → refusalOf f ≡ unless (marksIn f (marksStart f)) 8 0
   file-no-fault r none = reached-later f r ∙ rw (none-told (r .cpi) none)
 
@@ -242,6 +245,7 @@ module _ (f : List ℕ) where
   maps-alone zero true i = absurd (disjoint ofMaps (0 ∷ []) refl i (placed [] 0 []))
   maps-alone zero false i = absurd (disjoint ofMaps (8 ∷ []) refl i (placed [] 8 []))
 
+  -- and a number of a map's is told for nothing else
   file-only : List·Memᴰ (refusalOf f) ofMaps → Reached f × FirstFault f (refusalOf f)
   file-only i =
       let r = later-reached f i in
