@@ -1,4 +1,5 @@
 // Bit fields, the highest first: a word read and written so many bits at a time, at every width by shift and mask.
+#![tactic(auto)]
 ghost use Rattle.std.specs.Prelude.{◌≡◌, ◌-◌, ◌^◌, ◌≤◌};
 ghost use Rattle.bits.specs.Words.{bits_of, with_bits, read_bits, write_bits};
 

@@ -1,4 +1,5 @@
 // Questions about the packet count and the rate.
+#![tactic(auto)]
 pub mod division;
 
 ghost use Rattle.std.specs.Prelude.{◌≡◌};

@@ -1,4 +1,5 @@
 // Everything that reading tests before it touches a table: every section, the (2, 5) list, the lent tables.
+#![tactic(auto)]
 pub mod list;
 
 ghost use Rattle.std.specs.Prelude.{◌≡◌};

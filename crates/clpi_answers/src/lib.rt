@@ -1,4 +1,5 @@
 // The answers of questions as numbers for C.
+#![tactic(auto)]
 pub mod part;
 pub mod seconds;
 

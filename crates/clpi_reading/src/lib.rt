@@ -1,4 +1,5 @@
 // The answer of reading as numbers for C.
+#![tactic(auto)]
 ghost use Rattle.std.specs.Prelude.{◌≡◌};
 ghost use Rattle.format.specs.Refusals.{read_numbers};
 ghost use Rattle.clip_information.specs.Read.{read_answer_of};

@@ -1,4 +1,5 @@
 // The answers of writing and rewriting as numbers for C.
+#![tactic(auto)]
 ghost use Rattle.std.specs.Prelude.{◌≡◌, ◌^◌, ◌<◌};
 ghost use Rattle.format.specs.Refusals.{write_numbers};
 ghost use Rattle.encode.specs.Writing.{write_answer_of, bytes_in};

@@ -1,2 +1,3 @@
 // The entry index measured: its maps and all their entries.
+#![tactic(auto)]
 pub mod maps;

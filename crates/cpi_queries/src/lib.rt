@@ -1,4 +1,5 @@
 // The maps by their types, and the primary map: by its type, else by its PID.
+#![tactic(auto)]
 ghost use Rattle.std.specs.Prelude.{◌≡◌, ◌≤◌, map};
 ghost use Rattle.format.specs.ClipRecord.{map_pid};
 ghost use Rattle.format.specs.Questions.{ask, better, primary_video_ep_map, ep_map_by_kind, next_video_ep_map, primary_seek_spn, primary_next_seek_spn};

@@ -1,4 +1,5 @@
 // What writing tests before it stores a byte: the refusal, or where the sections of the new file stand.
+#![tactic(auto)]
 ghost use Rattle.std.specs.Prelude.{◌≡◌, ◌≤◌};
 ghost use Rattle.format.specs.Bytes.{both};
 ghost use Rattle.format.specs.Refusals.{scalars_fit};

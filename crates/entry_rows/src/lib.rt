@@ -1,4 +1,5 @@
 // The row of an entry in its table: its size, where each of its numbers stands, and a row stored. Nothing else knows these places.
+#![tactic(auto)]
 ghost use Rattle.std.specs.Prelude.{◌≡◌, ◌+◌, ◌*◌, ◌/◌, ◌%◌, ◌^◌, ◌≤◌, [], ◌∷◌, length};
 ghost use Rattle.std.proofs.lemmas.List.Edits.{sets};
 ghost use Rattle.format.specs.ClipRecord.{entry_row, angle, i_end_of, packet, entry_type_of, entry_size};

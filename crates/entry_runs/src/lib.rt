@@ -1,4 +1,5 @@
 // The runs of one map's entries, in the walk that tests whether each entry fits.
+#![tactic(auto)]
 ghost use Rattle.std.specs.Prelude.{◌≡◌, ◌+◌, ◌*◌, ◌≤◌, ◌<◌, length, true};
 ghost use Rattle.format.specs.Bytes.{pick};
 ghost use Rattle.format.specs.Refusals.{entry_fits};

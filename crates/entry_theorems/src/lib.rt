@@ -1,1 +1,2 @@
 // No code: what the calls on tables and the calls on records promise together, in specs/ and proofs/.
+#![tactic(auto)]

@@ -1,4 +1,5 @@
 // What is looked for in a row of `EpEntry` records, as steps by value: one for each record, and what is answered at the end.
+#![tactic(auto)]
 ghost use Rattle.std.specs.Prelude.{◌≡◌};
 ghost use Rattle.format.specs.ClipRecord.{time};
 ghost use Rattle.format.specs.Questions.{answer_numbers, ticks90};

@@ -1,4 +1,5 @@
 // The packed rows of the entry index, taken apart and built field by field; an entry's time and packet joined of both rows' parts.
+#![tactic(auto)]
 ghost use Rattle.std.specs.Prelude.{◌≡◌, ◌/◌, ◌%◌, ◌^◌, ◌<◌};
 ghost use Rattle.format.specs.Bytes.{packed, unpacked};
 ghost use Rattle.format.specs.EntryPoints.{header_widths, coarse_widths, fine_widths, join_time, join_packet};

@@ -1,4 +1,5 @@
 // The extension block: which entries are kept, where the second list of programs stands, and table 7.
+#![tactic(auto)]
 ghost use Rattle.std.specs.Prelude.{◌≡◌, ◌+◌, ◌≤◌, min, length};
 ghost use Rattle.std.proofs.lemmas.List.Edits.{sets};
 ghost use Rattle.format.specs.Extensions.{extension_rows, extensions_from};

@@ -1,4 +1,5 @@
 // The data of an extension: a row of a lent table 7 says where it stands in the lent file.
+#![tactic(auto)]
 ghost use Rattle.std.specs.Prelude.{◌≡◌};
 ghost use Rattle.format.specs.Refusals.{data_refusal, data_asked};
 ghost use Rattle.format.specs.Tables.{stated};

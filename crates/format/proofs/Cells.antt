@@ -37,9 +37,9 @@ low_first s p (suc n) =
 pub low_back : {s : List ℕ} {p : ℕ} (n v : ℕ) → Stands s p (low_bytes n v) → v < 256 ^ n → low_at s p n ≡ v
 unfolding low_at low_bytes
 low_back zero v t h = omega arith
-low_back {s} {p} (suc n) v t h =
+low_back {s = s} {p = p} (suc n) v t h =
     let fits : v / 256 < 256 ^ n = (div-lt_iff_lt-mul (lit< tt)).1 (rw pow-suc at h) in
-    let rest = low_back n (v / 256) (right (v % 256 ∷ []) (low_bytes n (v / 256)) (p + 1) refl t) fits in
+    let rest = low_back {s = s} {p = p + 1} n (v / 256) (right (v % 256 ∷ []) (low_bytes n (v / 256)) (p + 1) refl t) fits in
     let byte : get_or s p 0 ≡ v % 256 =
     rw t.whole (get_or_at t.before (v % 256) (low_bytes n (v / 256) ++ t.behind) 0 p t.place) in
     low_first s p n ∙ rw (rest, byte) (omega arith)

@@ -68,9 +68,10 @@ be_back p q zero v at e h = omega arith
 be_back p q (suc n) v at e h =
     let b = bytes_of n (v / 256) in
     let last = v % 256 in
-    let regroup : (b ++ (last ∷ [])) ++ q ≡ b ++ (last ∷ q) = append_assoc b (last ∷ []) q in
+    let regroup : bytes_of (suc n) v ++ q ≡ b ++ (last ∷ q) = append_assoc b (last ∷ []) q in
     let fits : v / 256 < 256 ^ n = (div-lt_iff_lt-mul (lit< tt)).1 (rw pow-suc at h) in
-    let high = be_back p (last ∷ q) n (v / 256) at e fits in
+    let high : be_at (p ++ (bytes_of (suc n) v ++ q)) at n ≡ v / 256 =
+    ap (λ (x : List ℕ). be_at (p ++ x) at n) regroup ∙ be_back p (last ∷ q) n (v / 256) at e fits in
     let size : length (p ++ b) ≡ at + n = length-append p b ∙ ap₂ (λ (x y : ℕ). x + y) e (bytes_length n (v / 256)) in
     let low : get_or (p ++ (b ++ (last ∷ q))) (at + n) 0 ≡ last =
     rw (← append_assoc p b (last ∷ q)) (get_or_at (p ++ b) last q 0 (at + n) size) in

@@ -2,7 +2,7 @@
 use mathlib.Core.Path.{◌≡◌, refl, sym, ap, ◌∙◌, subst}
 use mathlib.Core.Logic.{◌⊎◌, inl, inr}
 use mathlib.Core.Bool.{Bool, true, false, not, cond, true≢false}
-use Prim.Native.Nat.{ℕ, suc, ◌+◌, ◌-◌, ◌*◌, ◌/◌, ◌%◌, ◌^◌, ◌≤◌, ◌<◌, compare, Ordering}
+use Prim.Native.Nat.{ℕ, zero, suc, ◌+◌, ◌-◌, ◌*◌, ◌/◌, ◌%◌, ◌^◌, ◌≤◌, ◌<◌, compare, Ordering}
 use native.Mathlib.Nat.{le_trans, le_of_eq, mul-one, one-mul, zero-mul, suc-mul, mul_comm, mul_assoc, mul_left_comm, mul-le-mul_right, mul-le-mul_left, mul-pos, mul-sub, eq-zero-or-pos, lt_irrefl, lt_of_le_of_lt, le_of_mul-le-mul_left, add-mul, mul-add, div-add-mod', le-div_iff_mul-le, mod-lt}
 use native.Mathlib.Omega.{arith}
 use native.Mathlib.Numerals.{unary_clauses}
@@ -74,6 +74,7 @@ unit_le p n c P C N =
 
 -- a power of 2 is twice the one before it
 halved : (p : ℕ) → 0 < p → 2 ^ p ≡ 2 ^ (p - 1) * 2
+halved zero P = absurd (omega arith)
 halved (suc p) P = simp unary_clauses
 
 -- in the normal range a / c rounded, in units, is off by at most one part in 2 ^ prec

@@ -1,4 +1,5 @@
 // The sequences and the programs section, read: a length that is ignored, a spare byte, a count of header rows, and each header row with its own rows behind it.
+#![tactic(auto)]
 ghost use Rattle.std.specs.Prelude.{◌≡◌, ◌+◌, ◌*◌, ◌≤◌, length};
 ghost use Rattle.std.proofs.lemmas.List.Edits.{sets};
 ghost use Rattle.format.specs.Tables.{row_bytes_of, table_bytes, overwritten};

@@ -1,4 +1,5 @@
 // A whole input read into a buffer, for the programs.
+#![tactic(auto)]
 ghost use Rattle.input.specs.Got.{Within};
 ghost use Rattle.std.specs.Prelude.{length};
 

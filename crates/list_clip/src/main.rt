@@ -1,4 +1,5 @@
 // Prints the listing of the clip file on standard input.
+#![tactic(auto)]
 use libc::STDIN_FILENO;
 use listing_io::{INPUT, TEXT, list_input};
 

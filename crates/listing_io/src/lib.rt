@@ -1,4 +1,5 @@
 // The listing program's reading and writing: an input's listing on standard output. The text is `clip_listing::list`'s.
+#![tactic(auto)]
 ghost use Rattle.std.specs.Prelude.{◌≤◌, length};
 ghost use Rattle.clip_listing.specs.Told.{listing_room};
 ghost use Rattle.listing_io.specs.ShownInput.{ShowsInput};

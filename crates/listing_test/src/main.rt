@@ -1,4 +1,5 @@
 // Prints the listing of each file that its arguments name, each behind a line with the file's name.
+#![tactic(auto)]
 use libc::STDOUT_FILENO;
 use listing_io::{INPUT, TEXT, list_input};
 

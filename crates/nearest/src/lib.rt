@@ -1,4 +1,5 @@
 // The nearest of some times to the one asked for, before it or after it: a step for each row, and what is found at the end.
+#![tactic(auto)]
 ghost use Rattle.std.specs.Prelude.{◌≡◌};
 ghost use Rattle.queries.specs.Answers.{found_of};
 ghost use Rattle.nearest.specs.Nearest.{distance_to, none_yet, closer_at, closer_of, row_found};

@@ -1,4 +1,5 @@
 // The nine lent tables: how many rows each needs, and the lowest that is too short.
+#![tactic(auto)]
 ghost use Rattle.std.specs.Prelude.{◌≡◌};
 ghost use Rattle.nine_tables.specs.Room.{room_of, room_behind};
 

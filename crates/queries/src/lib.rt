@@ -1,4 +1,5 @@
 // What a question answers.
+#![tactic(auto)]
 use ticks::{Ticks45, Ticks90};
 
 // A refusal, nothing, or a number: a row, a packet, a byte, a PID or minutes.

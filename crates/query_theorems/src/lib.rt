@@ -1,1 +1,2 @@
 // No code: what the calls that answer questions promise together, in specs/ and proofs/.
+#![tactic(auto)]

@@ -1,4 +1,5 @@
 // A stored sample of the Rust's answers: how many cases it has, and how many of them are read as the Rust read them.
+#![tactic(auto)]
 ghost use Rattle.std.specs.Prelude.{◌≡◌, ◌+◌, ◌^◌, ◌≤◌, ◌<◌, length};
 ghost use Rattle.format.specs.Refusals.{flag};
 ghost use Rattle.replay_cases.specs.Sample.{case_same, cases_of, tally_of};

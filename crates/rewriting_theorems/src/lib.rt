@@ -1,1 +1,2 @@
 // No code: what the calls that read and write promise together, in specs/ and proofs/.
+#![tactic(auto)]

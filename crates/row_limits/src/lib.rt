@@ -1,4 +1,5 @@
 // Whether the cells of one row fit their fields. A field of 32 bits holds any cell, so its cell isn't tested.
+#![tactic(auto)]
 ghost use Rattle.std.specs.Prelude.{◌≡◌, ◌+◌, ◌*◌, ◌/◌, ◌%◌, ◌≤◌, [], ◌∷◌, length, ltb, eqb};
 ghost use Rattle.format.specs.Bytes.{both};
 ghost use Rattle.format.specs.ClipRecord.{entry_row, entry_cells, entry_size};

@@ -1,4 +1,5 @@
 // The first row of a table that passes a test of one of its numbers.
+#![tactic(auto)]
 ghost use Rattle.std.specs.Prelude.{◌≡◌, ◌≤◌, ◌<◌};
 ghost use Rattle.format.specs.Tables.{stated};
 ghost use Rattle.queries.specs.Answers.{found_of};

@@ -1,4 +1,5 @@
 // Rows of the sequences and programs by value: read from a table, and how many bytes each has in a file.
+#![tactic(auto)]
 ghost use Rattle.std.specs.Prelude.{◌≡◌, ◌+◌, ◌*◌, ◌≤◌, length};
 ghost use Rattle.format.specs.Rewriting.{stream_bytes};
 ghost use Rattle.format.specs.Tables.{cells_at};

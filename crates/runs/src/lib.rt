@@ -1,4 +1,5 @@
 // The keys of entries: a run is a longest stretch of entries of one map with equal keys.
+#![tactic(auto)]
 ghost use Rattle.std.specs.Prelude.{◌≡◌, ◌+◌, ◌*◌, ◌≤◌, length};
 ghost use Rattle.format.specs.ClipRecord.{entry_size};
 ghost use Rattle.format.specs.Rewriting.{time_key, packet_key, same_keys};

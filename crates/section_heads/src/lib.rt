@@ -1,4 +1,5 @@
 // The sections of header rows, what one of a written file begins with, and the empty marks at the file's end.
+#![tactic(auto)]
 ghost use Rattle.std.specs.Prelude.{◌≡◌, [], ◌∷◌, ◌+◌, ◌≤◌, length};
 ghost use Rattle.std.proofs.lemmas.List.Edits.{sets};
 ghost use Rattle.format.specs.Bytes.{field_bytes};

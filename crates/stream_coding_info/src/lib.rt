@@ -1,4 +1,5 @@
 // The row of a stream: its PID and what its body says, with the aspect of video and the language of all else.
+#![tactic(auto)]
 ghost use Rattle.std.specs.Prelude.{◌≡◌, ◌+◌, ◌^◌, ◌<◌, ◌≤◌, length};
 ghost use Rattle.std.proofs.lemmas.List.Edits.{sets};
 ghost use Rattle.format.specs.Programs.{lower, lowered, aspect_at, language_at, stream_at, next_stream};

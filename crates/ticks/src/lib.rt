@@ -1,4 +1,5 @@
 // Times as tuple structs, one for each clock, so that a 45 kHz time cannot stand where a 90 kHz time is meant.
+#![tactic(auto)]
 ghost use Rattle.std.specs.Prelude.{◌≡◌, ◌+◌, ◌<◌, ◌^◌};
 ghost use Rattle.format.specs.Ticks.{doubled, less45, less90, later90};
 ghost use Rattle.ticks.specs.Times.{as45, as90, in_ticks, IsSum};
