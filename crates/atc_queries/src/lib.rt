@@ -1,5 +1,6 @@
 // Questions about the STC sequences through their ATC sequences: those of one ATC, by id, and by packet in one ATC.
 #![tactic(auto)]
+
 ghost use Rattle.std.specs.Prelude.{◌≡◌, ◌+◌, ◌*◌, ◌-◌, ◌≤◌, length, leb, ltb};
 ghost use Rattle.format.specs.Bytes.{both, pick};
 ghost use Rattle.format.specs.Questions.{number, ask, stc_sequence_by_id, stc_sequence_for_spn, stc_by_id, stc_by_spn};

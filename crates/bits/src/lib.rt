@@ -1,31 +1,32 @@
 // Bit fields, the highest first: a word read and written so many bits at a time, at every width by shift and mask.
 #![tactic(auto)]
+
 ghost use Rattle.std.specs.Prelude.{◌≡◌, ◌-◌, ◌^◌, ◌≤◌};
 ghost use Rattle.bits.specs.Words.{bits_of, with_bits, read_bits, write_bits};
 
 // A word of which the `left` lowest bits are not read yet.
-#[derive(Drop)]
+#[derive(Clone, Copy)]
 pub struct BitReader {
     pub word: u64,
     pub left: u32,
 }
 
 // What a read gives: the bits as a number, and the reader behind them; or nothing.
-#[derive(Drop)]
+#[derive(Clone, Copy)]
 pub enum Bits {
     Read(u32, BitReader),
     PastEnd,
 }
 
 // A word whose `used` lowest bits are written.
-#[derive(Drop)]
+#[derive(Clone, Copy)]
 pub struct BitWriter {
     pub word: u64,
     pub used: u32,
 }
 
 // What a write gives: the writer with the bits; or nothing, where the word has no room.
-#[derive(Drop)]
+#[derive(Clone, Copy)]
 pub enum Written {
     Wrote(BitWriter),
     Full,

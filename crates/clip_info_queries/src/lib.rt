@@ -1,5 +1,6 @@
 // Questions about the packet count and the rate.
 #![tactic(auto)]
+
 pub mod division;
 
 ghost use Rattle.std.specs.Prelude.{◌≡◌};
@@ -15,7 +16,7 @@ use queries::Found;
 const PACKET: u64 = 192;
 
 // Seconds, or no rate to divide by.
-#[derive(Drop)]
+#[derive(Clone, Copy)]
 pub enum Duration {
     Seconds(f64),
     NoRate,

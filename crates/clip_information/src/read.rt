@@ -10,7 +10,7 @@ use common::header::Starts;
 use nine_tables::Rows;
 
 // What is stated of an accepted file beside its rows: the scalars, the number of marks, the rows of each table, and whether it has a (2, 5) list; or a refusal's number; or the lowest table that is too short and the rows it needs.
-#[derive(Drop)]
+#[derive(Clone, Copy)]
 pub enum Answer {
     Accepted {
         info: ClipInfo,

@@ -1,5 +1,6 @@
 // The listing of a clip file: read into tables of 4,096 rows, and told line by line.
 #![tactic(auto)]
+
 ghost use Rattle.std.specs.Prelude.{◌≤◌, length};
 ghost use Rattle.format.specs.Listing.{listing};
 ghost use Rattle.listing.specs.Text.{Shows};

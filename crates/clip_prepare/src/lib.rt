@@ -1,5 +1,6 @@
 // Everything that reading tests before it touches a table: every section, the (2, 5) list, the lent tables.
 #![tactic(auto)]
+
 pub mod list;
 
 ghost use Rattle.std.specs.Prelude.{◌≡◌};
@@ -12,7 +13,7 @@ use extension::ListData;
 use nine_tables::{Room, Rows, table_room};
 
 // Ready to put the rows into the tables; a refusal's number; or the table that is too short and the rows it needs.
-#[derive(Drop)]
+#[derive(Clone, Copy)]
 pub enum Prepared {
     Ready {
         rows: Rows,

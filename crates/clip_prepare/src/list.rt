@@ -8,7 +8,7 @@ use info_sections::SectionCounts;
 use section_heads::Section;
 
 // The rows of the list, or that there is none.
-#[derive(Drop)]
+#[derive(Clone, Copy)]
 pub enum ListRows {
     Rows { programs: usize, streams: usize },
     Absent,

@@ -7,7 +7,7 @@ use numbers::{u8_at, u32_at};
 
 // The letters, the version and the ClipInfo fields, as C has them too.
 #[repr(C)]
-#[derive(Drop)]
+#[derive(Clone, Copy)]
 pub struct ClipInfo {
     pub letters: u32,
     pub version: u32,

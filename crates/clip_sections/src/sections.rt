@@ -9,7 +9,7 @@ use numbers::u32_at;
 use section_heads::Section;
 
 // The rows of tables 1 to 6, or the refusal's number.
-#[derive(Drop)]
+#[derive(Clone, Copy)]
 pub enum Sections {
     Counts {
         atcs: usize,

@@ -1,5 +1,6 @@
 // The C interface: exported calls on numbers and byte slices, declared in include/clpi.h.
 #![tactic(auto)]
+
 pub mod clips;
 pub mod extension_data;
 pub mod maps;

@@ -1,5 +1,6 @@
 // The answers of questions as numbers for C.
 #![tactic(auto)]
+
 pub mod part;
 pub mod seconds;
 
@@ -14,7 +15,7 @@ use table_rows::own::Own;
 
 // A refusal; whether there is a value; the value. The other numbers are 0.
 #[repr(C)]
-#[derive(Drop)]
+#[derive(Clone, Copy)]
 pub struct ClpiAnswer {
     pub refusal: u32,
     pub found: u32,
@@ -23,7 +24,7 @@ pub struct ClpiAnswer {
 
 // A refusal, or how many rows there are and the number of the first.
 #[repr(C)]
-#[derive(Drop)]
+#[derive(Clone, Copy)]
 pub struct ClpiRows {
     pub refusal: u32,
     pub count: u32,

@@ -6,7 +6,7 @@ use extension_entry::Part;
 
 // Where the data of a row stands, or 22 and zeros.
 #[repr(C)]
-#[derive(Drop)]
+#[derive(Clone, Copy)]
 pub struct ClpiPart {
     pub refusal: u32,
     pub offset: usize,

@@ -8,7 +8,7 @@ use clip_info_queries::Duration;
 
 // A refusal, which there is none of; whether there is a rate; the seconds.
 #[repr(C)]
-#[derive(Drop)]
+#[derive(Clone, Copy)]
 pub struct ClpiSeconds {
     pub refusal: u32,
     pub found: u32,

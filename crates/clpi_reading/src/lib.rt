@@ -1,5 +1,6 @@
 // The answer of reading as numbers for C.
 #![tactic(auto)]
+
 ghost use Rattle.std.specs.Prelude.{◌≡◌};
 ghost use Rattle.format.specs.Refusals.{read_numbers};
 ghost use Rattle.clip_information.specs.Read.{read_answer_of};
@@ -9,7 +10,7 @@ use clip_information::read::Answer;
 
 // What reading answers; every number beside a refusal is 0, but for the table and the rows that 21 tells.
 #[repr(C)]
-#[derive(Drop)]
+#[derive(Clone, Copy)]
 pub struct ClpiReading {
     pub refusal: u32,
     pub table: u32,

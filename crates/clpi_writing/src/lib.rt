@@ -1,5 +1,6 @@
 // The answers of writing and rewriting as numbers for C.
 #![tactic(auto)]
+
 ghost use Rattle.std.specs.Prelude.{◌≡◌, ◌^◌, ◌<◌};
 ghost use Rattle.format.specs.Refusals.{write_numbers};
 ghost use Rattle.encode.specs.Writing.{write_answer_of, bytes_in};
@@ -11,7 +12,7 @@ use rewrite::rewrite::NewLength;
 
 // A refusal; with 23 how many bytes the output needs; without one how many were written. The other numbers are 0.
 #[repr(C)]
-#[derive(Drop)]
+#[derive(Clone, Copy)]
 pub struct ClpiWriting {
     pub refusal: u32,
     pub bytes_needed: u32,
@@ -44,7 +45,7 @@ pub fn writing_of(answer: Answer) -> ClpiWriting
 
 // A refusal, or how long the new file is. The other number is 0.
 #[repr(C)]
-#[derive(Drop)]
+#[derive(Clone, Copy)]
 pub struct ClpiLength {
     pub refusal: u32,
     pub bytes: u32,

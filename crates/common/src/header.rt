@@ -6,14 +6,14 @@ ghost use Rattle.common.specs.Header.{HeaderIs, parsed_of, StartsAre};
 use numbers::u32_at;
 
 // The letters and the version, a number each with its first byte highest, whatever they say.
-#[derive(Drop)]
+#[derive(Clone, Copy)]
 pub struct BdmvHeader {
     pub type_indicator: u32,
     pub version_number: u32,
 }
 
 // What the front of a file says.
-#[derive(Drop)]
+#[derive(Clone, Copy)]
 pub enum Parsed {
     Clip(BdmvHeader),
     Truncated,
@@ -21,7 +21,7 @@ pub enum Parsed {
 }
 
 // Where the sections start, counted from the file's first byte; a start may lie past the end.
-#[derive(Drop)]
+#[derive(Clone, Copy)]
 pub struct Starts {
     pub sequences: usize,
     pub programs: usize,

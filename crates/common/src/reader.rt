@@ -5,20 +5,20 @@ ghost use Rattle.common.specs.Reader.{start, moved_to, part_at, NumberIs};
 use numbers::{u8_at, u16_at, u32_at, u64_at};
 
 // A place in a buffer; it may lie past the end.
-#[derive(Drop)]
+#[derive(Clone, Copy)]
 pub struct Reader {
     pub pos: usize,
 }
 
 // The reader moved, or the place lies past the end.
-#[derive(Drop)]
+#[derive(Clone, Copy)]
 pub enum Moved {
     At(Reader),
     PastEnd,
 }
 
 // A number and the reader behind it, or the number passes the end.
-#[derive(Drop)]
+#[derive(Clone, Copy)]
 pub enum Number {
     Read(u64, Reader),
     PastEnd,

@@ -7,7 +7,7 @@ use ep_rows::map_header;
 use numbers::{u8_at, u16_at, u32_at, u48_at};
 
 // What the head of the section says: maps, of which the headers are in the file; none; or a length or headers that pass the end.
-#[derive(Drop)]
+#[derive(Clone, Copy)]
 pub enum CpiHead {
     Maps { count: usize, end: usize },
     NoMaps,
@@ -15,14 +15,14 @@ pub enum CpiHead {
 }
 
 // What is told of one map: so many entries, or its refusal, 7, 41 or 42.
-#[derive(Drop)]
+#[derive(Clone, Copy)]
 pub enum MapRows {
     Entries(usize),
     Refused(u32),
 }
 
 // The rows of both tables; or the refusal, 6 or that of the first map that has one.
-#[derive(Drop)]
+#[derive(Clone, Copy)]
 pub enum CpiCounts {
     Counts { maps: usize, entries: usize },
     Refused(u32),

@@ -1,5 +1,6 @@
 // The entry index put into tables: a row for each map, and the rows of all their entries.
 #![tactic(auto)]
+
 ghost use Rattle.std.specs.Prelude.{◌≡◌, ◌+◌, ◌≤◌, length};
 ghost use Rattle.std.proofs.lemmas.List.Edits.{sets};
 ghost use Rattle.format.specs.EntryPoints.{map_at, entries_of, fine_count_at, maps_from, entries_from};

@@ -1,5 +1,6 @@
 // The maps by their types, and the primary map: by its type, else by its PID.
 #![tactic(auto)]
+
 ghost use Rattle.std.specs.Prelude.{◌≡◌, ◌≤◌, map};
 ghost use Rattle.format.specs.ClipRecord.{map_pid};
 ghost use Rattle.format.specs.Questions.{ask, better, primary_video_ep_map, ep_map_by_kind, next_video_ep_map, primary_seek_spn, primary_next_seek_spn};
@@ -34,7 +35,7 @@ pub fn next_video_ep_map(maps: &[u8], rows: u32, from: u32) -> Found
 }
 
 // The row of a map, and its PID.
-#[derive(Drop)]
+#[derive(Clone, Copy)]
 struct PidRow {
     row: u32,
     pid: u32,

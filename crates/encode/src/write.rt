@@ -20,7 +20,7 @@ use limits::tables::StatedRows;
 use section_heads::{Section, put_marks};
 
 // How many bytes were written; the refusal's number; or how many bytes the output needs.
-#[derive(Drop)]
+#[derive(Clone, Copy)]
 pub enum Answer {
     Written(usize),
     Refused(u32),

@@ -1,5 +1,6 @@
 // The CPI section, made of tables 5 and 6: how long it is, and its bytes.
 #![tactic(auto)]
+
 ghost use Rattle.std.specs.Prelude.{◌≡◌, [], ◌∷◌, ◌++◌, ◌+◌, ◌*◌, ◌≤◌, length, leb};
 ghost use Rattle.std.proofs.lemmas.List.Edits.{sets};
 ghost use Rattle.format.specs.Bytes.{both, field_bytes};
@@ -19,14 +20,14 @@ const MAP: usize = 12;
 const MOST_RUNS: usize = 65535;
 
 // How many bytes the section has, or that a map has more runs than it can count.
-#[derive(Drop)]
+#[derive(Clone, Copy)]
 pub enum Length {
     Bytes(usize),
     TooManyRuns,
 }
 
 // The length where every entry fits, else that one does not.
-#[derive(Drop)]
+#[derive(Clone, Copy)]
 pub enum Tested {
     Fit(Length),
     Unfit,

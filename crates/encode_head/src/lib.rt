@@ -1,5 +1,6 @@
 // The first 220 bytes of a written file: the header and ClipInfo.
 #![tactic(auto)]
+
 ghost use Rattle.std.specs.Prelude.{◌≡◌, ◌+◌, ◌≤◌, length};
 ghost use Rattle.std.proofs.lemmas.List.Edits.{sets};
 ghost use Rattle.format.specs.Bytes.{bytes_of, field_bytes};

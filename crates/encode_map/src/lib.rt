@@ -1,5 +1,6 @@
 // One map whose entries stand in a table, as bytes: its body of fine address, coarse rows and fine rows, and its header.
 #![tactic(auto)]
+
 ghost use Rattle.std.specs.Prelude.{◌≡◌, ◌++◌, ◌+◌, ◌*◌, ◌-◌, length};
 ghost use Rattle.std.proofs.lemmas.List.Edits.{sets};
 ghost use Rattle.format.specs.Bytes.{flat};

@@ -1,5 +1,6 @@
 // What writing tests before it stores a byte: the refusal, or where the sections of the new file stand.
 #![tactic(auto)]
+
 ghost use Rattle.std.specs.Prelude.{◌≡◌, ◌≤◌};
 ghost use Rattle.format.specs.Bytes.{both};
 ghost use Rattle.format.specs.Refusals.{scalars_fit};
@@ -20,7 +21,7 @@ use section_heads::Section;
 use table_rows::own::adds_up;
 
 // The places of the programs, of the CPI and of the marks; the sequences are at 220.
-#[derive(Drop)]
+#[derive(Clone, Copy)]
 pub struct Places {
     pub programs: usize,
     pub cpi: usize,
@@ -28,7 +29,7 @@ pub struct Places {
 }
 
 // The refusal's number, or the places.
-#[derive(Drop)]
+#[derive(Clone, Copy)]
 pub enum Measured {
     Refused(u32),
     Places(Places),

@@ -1,5 +1,6 @@
 // Rows of a table, of any kind, one behind the other: how many bytes they have in a file, and the bytes.
 #![tactic(auto)]
+
 ghost use Rattle.std.specs.Prelude.{◌≡◌, ◌+◌, ◌*◌, ◌≤◌, length};
 ghost use Rattle.std.proofs.lemmas.List.Edits.{sets};
 ghost use Rattle.format.specs.Bytes.{flat, end_of};

@@ -1,5 +1,6 @@
 // The sequences and the programs section, written from their tables: how long each is, and its bytes.
 #![tactic(auto)]
+
 ghost use Rattle.std.specs.Prelude.{◌≡◌, ◌+◌, ◌*◌, length};
 ghost use Rattle.std.proofs.lemmas.List.Edits.{sets};
 ghost use Rattle.row_values.specs.Kinds.{row_of};

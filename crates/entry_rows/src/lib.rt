@@ -1,5 +1,6 @@
 // The row of an entry in its table: its size, where each of its numbers stands, and a row stored. Nothing else knows these places.
 #![tactic(auto)]
+
 ghost use Rattle.std.specs.Prelude.{◌≡◌, ◌+◌, ◌*◌, ◌/◌, ◌%◌, ◌^◌, ◌≤◌, [], ◌∷◌, length};
 ghost use Rattle.std.proofs.lemmas.List.Edits.{sets};
 ghost use Rattle.format.specs.ClipRecord.{entry_row, angle, i_end_of, packet, entry_type_of, entry_size};
@@ -55,7 +56,7 @@ pub fn type_at(t: &[u8], q: usize) -> u32
 }
 
 // A row as three words of eight bytes: angle and I-end, the time, packet and type. Of two numbers the first is the lower half.
-#[derive(Drop)]
+#[derive(Clone, Copy)]
 pub struct Words {
     pub front: u64,
     pub time: u64,

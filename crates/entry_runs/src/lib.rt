@@ -1,5 +1,6 @@
 // The runs of one map's entries, in the walk that tests whether each entry fits.
 #![tactic(auto)]
+
 ghost use Rattle.std.specs.Prelude.{◌≡◌, ◌+◌, ◌*◌, ◌≤◌, ◌<◌, length, true};
 ghost use Rattle.format.specs.Bytes.{pick};
 ghost use Rattle.format.specs.Refusals.{entry_fits};
@@ -14,14 +15,14 @@ use row_limits::{TableKind, row_fits};
 use runs::same_run;
 
 // The row at which a run ends, or that an entry of it does not fit.
-#[derive(Drop)]
+#[derive(Clone, Copy)]
 pub enum RunEnd {
     At(usize),
     Unfit,
 }
 
 // How many runs there are, or that an entry does not fit.
-#[derive(Drop)]
+#[derive(Clone, Copy)]
 pub enum RunCount {
     Runs(usize),
     Unfit,

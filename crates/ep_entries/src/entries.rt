@@ -15,7 +15,7 @@ use ep_rows::{entry_packet, entry_time, fine_row};
 use numbers::u32_at;
 
 // An entry beside its type: whether the angle may change, where the I picture ends, time and packet.
-#[derive(Drop)]
+#[derive(Clone, Copy)]
 pub struct Entry {
     pub angle: u32,
     pub i_end: u32,

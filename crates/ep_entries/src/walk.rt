@@ -8,7 +8,7 @@ use ep_rows::coarse_row;
 use numbers::u64_at;
 
 // The coarse row in use: its time and packet; where the row behind it stands, how many rows are left there, and the first fine row of that one.
-#[derive(Drop)]
+#[derive(Clone, Copy)]
 pub struct Walk {
     pub time: u32,
     pub packet: u32,

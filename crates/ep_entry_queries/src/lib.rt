@@ -1,6 +1,7 @@
 // Entry points by their times in a lent row of `EpEntry` records. Each function is thin: what is looked for is in the steps
 // by value of `ep_entry_steps`.
 #![tactic(auto)]
+
 ghost use Rattle.std.specs.Prelude.{◌≡◌, map, get_or};
 ghost use Rattle.format.specs.ClipRecord.{time};
 ghost use Rattle.format.specs.Questions.{answer_numbers, ticks90, at_or_before, after, seek, next_seek, span_of};

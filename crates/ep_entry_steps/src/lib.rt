@@ -1,5 +1,6 @@
 // What is looked for in a row of `EpEntry` records, as steps by value: one for each record, and what is answered at the end.
 #![tactic(auto)]
+
 ghost use Rattle.std.specs.Prelude.{◌≡◌};
 ghost use Rattle.format.specs.ClipRecord.{time};
 ghost use Rattle.format.specs.Questions.{answer_numbers, ticks90};
@@ -16,7 +17,7 @@ use ticks::Ticks90;
 
 // An entry of a map.
 #[repr(C)]
-#[derive(Drop)]
+#[derive(Clone, Copy)]
 pub struct EpEntry {
     pub is_angle_change_point: bool,
     pub i_end_position_offset: u8,

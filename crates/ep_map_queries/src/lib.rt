@@ -1,4 +1,5 @@
 // Questions about the entries of one map.
 #![tactic(auto)]
+
 pub mod entries;
 pub mod own;

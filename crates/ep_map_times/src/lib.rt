@@ -1,5 +1,6 @@
 // Questions about the times of a map's entries: the first, the last, and the span.
 #![tactic(auto)]
+
 ghost use Rattle.std.specs.Prelude.{◌≡◌, ◌+◌, ◌*◌, ◌≤◌, length};
 ghost use Rattle.format.specs.ClipRecord.{entry_time, entry_cells, entry_size};
 ghost use Rattle.format.specs.Questions.{ask, indexed_span_90k, span_of, first_pts, last_pts};

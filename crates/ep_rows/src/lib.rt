@@ -1,5 +1,6 @@
 // The packed rows of the entry index, taken apart and built field by field; an entry's time and packet joined of both rows' parts.
 #![tactic(auto)]
+
 ghost use Rattle.std.specs.Prelude.{◌≡◌, ◌/◌, ◌%◌, ◌^◌, ◌<◌};
 ghost use Rattle.format.specs.Bytes.{packed, unpacked};
 ghost use Rattle.format.specs.EntryPoints.{header_widths, coarse_widths, fine_widths, join_time, join_packet};
@@ -9,7 +10,7 @@ ghost use Rattle.ep_rows.specs.Rows.{header_of, header_values, coarse_of, coarse
 use bits::{put_bits, take_bits};
 
 // The packed fields of a map header, behind ten spare bits: stream type, number of coarse rows, number of fine rows.
-#[derive(Drop)]
+#[derive(Clone, Copy)]
 pub struct MapHeader {
     pub ep_stream_type: u32,
     pub num_coarse: u32,
@@ -17,7 +18,7 @@ pub struct MapHeader {
 }
 
 // A coarse row: its first fine row, and the high parts of time and packet.
-#[derive(Drop)]
+#[derive(Clone, Copy)]
 pub struct CoarseRow {
     pub first_fine: u32,
     pub time: u32,
@@ -25,7 +26,7 @@ pub struct CoarseRow {
 }
 
 // A fine row: angle change, where the I picture ends, and the low parts of time and packet.
-#[derive(Drop)]
+#[derive(Clone, Copy)]
 pub struct FineRow {
     pub angle: u32,
     pub i_end: u32,

@@ -1,5 +1,6 @@
 // The extension block: which entries are kept, where the second list of programs stands, and table 7.
 #![tactic(auto)]
+
 ghost use Rattle.std.specs.Prelude.{◌≡◌, ◌+◌, ◌≤◌, min, length};
 ghost use Rattle.std.proofs.lemmas.List.Edits.{sets};
 ghost use Rattle.format.specs.Extensions.{extension_rows, extensions_from};
@@ -23,28 +24,28 @@ const EXT_ID1_PROGRAM_INFO_SS: u32 = 2;
 const EXT_ID2_PROGRAM_INFO_SS: u32 = 5;
 
 // Where the data of the first kept entry with the list's ids stands in the file.
-#[derive(Drop)]
+#[derive(Clone, Copy)]
 pub enum ListData {
     At { start: usize, len: usize },
     Absent,
 }
 
 // What the measuring pass finds: the rows of table 7, and the list.
-#[derive(Drop)]
+#[derive(Clone, Copy)]
 pub struct MeasuredBlock {
     pub rows: usize,
     pub list: ListData,
 }
 
 // The head of a block: how many entries follow and where data may end; or no entries are read.
-#[derive(Drop)]
+#[derive(Clone, Copy)]
 enum BlockHead {
     Entries { n: usize, end: usize },
     Empty,
 }
 
 // An entry: its ids and where its data stands in the file; or it is left out.
-#[derive(Drop)]
+#[derive(Clone, Copy)]
 enum ExtensionDataEntry {
     Kept {
         id1: u32,

@@ -1,5 +1,6 @@
 // The data of an extension: a row of a lent table 7 says where it stands in the lent file.
 #![tactic(auto)]
+
 ghost use Rattle.std.specs.Prelude.{◌≡◌};
 ghost use Rattle.format.specs.Refusals.{data_refusal, data_asked};
 ghost use Rattle.format.specs.Tables.{stated};
@@ -11,7 +12,7 @@ use cells::cell_at;
 const ROW: usize = 16;
 
 // Where the data of a row stands in the file.
-#[derive(Drop)]
+#[derive(Clone, Copy)]
 pub enum Part {
     At { start: usize, len: usize },
     Refused,

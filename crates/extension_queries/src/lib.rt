@@ -1,5 +1,6 @@
 // The extension with two ids.
 #![tactic(auto)]
+
 ghost use Rattle.std.specs.Prelude.{◌≡◌, eqb};
 ghost use Rattle.format.specs.Bytes.{both};
 ghost use Rattle.format.specs.Tables.{stated};

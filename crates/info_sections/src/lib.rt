@@ -1,5 +1,6 @@
 // The sequences and the programs section, read: a length that is ignored, a spare byte, a count of header rows, and each header row with its own rows behind it.
 #![tactic(auto)]
+
 ghost use Rattle.std.specs.Prelude.{◌≡◌, ◌+◌, ◌*◌, ◌≤◌, length};
 ghost use Rattle.std.proofs.lemmas.List.Edits.{sets};
 ghost use Rattle.format.specs.Tables.{row_bytes_of, table_bytes, overwritten};
@@ -14,7 +15,7 @@ use section_heads::Section;
 use sequence_info::{put_atc, put_stcs, skip_atc};
 
 // How many header rows the section has and how many rows behind them, or that it passes the file's end.
-#[derive(Drop)]
+#[derive(Clone, Copy)]
 pub enum SectionCounts {
     Counts { heads: usize, rows: usize },
     PastEnd,

@@ -1,10 +1,11 @@
 // A whole input read into a buffer, for the programs.
 #![tactic(auto)]
+
 ghost use Rattle.input.specs.Got.{Within};
 ghost use Rattle.std.specs.Prelude.{length};
 
 // The number of bytes that stand at the buffer's front, or a read that failed.
-#[derive(Drop)]
+#[derive(Clone, Copy)]
 pub enum Input {
     Bytes(usize),
     Failed,

@@ -12,7 +12,7 @@ use row_limits::TableKind;
 const MOST: u32 = 255;
 
 // How many rows are stated to be in each of the six tables.
-#[derive(Drop)]
+#[derive(Clone, Copy)]
 pub struct StatedRows {
     pub atcs: u32,
     pub stcs: u32,

@@ -1,5 +1,6 @@
 // Prints the listing of the clip file on standard input.
 #![tactic(auto)]
+
 use libc::STDIN_FILENO;
 use listing_io::{INPUT, TEXT, list_input};
 

@@ -1,5 +1,6 @@
 // The listing's text, into an output that the caller lends: the lines of a record, and of a refusal.
 #![tactic(auto)]
+
 ghost use Rattle.std.specs.Prelude.{[], ◌∷◌, ◌+◌, ◌*◌, ◌^◌, ◌≤◌, ◌<◌, length};
 ghost use Rattle.format.specs.Bytes.{flat, total};
 ghost use Rattle.format.specs.ClipRecord.{entry_count, time, entry_cells, entry_size};

@@ -1,5 +1,6 @@
 // The listing program's reading and writing: an input's listing on standard output. The text is `clip_listing::list`'s.
 #![tactic(auto)]
+
 ghost use Rattle.std.specs.Prelude.{◌≤◌, length};
 ghost use Rattle.clip_listing.specs.Told.{listing_room};
 ghost use Rattle.listing_io.specs.ShownInput.{ShowsInput};
@@ -15,7 +16,7 @@ pub const INPUT: usize = 65537;
 pub const TEXT: usize = 262144;
 
 // How many bytes were read, and the length of their listing; or a read that failed.
-#[derive(Drop)]
+#[derive(Clone, Copy)]
 pub enum ListedInput {
     Text { read: usize, len: usize },
     Failed,

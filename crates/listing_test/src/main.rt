@@ -1,5 +1,6 @@
 // Prints the listing of each file that its arguments name, each behind a line with the file's name.
 #![tactic(auto)]
+
 use libc::STDOUT_FILENO;
 use listing_io::{INPUT, TEXT, list_input};
 

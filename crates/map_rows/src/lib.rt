@@ -1,5 +1,6 @@
 // The rows of a map by their numbers, wherever these come from: header, coarse row, fine row.
 #![tactic(auto)]
+
 ghost use Rattle.std.specs.Prelude.{◌≡◌, [], ◌∷◌, ◌+◌, ◌^◌, ◌≤◌, ◌<◌, length};
 ghost use Rattle.std.proofs.lemmas.List.Edits.{sets};
 ghost use Rattle.format.specs.Bytes.{bytes_of, field_bytes, packed};

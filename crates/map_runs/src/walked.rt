@@ -11,14 +11,14 @@ use numbers::u32_at;
 use runs::same_key;
 
 // A fine row's entry, and the walk that reached its coarse row.
-#[derive(Drop)]
+#[derive(Clone, Copy)]
 pub struct Met {
     pub walk: Walk,
     pub entry: Entry,
 }
 
 // The row behind a run, and a walk that is right for it.
-#[derive(Drop)]
+#[derive(Clone, Copy)]
 pub struct RunEnd {
     pub row: usize,
     pub walk: Walk,

@@ -1,5 +1,6 @@
 // The nearest of some times to the one asked for, before it or after it: a step for each row, and what is found at the end.
 #![tactic(auto)]
+
 ghost use Rattle.std.specs.Prelude.{◌≡◌};
 ghost use Rattle.queries.specs.Answers.{found_of};
 ghost use Rattle.nearest.specs.Nearest.{distance_to, none_yet, closer_at, closer_of, row_found};
@@ -26,7 +27,7 @@ fn distance(is_after: bool, at: u64, time: u64) -> u64
 }
 
 // The row of the nearest time, the earliest among equals, and how far it is; row 0 and far where all stand on the other side.
-#[derive(Drop)]
+#[derive(Clone, Copy)]
 pub struct Nearest {
     pub row: usize,
     pub distance: u64,

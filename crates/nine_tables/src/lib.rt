@@ -1,12 +1,13 @@
 // The nine lent tables: how many rows each needs, and the lowest that is too short.
 #![tactic(auto)]
+
 ghost use Rattle.std.specs.Prelude.{◌≡◌};
 ghost use Rattle.nine_tables.specs.Room.{room_of, room_behind};
 
 use entry_rows::SIZE;
 
 // A number for each of tables 1 to 9.
-#[derive(Drop)]
+#[derive(Clone, Copy)]
 pub struct Rows {
     pub atcs: usize,
     pub stcs: usize,
@@ -20,7 +21,7 @@ pub struct Rows {
 }
 
 // Room enough, or the lowest table that is too short and the rows it needs.
-#[derive(Drop)]
+#[derive(Clone, Copy)]
 pub enum Room {
     Enough,
     Short { table: u32, rows: usize },

@@ -1,6 +1,7 @@
 // Big-endian numbers of 1, 2, 4, 6 and 8 bytes, read and stored where they are known to lie inside the slice, and bytes copied.
 // Every byte of a new file is stored by `put_u8` to `put_u64` and `copy`, and nowhere else: a walk over these is the one that would compare instead of store.
 #![tactic(auto)]
+
 ghost use Rattle.std.specs.Prelude.{◌≡◌, ◌+◌, ◌≤◌, length};
 ghost use Rattle.std.proofs.lemmas.List.Edits.{sets};
 ghost use Rattle.format.specs.Bytes.{bytes_of, part};

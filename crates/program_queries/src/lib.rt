@@ -1,5 +1,6 @@
 // Questions about the programs and their streams: the first in file order, and the next.
 #![tactic(auto)]
+
 ghost use Rattle.std.specs.Prelude.{◌≡◌};
 ghost use Rattle.format.specs.Questions.{ask, stream_by_pid, primary_video_pid, program_by_pmt_pid, next_video_stream, next_audio_stream};
 ghost use Rattle.format.specs.Tables.{stream_cells, stated};

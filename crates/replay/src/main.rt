@@ -1,5 +1,6 @@
 // Replays a stored sample of the Rust's answers: a file of cases for each class of made files, one line a class.
 #![tactic(auto)]
+
 use input::{Input, read_input};
 use libc::STDOUT_FILENO;
 use replay_cases::{Tally, replay};

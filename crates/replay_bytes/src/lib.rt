@@ -1,5 +1,6 @@
 // Bytes held against the stored answer, from front to back.
 #![tactic(auto)]
+
 ghost use Rattle.std.specs.Prelude.{◌≡◌};
 ghost use Rattle.format.specs.Tables.{row_bytes_of};
 ghost use Rattle.replay_bytes.specs.Parts.{behind, behind_part};

@@ -1,5 +1,6 @@
 // One case of the sample: a file, and what the Rust answered for it.
 #![tactic(auto)]
+
 ghost use Rattle.std.specs.Prelude.{◌≡◌, ◌<◌};
 ghost use Rattle.format.specs.Extensions.{extension_of};
 ghost use Rattle.format.specs.Refusals.{extension_row};

@@ -1,5 +1,6 @@
 // A stored sample of the Rust's answers: how many cases it has, and how many of them are read as the Rust read them.
 #![tactic(auto)]
+
 ghost use Rattle.std.specs.Prelude.{◌≡◌, ◌+◌, ◌^◌, ◌≤◌, ◌<◌, length};
 ghost use Rattle.format.specs.Refusals.{flag};
 ghost use Rattle.replay_cases.specs.Sample.{case_same, cases_of, tally_of};
@@ -8,7 +9,7 @@ use cells::cell_at;
 use replay_case::is_same;
 
 // How many cases a class has, and how many of them are read as the Rust read them.
-#[derive(Drop)]
+#[derive(Clone, Copy)]
 pub struct Tally {
     pub cases: usize,
     pub same: usize,

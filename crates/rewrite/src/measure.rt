@@ -9,7 +9,7 @@ use rewrite_cpi::cpi_length;
 use rewrite_sections::programs_length;
 
 // The refusal's number; or how many ATCs, STCs and maps the file has, and the places of the programs, of the CPI and of the marks in the new one.
-#[derive(Drop)]
+#[derive(Clone, Copy)]
 pub enum Planned {
     Refused(u32),
     Places {

@@ -17,7 +17,7 @@ use rewrite_sections::{put_programs, put_sequences};
 use section_heads::put_marks;
 
 // How long the new file is, or the refusal's number.
-#[derive(Drop)]
+#[derive(Clone, Copy)]
 pub enum NewLength {
     Bytes(usize),
     Refused(u32),

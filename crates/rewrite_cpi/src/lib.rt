@@ -1,5 +1,6 @@
 // The CPI section of a file made anew, map by map, straight from the file: how long it is, and its bytes.
 #![tactic(auto)]
+
 ghost use Rattle.std.specs.Prelude.{◌≡◌, ◌++◌, ◌+◌, ◌*◌, ◌-◌, length};
 ghost use Rattle.std.proofs.lemmas.List.Edits.{sets};
 ghost use Rattle.format.specs.EntryPoints.{map_at, entries_of, maps_from, entries_from};

@@ -1,5 +1,6 @@
 // A program of the new file with its streams, straight from the old one: where it ends, and its bytes.
 #![tactic(auto)]
+
 ghost use Rattle.std.specs.Prelude.{◌≡◌, ◌+◌, ◌^◌, ◌<◌, ◌≤◌, length};
 ghost use Rattle.std.proofs.lemmas.List.Edits.{sets};
 ghost use Rattle.format.specs.Bytes.{end_of};
@@ -13,7 +14,7 @@ use row_values::{Row, RowKind, row_length};
 use stream_coding_info::stream_at;
 
 // A place in the old file, and one in the new.
-#[derive(Drop)]
+#[derive(Clone, Copy)]
 pub struct Places {
     pub file: usize,
     pub out: usize,

@@ -1,5 +1,6 @@
 // Whether the cells of one row fit their fields. A field of 32 bits holds any cell, so its cell isn't tested.
 #![tactic(auto)]
+
 ghost use Rattle.std.specs.Prelude.{◌≡◌, ◌+◌, ◌*◌, ◌/◌, ◌%◌, ◌≤◌, [], ◌∷◌, length, ltb, eqb};
 ghost use Rattle.format.specs.Bytes.{both};
 ghost use Rattle.format.specs.ClipRecord.{entry_row, entry_cells, entry_size};
@@ -12,7 +13,7 @@ use entry_rows::{SIZE, angle_at, i_end_at, packet_at, time_at, type_at};
 use stream_coding::is_video;
 
 // Which table a row is of; an entry with the type of its map.
-#[derive(Drop)]
+#[derive(Clone, Copy)]
 pub enum TableKind {
     Atc,
     Stc,

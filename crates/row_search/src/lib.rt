@@ -1,5 +1,6 @@
 // The first row of a table that passes a test of one of its numbers.
 #![tactic(auto)]
+
 ghost use Rattle.std.specs.Prelude.{◌≡◌, ◌≤◌, ◌<◌};
 ghost use Rattle.format.specs.Tables.{stated};
 ghost use Rattle.queries.specs.Answers.{found_of};
@@ -11,7 +12,7 @@ use stream_coding::{is_audio, is_video, is_video_map};
 use table_rows::own::is_stated;
 
 // What is asked of a number: that it is the one given, that its low four bits are, that they are those of a video map, or that it is the coding type of a video or an audio stream.
-#[derive(Drop)]
+#[derive(Clone, Copy)]
 pub enum Test {
     Is(u32),
     MapKind(u32),

@@ -1,5 +1,6 @@
 // Rows of the sequences and programs by value: read from a table, and how many bytes each has in a file.
 #![tactic(auto)]
+
 ghost use Rattle.std.specs.Prelude.{◌≡◌, ◌+◌, ◌*◌, ◌≤◌, length};
 ghost use Rattle.format.specs.Rewriting.{stream_bytes};
 ghost use Rattle.format.specs.Tables.{cells_at};
@@ -9,7 +10,7 @@ use cells::cell_at;
 use stream_coding::is_video;
 
 // Which table a row is of.
-#[derive(Drop)]
+#[derive(Clone, Copy)]
 pub enum RowKind {
     Atc,
     Stc,
@@ -18,7 +19,7 @@ pub enum RowKind {
 }
 
 // The cells of a row; those that its kind has not are 0.
-#[derive(Drop)]
+#[derive(Clone, Copy)]
 pub struct Row {
     pub cell0: u32,
     pub cell1: u32,

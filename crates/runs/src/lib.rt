@@ -1,5 +1,6 @@
 // The keys of entries: a run is a longest stretch of entries of one map with equal keys.
 #![tactic(auto)]
+
 ghost use Rattle.std.specs.Prelude.{◌≡◌, ◌+◌, ◌*◌, ◌≤◌, length};
 ghost use Rattle.format.specs.ClipRecord.{entry_size};
 ghost use Rattle.format.specs.Rewriting.{time_key, packet_key, same_keys};
@@ -8,7 +9,7 @@ ghost use Rattle.runs.specs.Runs.{PairIs};
 use entry_rows::{packet_at, time_at};
 
 // The time and the packet of an entry.
-#[derive(Drop)]
+#[derive(Clone, Copy)]
 pub struct Pair {
     pub time: u64,
     pub packet: u32,

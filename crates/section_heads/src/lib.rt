@@ -1,5 +1,6 @@
 // The sections of header rows, what one of a written file begins with, and the empty marks at the file's end.
 #![tactic(auto)]
+
 ghost use Rattle.std.specs.Prelude.{◌≡◌, [], ◌∷◌, ◌+◌, ◌≤◌, length};
 ghost use Rattle.std.proofs.lemmas.List.Edits.{sets};
 ghost use Rattle.format.specs.Bytes.{field_bytes};
@@ -8,7 +9,7 @@ ghost use Rattle.format.specs.Rewriting.{marks_bytes};
 use numbers::{put_u8, put_u16, put_u32};
 
 // The two sections of header rows with their own rows behind them.
-#[derive(Drop)]
+#[derive(Clone, Copy)]
 pub enum Section {
     Sequences,
     Programs,

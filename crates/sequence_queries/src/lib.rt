@@ -1,5 +1,6 @@
 // Questions about the STC sequences: the first, how long they are, and how many minutes remain.
 #![tactic(auto)]
+
 ghost use Rattle.std.specs.Prelude.{◌≡◌, [], get_or, drop, suc, ◌≤◌, ◌<◌, max, min};
 ghost use Rattle.format.specs.Questions.{ask, first_stc_sequence, duration45k, duration90k, presentation_span_90k, minutes_remaining, latest_end, least_start, duration_of, left_of, minutes_left};
 ghost use Rattle.format.specs.Tables.{table_rows_of, row_room, stc_cells, stated};

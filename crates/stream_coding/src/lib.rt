@@ -1,5 +1,6 @@
 // The coding type of a stream and the type of a map: video or not, audio or not.
 #![tactic(auto)]
+
 ghost use Rattle.std.specs.Prelude.{◌≡◌};
 ghost use Rattle.format.specs.Programs.{is_video};
 ghost use Rattle.format.specs.Questions.{is_audio, is_video_map};

@@ -1,5 +1,6 @@
 // The row of a stream: its PID and what its body says, with the aspect of video and the language of all else.
 #![tactic(auto)]
+
 ghost use Rattle.std.specs.Prelude.{◌≡◌, ◌+◌, ◌^◌, ◌<◌, ◌≤◌, length};
 ghost use Rattle.std.proofs.lemmas.List.Edits.{sets};
 ghost use Rattle.format.specs.Programs.{lower, lowered, aspect_at, language_at, stream_at, next_stream};
@@ -11,7 +12,7 @@ use numbers::{u8_at, u16_at};
 use stream_coding::is_video;
 
 // A stream's PID and what its body says: an aspect of video alone, and a language of all else, 0 for none.
-#[derive(Drop)]
+#[derive(Clone, Copy)]
 pub struct StreamCodingInfo {
     pub pid: u32,
     pub stream_coding_type: u32,

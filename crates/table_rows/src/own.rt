@@ -11,7 +11,7 @@ use cells::cell_at;
 const HEAD: usize = 12;
 
 // The rows of one header row, by the first and their number; or a refusal: rows that are not there, counts that don't add up, or no such header row.
-#[derive(Drop)]
+#[derive(Clone, Copy)]
 pub enum Own {
     Refused,
     Rows { first: u64, count: u32 },

@@ -1,5 +1,6 @@
 // Lines of text, into an output that the caller lends: a word, and numbers in decimal digits, each behind a single space.
 #![tactic(auto)]
+
 ghost use Rattle.std.specs.Prelude.{◌≡◌, [], ◌∷◌, ◌+◌, ◌*◌, ◌%◌, ◌≤◌, length};
 ghost use Rattle.format.specs.Bytes.{flat};
 ghost use Rattle.format.specs.Listing.{digits, spaced, line};

@@ -1,19 +1,20 @@
 // Times as tuple structs, one for each clock, so that a 45 kHz time cannot stand where a 90 kHz time is meant.
 #![tactic(auto)]
+
 ghost use Rattle.std.specs.Prelude.{◌≡◌, ◌+◌, ◌<◌, ◌^◌};
 ghost use Rattle.format.specs.Ticks.{doubled, less45, less90, later90};
 ghost use Rattle.ticks.specs.Times.{as45, as90, in_ticks, IsSum};
 
 // A time in 45 kHz ticks, as the file's STC times.
-#[derive(Drop)]
+#[derive(Clone, Copy)]
 pub struct Ticks45(pub u32);
 
 // A time in 90 kHz ticks.
-#[derive(Drop)]
+#[derive(Clone, Copy)]
 pub struct Ticks90(pub u64);
 
 // A time in 90 kHz ticks of 32 bits, which entry lookups are given.
-#[derive(Drop)]
+#[derive(Clone, Copy)]
 pub struct Pts90(pub u32);
 
 impl Ticks45 {
@@ -56,7 +57,7 @@ impl Ticks90 {
 }
 
 // Times added up, as whole minutes and the 90 kHz ticks below a minute, so that the sum may pass 64 bits.
-#[derive(Drop)]
+#[derive(Clone, Copy)]
 pub struct Minutes {
     pub whole: u64,
     pub rest: Ticks90,

@@ -1,0 +1,10 @@
+-- The cells are stored one behind the other.
+use mathlib.Core.List.{[], ◌∷◌}
+use Rattle.format.specs.Tables.{row_bytes_of}
+use Rattle.cells.proofs.Laws.{cell_then}
+use Rattle.cells.proofs.put_row4.Goals as goal
+
+pub returns : goal.returns
+returns c =
+    let a = c.args in
+    cell_then a.t.now a.at a.a (row_bytes_of (a.b ∷ a.c ∷ a.d ∷ [])) c.put_cell.ensures c.put_row3.ensures

@@ -1,0 +1,16 @@
+-- The numbers of the answer, and the output that it tells of.
+use mathlib.Core.Path.{ap, ◌∙◌}
+use Rattle.format.specs.Reading.{clip_of}
+use Rattle.format.specs.Refusals.{write_numbers, output_by}
+use Rattle.format.specs.Rewriting.{encode}
+use Rattle.rewrite.proofs.Refusals.{answer_narrow}
+use Rattle.clpi.proofs.writing.clpi_rewrite.Goals as goal
+
+pub writing_of-requires : goal.writing_of-requires
+writing_of-requires c =
+    answer_narrow c.args.file.now (λ i. (c.shared_slice_known-1.given i).fits) c.args.output-1.now c.rewrite.ensures.0
+
+pub returns : goal.returns
+returns c =
+    let e = c.rewrite.ensures in
+    (c.writing_of.ensures ∙ ap write_numbers e.0, e.1 ∙ ap (λ x. output_by x (encode (clip_of c.args.file.now)) c.args.output-1.now) e.0)

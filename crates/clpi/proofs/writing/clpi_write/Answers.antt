@@ -1,0 +1,27 @@
+-- The numbers of the answer, and the output that it tells of.
+use mathlib.Core.Path.{ap, ◌∙◌}
+use Rattle.format.specs.Refusals.{write_numbers, output_by, output_after}
+use Rattle.format.specs.Rewriting.{encode}
+use Rattle.format.specs.Tables.{ClipTables, clip_in, stated}
+use Rattle.clip_information.specs.Read.{scalars_by}
+use Rattle.queries.specs.Asked.{tables_with}
+use Rattle.encode.proofs.Answers.{narrow_by_answer}
+use Rattle.clpi.proofs.writing.clpi_write.Goals as goal
+
+-- the tables that are handed over
+abbrev tables : goal.Start → ClipTables
+tables s =
+    let a = s.args in
+    tables_with (scalars_by a.info) (stated a.atcs.now a.atc_rows) (stated a.stcs.now a.stc_rows) (stated a.programs.now a.program_rows) (stated a.streams.now a.stream_rows) (stated a.maps.now a.map_rows) (stated a.entries.now a.entry_rows)
+
+pub writing_of-requires : goal.writing_of-requires
+writing_of-requires c =
+    let s : goal.Start = search in
+    narrow_by_answer (tables s) s.args.output-1.now c.write.ensures.0
+
+pub returns : goal.returns
+unfolding output_after
+returns c =
+    let s : goal.Start = search in
+    let e = c.write.ensures in
+    (c.writing_of.ensures ∙ ap write_numbers e.0, e.1 ∙ ap (λ x. output_by x (encode (clip_in (tables s))) s.args.output-1.now) e.0)

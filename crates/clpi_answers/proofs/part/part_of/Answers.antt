@@ -1,0 +1,10 @@
+-- Each case has its numbers.
+use mathlib.Core.Path.{sym, ap}
+use Rattle.clpi_answers.specs.Numbers.{place_numbers}
+use Rattle.clpi_answers.proofs.part.part_of.Goals as goal
+
+pub returns-in-At : goal.returns-in-At
+returns-in-At c = sym (ap place_numbers c.place-1.given.1)
+
+pub returns-in-Refused : goal.returns-in-Refused
+returns-in-Refused c = sym (ap place_numbers c.enum_told-1.given.1)

@@ -1,0 +1,55 @@
+-- Each case has its numbers.
+use Prim.Native.Nat.{◌≤◌}
+use mathlib.Core.Path.{◌∙◌}
+use native.Mathlib.Omega.{arith}
+use Rattle.clpi_reading.specs.Numbers.{RowsFit}
+use Rattle.clpi_reading.proofs.Laws.{numbers_of_lem, flag_is}
+use Rattle.clpi_reading.proofs.reading_of.Goals as goal
+
+-- an accepted file's counts fit
+fits : (k : goal.In-Accepted-2) → RowsFit k.answer-in-Accepted-1.given.0.1.1.0
+fits k = rw k.answer-in-Accepted-1.given.1 at c.requires
+
+pub overflow_cast-rows : goal.overflow_cast-rows
+overflow_cast-rows c =
+    let few : c.answer-in-TooShort-1.given.0.1.0 ≤ 66846465 = rw c.answer-in-TooShort-1.given.1 at c.requires in
+    record { fits = omega arith }
+
+pub overflow_cast-result : goal.overflow_cast-result
+overflow_cast-result c = let k : goal.In-Accepted-2 = search in record { fits = omega (arith, (fits k).atcs) }
+
+pub overflow_cast-result-in-Accepted : goal.overflow_cast-result-in-Accepted
+overflow_cast-result-in-Accepted c = let k : goal.In-Accepted-2 = search in record { fits = omega (arith, (fits k).stcs) }
+
+pub overflow_cast-result-in-Accepted-2 : goal.overflow_cast-result-in-Accepted-2
+overflow_cast-result-in-Accepted-2 c = let k : goal.In-Accepted-2 = search in record { fits = omega (arith, (fits k).programs) }
+
+pub overflow_cast-result-in-Accepted-3 : goal.overflow_cast-result-in-Accepted-3
+overflow_cast-result-in-Accepted-3 c = let k : goal.In-Accepted-2 = search in record { fits = omega (arith, (fits k).streams) }
+
+pub overflow_cast-result-in-Accepted-4 : goal.overflow_cast-result-in-Accepted-4
+overflow_cast-result-in-Accepted-4 c = let k : goal.In-Accepted-2 = search in record { fits = omega (arith, (fits k).maps) }
+
+pub overflow_cast-result-in-Accepted-5 : goal.overflow_cast-result-in-Accepted-5
+overflow_cast-result-in-Accepted-5 c = let k : goal.In-Accepted-2 = search in record { fits = omega (arith, (fits k).entries) }
+
+pub overflow_cast-result-in-Accepted-6 : goal.overflow_cast-result-in-Accepted-6
+overflow_cast-result-in-Accepted-6 c = let k : goal.In-Accepted-2 = search in record { fits = omega (arith, (fits k).extensions) }
+
+pub overflow_cast-result-in-Accepted-7 : goal.overflow_cast-result-in-Accepted-7
+overflow_cast-result-in-Accepted-7 c = let k : goal.In-Accepted-2 = search in record { fits = omega (arith, (fits k).list_programs) }
+
+pub overflow_cast-result-in-Accepted-8 : goal.overflow_cast-result-in-Accepted-8
+overflow_cast-result-in-Accepted-8 c = let k : goal.In-Accepted-2 = search in record { fits = omega (arith, (fits k).list_streams) }
+
+pub returns-in-Refused : goal.returns-in-Refused
+returns-in-Refused c =
+    c.refused.ensures ∙ numbers_of_lem c.answer-1.given.1
+
+pub returns-in-TooShort : goal.returns-in-TooShort
+returns-in-TooShort c =
+    c.refused-in-TooShort.ensures ∙ numbers_of_lem c.answer-in-TooShort-1.given.1
+
+pub returns-in-Accepted : goal.returns-in-Accepted
+returns-in-Accepted c =
+    rw (flag_is c.answer-in-Accepted-1.given.0.1.1.1.0) (numbers_of_lem c.answer-in-Accepted-1.given.1)

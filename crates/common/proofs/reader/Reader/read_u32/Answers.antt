@@ -1,0 +1,23 @@
+-- What `within` answers decides between a number of four bytes and none.
+use lib.ListN.{length}
+use Prim.Native.Nat.{◌+◌}
+use mathlib.Core.Path.{sym, ◌∙◌}
+use native.Mathlib.Omega.{arith}
+use Rattle.common.proofs.Laws.{number_read, number_past, passed}
+use Rattle.common.proofs.reader.Reader.read_u32.Goals as goal
+
+pub u32_at-requires : goal.u32_at-requires
+u32_at-requires c = let a = c.args in passed (a.self.pos + 4) (length a.buf.now) c.within.ensures c.if-within.true
+
+pub overflow_add-result : goal.overflow_add-result
+overflow_add-result c =
+    let a = c.args in
+    omega (arith, passed (a.self.pos + 4) (length a.buf.now) c.within.ensures c.if-within.true)
+
+pub returns-then-within : goal.returns-then-within
+returns-then-within c =
+    let a = c.args in
+    number_read a.buf.now a.self.pos 4 (sym c.within.ensures ∙ c.if-within.true) c.u32_at.ensures
+
+pub returns-else-within : goal.returns-else-within
+returns-else-within c = let a = c.args in number_past a.buf.now a.self.pos 4 (sym c.within.ensures ∙ c.if-within.false)

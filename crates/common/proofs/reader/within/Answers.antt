@@ -1,0 +1,9 @@
+-- The test on what is left is the test on the sum, which the code never forms.
+use Rattle.common.proofs.Laws.{past, rest}
+use Rattle.common.proofs.reader.within.Goals as goal
+
+pub returns-then-pos-len : goal.returns-then-pos-len
+returns-then-pos-len c = let a = c.args in past a.pos a.n a.len c.if-pos-len.true
+
+pub returns-else-pos-len : goal.returns-else-pos-len
+returns-else-pos-len c = let a = c.args in rest a.pos a.n a.len c.if-pos-len.false

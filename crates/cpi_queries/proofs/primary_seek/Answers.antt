@@ -1,0 +1,40 @@
+-- The packet is sought in the primary map; without maps there must be no entries.
+use Prim.Native.Nat.{◌<◌}
+use mathlib.Core.Path.{◌≡◌, sym, ap, ◌∙◌}
+use native.Mathlib.Omega.{arith}
+use Rattle.format.specs.Questions.{primary_video_ep_map, none, number, ask}
+use Rattle.format.specs.Tables.{stated}
+use Rattle.queries.specs.Answers.{found_of}
+use Rattle.queries.specs.Asked.{only_maps}
+use Rattle.cpi_queries.proofs.Choice.{not_there, no_maps_refused, no_maps_none, map_below, sought}
+use Rattle.cpi_queries.proofs.primary_seek.Goals as goal
+
+-- there are no maps
+none_found : (e : goal.In-Nothing) → let a = e.args in none ≡ ask primary_video_ep_map (only_maps (stated a.maps.now a.map_rows))
+none_found e = sym (ap found_of e.enum_told-1.given.1) ∙ e.primary_video_ep_map.ensures
+
+-- there is a primary map
+module _ (c : goal.In-Number) where
+  found_map : let a = c.args in number c.row-1.given.0.0 ≡ ask primary_video_ep_map (only_maps (stated a.maps.now a.map_rows))
+  found_map = sym (ap found_of c.row-1.given.1) ∙ c.primary_video_ep_map.ensures
+
+  below : let a = c.args in c.row-1.given.0.0 < a.map_rows
+  below = let a = c.args in map_below a.is_after a.at.0 (stated a.maps.now a.map_rows) (stated a.entries.now a.entry_rows) found_map
+
+pub returns-then-entry_rows-ne0 : goal.returns-then-entry_rows-ne0
+returns-then-entry_rows-ne0 c = let a = c.args in no_maps_refused a.is-after a.at.0 (stated a.maps.now a.map_rows) (stated a.entries.now a.entry_rows) (none_found c) c.if-entry_rows-ne0.true
+
+pub overflow_cast-row : goal.overflow_cast-row
+overflow_cast-row c = record { fits = omega (arith, below c) }
+
+pub returns-in-Refused : goal.returns-in-Refused
+returns-in-Refused c = let a = c.args in not_there a.is-after a.at.0 (stated a.maps.now a.map_rows) (stated a.entries.now a.entry_rows) (sym (ap found_of c.refusal-1.given.1) ∙ c.primary_video_ep_map.ensures)
+
+pub returns-else-entry_rows-ne0 : goal.returns-else-entry_rows-ne0
+returns-else-entry_rows-ne0 c = let a = c.args in no_maps_none a.is-after a.at.0 (stated a.maps.now a.map_rows) (stated a.entries.now a.entry_rows) (none_found c) c.if-entry_rows-ne0.false
+
+pub returns-in-Number : goal.returns-in-Number
+returns-in-Number c =
+    let k = c in
+    let a = k.before.before.before.before.before.before.args in
+    c.seek.ensures ∙ sought a.is-after a.at.0 (stated a.maps.now a.map_rows) (stated a.entries.now a.entry_rows) (found_map k)

@@ -1,0 +1,63 @@
+-- Each turn stores one row behind those before it.
+use Prim.Native.Nat.{ℕ, ◌+◌, ◌*◌, ◌-◌, ◌≤◌}
+use mathlib.Core.Path.{◌≡◌, ap}
+use native.Mathlib.Omega.{arith}
+use lib.ListN.{length}
+use Rattle.format.specs.Bytes.{flat}
+use Rattle.format.specs.Tables.{cells_at}
+use Rattle.format.proofs.Rows.{rest_all, rest_done}
+use Rattle.row_values.specs.Kinds.{cells_of, bytes_by}
+use Rattle.row_bytes.proofs.Storing.{storing_first, storing_done, row_room_lem, row_put}
+use Rattle.encode_rows.specs.Rows.{step_of, rows_bytes}
+use Rattle.encode_rows.proofs.Rows.{cells_few, pass_first, row_inside, pass_turn, same_bytes_lem}
+use Rattle.encode_rows.proofs.put_rows.Goals as goal
+
+-- the next row ends inside the table
+inside : (c : goal.In-loop-k) → let a = c.args in c.loop-k.q + 4 * cells_of a.kind ≤ length a.t.now
+inside c = row_inside c.args.kind c.loop-k.invariant.0 c.loop-k-test.true c.requires.0
+
+pub overflow_mul-step : goal.overflow_mul-step
+overflow_mul-step c = record { fits = omega (arith, c.Cells-of.ensures, cells_few c.args.kind) }
+
+pub loop-k-init : goal.loop-k-init
+loop-k-init c =
+    let a = c.args in
+    let t = a.t.now in (
+      pass_first a.kind t a.p a.n c.requires.0,
+      storing_first a.out.now (rows_bytes a.kind t a.p a.n) a.at c.requires.1 (ap (flat (bytes_by a.kind)) (rest_all (cells_at t (cells_of a.kind)) (step_of a.kind) a.p a.n)),
+    )
+
+pub table_row-requires : goal.table_row-requires
+table_row-requires c = inside c
+
+pub put_row-to-requires : goal.put_row-to-requires
+put_row-to-requires c =
+    let a = c.args in
+    let l = c.loop-k in
+    let row = c.table_row in
+    rw (same_bytes_lem a.kind row.result row.ensures) (row_room_lem (cells_at a.t.now (cells_of a.kind)) (step_of a.kind) (bytes_by a.kind) l.q a.n l.k l.invariant.1 c.loop-k-test.true)
+
+pub overflow_add-q : goal.overflow_add-q
+overflow_add-q c = record { fits = omega (arith, c.Cells-of.ensures, inside c) }
+
+pub loop-k-preserved : goal.loop-k-preserved
+loop-k-preserved c =
+    let a = c.args in
+    let l = c.loop-k in
+    let row = c.table_row in
+    let put = c.put_row-to.ensures in
+    let more = c.loop-k-test.true in
+    let next : l.q + 4 * c.Cells-of.result ≡ step_of a.kind l.q = ap (λ (n : ℕ). l.q + 4 * n) c.Cells-of.ensures in
+    let same = same_bytes_lem a.kind row.result row.ensures in (
+      pass_turn a.kind l.invariant.0 more c.requires.0 next,
+      row_put (cells_at a.t.now (cells_of a.kind)) (step_of a.kind) (bytes_by a.kind) l.q a.n l.k l.invariant.1 more (rw same at put.1) (rw same at put.0) next,
+    )
+
+pub shape_of-out : goal.shape_of-out
+shape_of-out c = c.loop-k.invariant.1.long
+
+pub returns : goal.returns
+returns c =
+    let a = c.args in
+    let l = c.loop-k in
+    storing_done l.invariant.1 (ap (flat (bytes_by a.kind)) (rest_done (cells_at a.t.now (cells_of a.kind)) (step_of a.kind) l.q a.n l.k c.loop-k-test.false))

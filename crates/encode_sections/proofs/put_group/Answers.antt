@@ -1,0 +1,33 @@
+-- The header row is stored, and its own rows behind it.
+use mathlib.Core.List.{List}
+use Prim.Native.Nat.{ℕ}
+use Rattle.row_values.specs.Kinds.{row_of, bytes_by}
+use Rattle.row_bytes.proofs.Storing.{first_room, second_room, both_stored}
+use Rattle.encode_rows.specs.Rows.{rows_bytes}
+use Rattle.encode_sections.specs.Sections.{head_kind, row_kind, count_of}
+use Rattle.encode_sections.proofs.put_group.Goals as goal
+
+-- the bytes of the header row, and those of its own rows
+abbrev head-part : goal.Start → List ℕ
+head-part s = bytes_by (head_kind s.args.section) (row_of (head_kind s.args.section) s.args.head)
+
+abbrev rows-part : goal.Start → List ℕ
+rows-part s = let a = s.args in rows_bytes (row_kind a.section) a.rows.now a.q (count_of a.section (row_of (head_kind a.section) a.head))
+
+pub put_row-behind-requires : goal.put_row-behind-requires
+put_row-behind-requires c =
+    let s = c in
+    rw c.head_kind.ensures (first_room s.args.out.now (head-part s) (rows-part s) s.args.at s.requires.room)
+
+pub put_rows-requires : goal.put_rows-requires
+put_rows-requires c =
+    let s = c in
+    let put = rw c.head_kind.ensures at c.put_row-behind.ensures in
+    rw (c.row_kind.ensures, c.own_count.ensures) (s.requires.rows_end, second_room s.args.out.now (head-part s) (rows-part s) s.args.at s.requires.room put.0 put.1)
+
+pub returns : goal.returns
+returns c =
+    let s = c in
+    let put = rw c.head_kind.ensures at c.put_row-behind.ensures in
+    let rest = rw (c.row_kind.ensures, c.own_count.ensures) at c.put_rows.ensures in
+    both_stored s.args.out.now (head-part s) (rows-part s) s.args.at s.requires.room put.0 put.1 rest

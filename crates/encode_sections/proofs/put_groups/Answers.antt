@@ -1,0 +1,98 @@
+-- Each turn stores one header row with its own rows.
+use Prim.Native.Nat.{ℕ, ◌+◌, ◌*◌, ◌-◌, ◌≤◌}
+use mathlib.Core.Path.{◌≡◌, refl, ap}
+use native.Mathlib.Omega.{arith}
+use lib.ListN.{length}
+use Rattle.format.specs.Bytes.{end_of}
+use Rattle.format.proofs.Sweep.{end_steps}
+use Rattle.row_values.specs.Kinds.{cells_of, row_of}
+use Rattle.row_bytes.proofs.Storing.{storing_first, part_room, part_put, storing_done}
+use Rattle.encode_rows.specs.Rows.{step_of}
+use Rattle.encode_sections.specs.Sections.{head_kind, row_kind, group_bytes, items_in}
+use Rattle.encode_rows.proofs.Rows.{cells_few, rows_inside, pass_first, row_inside, pass_turn}
+use Rattle.encode_sections.proofs.Groups.{count_all, groups_all, groups_none, head_step, head_at, own_at, own_inside, later_inside, groups_turn}
+use Rattle.encode_sections.proofs.put_groups.Goals as goal
+
+-- the header rows end inside their table
+ends : (c : goal.In-loop-k) → let a = c.args in end_of (step_of (head_kind a.section)) 0 a.n ≤ length a.heads.now
+ends c = let a = c.args in rows_inside (head_kind a.section) a.heads.now a.n c.requires.heads_there
+
+-- so does the next one
+inside : (c : goal.In-loop-k) → let a = c.args in c.loop-k.p + 4 * cells_of (head_kind a.section) ≤ length a.heads.now
+inside c = row_inside (head_kind c.args.section) c.loop-k.invariant.0 c.loop-k-test.true (ends c)
+
+-- and so do its own rows
+own : (c : goal.In-loop-k)
+    → let a = c.args in end_of (step_of (row_kind a.section)) c.loop-k.q (own_at a.section a.heads.now c.loop-k.p) ≤ length a.rows.now
+own c =
+    let a = c.args in
+    let l = c.loop-k in
+    own_inside a.section a.heads.now a.n l.p l.q l.k c.loop-k-test.true l.invariant.1
+
+-- the header row that was read is the one at p
+head-is : (c : goal.After-table_row-head) → let a = c.args in row_of (head_kind a.section) c.table_row-head.result ≡ head_at a.section a.heads.now c.loop-k.p
+head-is c = rw c.head_kind.ensures at c.table_row-head.ensures
+
+-- the place of the rows behind its own
+next-own : (c : goal.After-own_count)
+    → let a = c.args in 4 * c.Cells-of.result * c.own_count.result ≡ 4 * cells_of (row_kind a.section) * own_at a.section a.heads.now c.loop-k.p
+next-own c = rw (c.Cells-of.ensures, c.row_kind.ensures, c.own_count.ensures, head-is c)
+
+pub overflow_mul-step : goal.overflow_mul-step
+overflow_mul-step c = record { fits = omega (arith, c.Cells-of.ensures, cells_few c.row_kind.result) }
+
+pub loop-k-init : goal.loop-k-init
+loop-k-init c =
+    let s = c in
+    let a = s.args in
+    let hs = a.heads.now in (
+      pass_first (head_kind a.section) hs 0 a.n (rows_inside (head_kind a.section) hs a.n s.requires.heads_there),
+      rw (count_all a.section hs a.n) (rows_inside (row_kind a.section) a.rows.now _ s.requires.rows_there),
+      storing_first a.out.now (items_in a.section hs a.n a.rows.now) a.at s.requires.room (groups_all a.section hs a.n a.rows.now),
+    )
+
+pub table_row-head-requires : goal.table_row-head-requires
+table_row-head-requires c = rw c.head_kind.ensures (inside c)
+
+pub put_group-to-requires : goal.put_group-to-requires
+put_group-to-requires c =
+    let i = c in
+    let a = c.args in
+    let l = c.loop-k in
+    let hs = a.heads.now in
+    rw (head-is c) (record { rows_end = own i; room = part_room l.invariant.2 (group_bytes a.section (head_at a.section hs l.p) a.rows.now l.q) _ (groups_turn a.section hs a.n l.p l.q l.k i.loop-test.true a.rows.now refl) })
+
+pub overflow_add-p : goal.overflow_add-p
+overflow_add-p c = record { fits = omega (arith, head_step c.args.section c.loop-k.p, inside c) }
+
+pub overflow_mul-q : goal.overflow_mul-q
+overflow_mul-q c = let a = c.args in record { fits = omega (arith, next-own c, own c, end_steps (4 * cells_of (row_kind a.section)) c.loop-k.q (own_at a.section a.heads.now c.loop-k.p)) }
+
+pub overflow_add-q : goal.overflow_add-q
+overflow_add-q c = let a = c.args in record { fits = omega (arith, next-own c, own c, end_steps (4 * cells_of (row_kind a.section)) c.loop-k.q (own_at a.section a.heads.now c.loop-k.p)) }
+
+pub loop-k-preserved : goal.loop-k-preserved
+loop-k-preserved c =
+    let i = c in
+    let a = c.args in
+    let l = c.loop-k in
+    let hs = a.heads.now in
+    let rs = a.rows.now in
+    let more = i.loop-test.true in
+    let step = head_step a.section l.p in
+    let next = ap (λ (x : ℕ). l.q + x) (next-own c) in
+    let put = rw (head-is c) at c.put_group-to.ensures in
+    rw step (
+      pass_turn (head_kind a.section) l.invariant.0 more (ends i) refl,
+      later_inside a.section hs a.n l.p l.q l.k more l.invariant.1 next,
+      part_put l.invariant.2 (group_bytes a.section (head_at a.section hs l.p) rs l.q) _ (groups_turn a.section hs a.n l.p l.q l.k more rs next) put.1 put.0,
+    )
+
+pub shape_of-out : goal.shape_of-out
+shape_of-out c = c.loop-k.invariant.2.long
+
+pub returns : goal.returns
+returns c =
+    let a = c.args in
+    let l = c.loop-k in
+    storing_done l.invariant.2 (groups_none a.section a.heads.now a.n a.rows.now l.p l.q l.k c.loop-k-test.false)

@@ -1,0 +1,43 @@
+-- The six bytes are stored, and the header rows with their rows behind them.
+use Prim.Native.Nat.{ℕ, ◌+◌, ◌-◌}
+use mathlib.Core.Path.{◌≡◌, sym, ap}
+use mathlib.Core.List.{List}
+use native.Mathlib.Omega.{arith}
+use lib.ListN.{length}
+use Rattle.section_heads.proofs.Stored.{section_head, section_head_lem}
+use Rattle.row_bytes.proofs.Storing.{first_room, second_room, both_stored}
+use Rattle.encode_sections.specs.Sections.{items_in}
+use Rattle.encode_sections.proofs.Sections.{items_long, section_parts, parts_room}
+use Rattle.encode_sections.proofs.put_section.Goals as goal
+
+-- the six bytes, and what stands behind them
+abbrev head-part : goal.Start → List ℕ
+head-part s = section_head (s.args.len - 4) s.args.n
+
+abbrev items_part : goal.Start → List ℕ
+items_part s = let a = s.args in items_in a.section a.heads.now a.n a.rows.now
+
+-- where these begin
+behind-head : (s : goal.Start) → s.args.at + 6 ≡ s.args.at + length (head-part s)
+behind-head s = ap (λ (w : ℕ). s.args.at + w) (sym (section_head_lem (s.args.len - 4) s.args.n))
+
+pub overflow_sub-len : goal.overflow_sub-len
+overflow_sub-len c = omega (arith, items_long c.requires)
+
+pub put_head-requires : goal.put_head-requires
+put_head-requires c =
+    let s = c in
+    rw (behind-head s) (first_room s.args.out.now (head-part s) (items_part s) s.args.at (parts_room s.requires))
+
+pub put_groups-requires : goal.put_groups-requires
+put_groups-requires c =
+    let s = c in record {
+      heads_there = s.requires.counted.heads_there;
+      rows_there = rw s.requires.counted.adds s.requires.counted.rows_there;
+      room = second_room s.args.out.now (head-part s) (items_part s) s.args.at (parts_room s.requires) (behind-head s) c.put_head.ensures;
+    }
+
+pub returns : goal.returns
+returns c =
+    let s = c in
+    rw (← section_parts s.requires) (both_stored s.args.out.now (head-part s) (items_part s) s.args.at (parts_room s.requires) (behind-head s) c.put_head.ensures c.put_groups.ensures)

@@ -1,0 +1,64 @@
+-- Each turn stores the entries before the next coarse row's first fine row and steps to that row; those that are left are stored behind the loop.
+use Prim.Native.Nat.{◌≤◌}
+use mathlib.Core.Logic.{⊎_elim}
+use native.Mathlib.Omega.{arith}
+use Rattle.ep_entries.proofs.Walks.{steps_on, walking_less}
+use Rattle.ep_entries.proofs.Joined.{Filled, filled_first, filled_stretch, filled_step, filled_done}
+use Rattle.ep_entries.proofs.entries.put_entries.Goals as goal
+
+pub loop-w-init : goal.loop-w-init
+loop-w-init c =
+    filled_first c.args.file.now c.args.m c.args.table-1.now c.args.at c.start-w.result c.start-w.ensures
+
+pub put_stretch-requires : goal.put_stretch-requires
+put_stretch-requires c =
+    record {
+      turns = omega arith;
+      fine_in = omega (arith, c.loop-w-test.true, c.requires.rows.fine_in);
+      fits = omega (arith, c.loop-w-test.true, c.requires.fits, c.loop-w.invariant.same);
+    }
+
+pub at_row-w-requires : goal.at_row-w-requires
+at_row-w-requires c =
+    let w = c.loop-w.w in
+    let steps = c.loop-w.invariant.walk.steps in
+    (steps.room, (steps_on c.args.file.now w.next w steps (omega arith) (omega (arith, c.loop-w-test.true, c.requires.rows.few))).0)
+
+pub loop-w-smaller : goal.loop-w-smaller
+loop-w-smaller c =
+    let w = c.loop-w.w in
+    walking_less c.args.file.now w.next w c.loop-w.invariant.walk.steps (omega arith) (omega (arith, c.loop-w-test.true, c.requires.rows.few)) c.at_row-w.ensures
+
+pub loop-w-preserved : goal.loop-w-preserved
+loop-w-preserved c =
+    let a = c.args in
+    let f = a.file.now in
+    let t₀ = a.table.now in
+    let l = c.loop-w in
+    let e = l.w.next in
+    let met : Filled f a.m t₀ a.at c.if-k-end.table-1 l.w c.if-k-end.k × (e ≤ c.if-k-end.k) =
+    ⊎_elim
+    (λ x. (rw (x.5, x.6) (filled_stretch f a.m t₀ a.at l.table l.w l.k l.inv e (omega arith) (omega arith) (omega arith) x.2.kept.1.1.1.1.1.0 x.2.ensures), omega arith))
+    (λ x. (rw (x.1, x.2) l.inv, omega arith))
+    c.if-k-end.came
+    in
+    filled_step f a.m t₀ a.at c.if-k-end.table-1 l.w c.if-k-end.k met.0 c.requires.rows.few met.1 c.at_row-w.ensures
+
+pub put_stretch-requires-2 : goal.put_stretch-requires-2
+put_stretch-requires-2 c =
+    record {
+      turns = omega (arith, c.loop-w.invariant.within);
+      fine_in = omega (arith, c.loop-w.invariant.within, c.requires.rows.fine_in);
+      fits = omega (arith, c.loop-w.invariant.within, c.requires.fits, c.loop-w.invariant.same);
+    }
+
+pub returns : goal.returns
+returns c =
+    let a = c.args in
+    let f = a.file.now in
+    let t₀ = a.table.now in
+    let l = c.loop-w in
+    let n = a.m.num_fine in
+    let p = c.put_stretch-2 in
+    filled_done f a.m t₀ a.at p.last.1.1.1.1.1.0 l.w
+    (filled_stretch f a.m t₀ a.at l.table l.w l.k l.inv n l.inv.within c.loop-w-test.false (omega arith) p.kept.1.1.1.1.1.0 p.ensures)

@@ -1,0 +1,25 @@
+-- Each turn stores the entry of fine row k; what is left of the stretch goes behind it.
+use Prim.Native.Nat.{◌+◌, ◌*◌, ◌-◌}
+use mathlib.Core.Path.{◌∙◌}
+use native.Mathlib.Omega.{arith}
+use Rattle.format.specs.ClipRecord.{entry_size}
+use Rattle.ep_entries.proofs.Joined.{stretch_turn, stretch_done}
+use Rattle.ep_entries.proofs.entries.put_stretch.Goals as goal
+
+pub loop-k-preserved : goal.loop-k-preserved
+loop-k-preserved c =
+    let a = c.args in
+    let l = c.loop-k in
+    let word = c.u32_at in
+    let put = c.put_entry in (
+      omega arith,
+      omega arith,
+      put.kept.1.1.1.0 ∙ l.inv.2,
+      stretch_turn a.file.now a.m.kind a.w.time a.w.packet a.m.fine a.end l.k l.table a.at word.result (omega arith) word.ensures.same put.ensures l.inv.3,
+    )
+
+pub returns : goal.returns
+returns c =
+    let a = c.args in
+    let l = c.loop-k in
+    stretch_done a.file.now a.m.kind a.w.time a.w.packet a.m.fine a.end l.k l.table (a.at + entry_size * l.k) c.loop-k-test.false l.inv.3

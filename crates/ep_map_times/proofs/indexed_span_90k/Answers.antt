@@ -1,0 +1,27 @@
+-- A refusal stands in front of the map's own entries; else they have their span.
+use mathlib.Core.Path.{◌≡◌, sym, ap, ◌∙◌}
+use Rattle.format.specs.Questions.{ticks90}
+use Rattle.format.specs.Tables.{stated}
+use Rattle.table_rows.specs.OwnRows.{owns, owned_of}
+use Rattle.ep_map_queries.specs.InMap.{owned_entries}
+use Rattle.ep_map_queries.proofs.Answers.{not_asked, asked, inside}
+use Rattle.ep_map_times.proofs.Lasts.{span_asks}
+use Rattle.ep_map_times.proofs.indexed_span_90k.Goals as goal
+
+-- the map's own entries
+own : (k : goal.In-Rows) → let a = k.args in owns k.first-1.given.0.0 k.first-1.given.0.1.0 ≡ owned_entries (stated a.maps.now a.map_rows) (stated a.entries.now a.entry_rows) a.map
+own k = sym (ap owned_of k.first-1.given.1) ∙ k.entries_of_map.ensures
+
+pub span-requires : goal.span-requires
+span-requires c = let a = c.args in inside (stated a.maps.now a.map_rows) (stated a.entries.now a.entry_rows) a.map (own c)
+
+pub returns-in-Refused : goal.returns-in-Refused
+returns-in-Refused c =
+    let a = c.args in
+    not_asked (span_asks (stated a.maps.now a.map_rows) (stated a.entries.now a.entry_rows) a.map) (sym (ap owned_of c.enum_told-1.given.1) ∙ c.entries_of_map.ensures)
+
+pub returns-in-Rows : goal.returns-in-Rows
+returns-in-Rows c =
+    let k = c in
+    let a = k.before.before.before.before.before.before.args in
+    ap (λ x. ticks90 x) c.span.ensures ∙ asked (span_asks (stated a.maps.now a.map_rows) (stated a.entries.now a.entry_rows) a.map) (own k)

@@ -1,0 +1,10 @@
+-- The fields fit, so their low bits are the fields.
+use Rattle.map_rows.proofs.Puts.{coarse_stored}
+use Rattle.map_rows.proofs.put_coarse_row.Goals as goal
+
+pub returns : goal.returns
+returns c =
+    let s = c in
+    let a = s.args in
+    coarse_stored a.out.now a.at a.first_fine a.time a.packet s.requires.0 s.requires.1 s.ranges.packet.fits
+    c.coarse_time_of.ensures c.coarse_row_word-word.ensures c.put_u64.ensures

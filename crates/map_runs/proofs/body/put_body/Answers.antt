@@ -1,0 +1,32 @@
+-- The address goes before the coarse rows and the fine rows behind them, as the body has them.
+use mathlib.Core.Path.{refl}
+use native.Mathlib.Omega.{arith}
+use Rattle.encode_map.proofs.Bodies.{body_stored}
+use Rattle.ep_entries.specs.Body.{entries_in}
+use Rattle.map_runs.proofs.Entries.{runs_within, body_size}
+use Rattle.map_runs.proofs.body.put_body.Goals as goal
+
+pub put_coarse-fine-requires : goal.put_coarse-fine-requires
+put_coarse-fine-requires c =
+    record { rows = c.requires.rows; room = omega (arith, c.requires.room, body_size c.args.file.now c.args.m) }
+
+pub overflow_cast-fine : goal.overflow_cast-fine
+overflow_cast-fine c =
+    record { fits = omega (arith, c.put_coarse-fine.ensures.0, c.requires.rows.few, runs_within c.args.file.now c.args.m) }
+
+pub put_u32-requires : goal.put_u32-requires
+put_u32-requires c =
+    omega (arith, c.requires.room, body_size c.args.file.now c.args.m, c.put_coarse-fine.kept)
+
+pub put_fine-requires : goal.put_fine-requires
+put_fine-requires c =
+    record { rows = c.requires.rows; room = omega (arith, c.requires.room, body_size c.args.file.now c.args.m, c.put_coarse-fine.ensures.0, c.put_coarse-fine.kept, c.put_u32.kept) }
+
+pub returns : goal.returns
+returns c =
+    let a = c.args in
+    let coarse = c.put_coarse-fine in (
+      omega (arith, coarse.ensures.0),
+      body_stored (entries_in a.file.now a.m) a.out.now a.at coarse.result _ coarse.ensures.0 refl
+          coarse.ensures.1 c.put_u32.ensures c.put_fine.ensures.1,
+    )

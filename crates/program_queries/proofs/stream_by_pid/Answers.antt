@@ -1,0 +1,8 @@
+-- The search of the table answers the question.
+use mathlib.Core.Path.{◌∙◌}
+use Rattle.format.specs.Tables.{stated}
+use Rattle.program_queries.proofs.Laws.{stream_asked}
+use Rattle.program_queries.proofs.stream_by_pid.Goals as goal
+
+pub returns : goal.returns
+returns c = let a = c.args in c.first_row_lem.ensures ∙ stream_asked (stated a.streams.now a.rows) a.pid

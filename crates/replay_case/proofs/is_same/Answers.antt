@@ -1,0 +1,80 @@
+-- A refusal has the number 1 alone; else the numbers, the tables and the extensions make up the whole.
+use Prim.Native.Nat.{ℕ, ◌<◌}
+use mathlib.Core.Path.{◌≡◌, refl, ap, ◌∙◌}
+use mathlib.Core.List.{List, [], ◌∷◌}
+use lib.ListN.{length, get_or}
+use borrow.Author.Rules.{rules}
+use Rattle.format.specs.Bytes.{IsBytes}
+use Rattle.format.specs.Refusals.{read_answer, read_numbers, tables_after}
+use Rattle.format.specs.Tables.{Nine, row_bytes_of}
+use Rattle.clpi_reading.specs.declared.ClpiReading.{ClpiReading}
+use Rattle.clpi_reading.specs.Numbers.{reading_numbers}
+use Rattle.replay_bytes.specs.Parts.{no_place}
+use Rattle.replay_case.specs.Expected.{sample_tables}
+use Rattle.replay_case.proofs.FileLaws.{ends_same, refused_alone, extensions_held, file_same}
+use Rattle.replay_case.proofs.is_same.Goals as goal
+
+-- no answer is as long as the place that is none
+small : (s : goal.Start) → length s.args.answer.now < no_place
+small s = search rules
+
+-- what was read
+module _ (c : goal.After-clpi_read-r) where
+  -- the file
+  abbrev F : List ℕ
+  F = c.args.file.now
+
+  -- the stored answer
+  abbrev A : List ℕ
+  A = c.args.answer.now
+
+  -- the file is bytes
+  bytes : IsBytes F
+  bytes i = (c.shared_slice_known-1.given i).fits
+
+  -- the answer of reading
+  abbrev R : ClpiReading
+  R = c.clpi_read-r.result
+
+  -- the tables afterwards
+  abbrev T : Nine (List ℕ)
+  T =
+      let l = c.clpi_read-r.last in
+      record {
+        atcs = l.1.0;
+        stcs = l.1.1.0;
+        programs = l.1.1.1.0;
+        streams = l.1.1.1.1.0;
+        maps = l.1.1.1.1.1.0;
+        entries = l.1.1.1.1.1.1.0;
+        extensions = l.1.1.1.1.1.1.1.0;
+        list_programs = l.1.1.1.1.1.1.1.1.0;
+        list_streams = l.1.1.1.1.1.1.1.1.1.0;
+      }
+
+  -- its numbers are the definition's
+  numbers : reading_numbers R ≡ read_numbers (read_answer F sample_tables)
+  unfolding sample_tables
+  numbers = c.clpi_read-r.ensures.0
+
+  -- and so are the tables
+  after : T ≡ tables_after F sample_tables
+  unfolding sample_tables
+  after = c.clpi_read-r.ensures.1
+
+pub returns-then-r-ne0 : goal.returns-then-r-ne0
+returns-then-r-ne0 c =
+    let k = c in
+    let alone = refused_alone (F k) (read_answer (F k) sample_tables) refl (λ e. c.if-r-ne0.true (ap (λ (l : List ℕ). get_or l 0 0) (numbers k) ∙ e)) in
+    rw (c.pass_numbers.ensures, alone) (ends_same (A k) (row_bytes_of (1 ∷ [])) (small k.before.before.before.before.before.before.before.before.before.before.before.before))
+
+pub pass_extensions-requires : goal.pass_extensions-requires
+pass_extensions-requires c =
+    let k = c in
+    extensions_held (F k) (bytes k) (R k) (T k) (numbers k) (after k) c.if-r-ne0.false
+
+pub returns : goal.returns
+returns c =
+    let k = c in
+    file_same (F k) (bytes k) (R k) (T k) (numbers k) (after k) c.if-r-ne0.false (A k) (small k.before.before.before.before.before.before.before.before.before.before.before.before)
+    c.pass_streams-p.ensures c.pass_lists-q.ensures c.pass_extensions.ensures

@@ -1,0 +1,47 @@
+-- Each turn stores a map's body and header; what is left goes behind them.
+use Prim.Native.Nat.{◌-◌}
+use native.Mathlib.Omega.{arith}
+use Rattle.rewrite_cpi.proofs.Sections.{putting_first, putting_room, putting_turn, putting_done}
+use Rattle.rewrite_cpi.proofs.put_maps.Goals as goal
+
+pub overflow_add-body : goal.overflow_add-body
+overflow_add-body c = omega (arith, c.requires.room)
+
+pub overflow_mul-body : goal.overflow_mul-body
+overflow_mul-body c = omega (arith, c.requires.few)
+
+pub overflow_add-body-2 : goal.overflow_add-body-2
+overflow_add-body-2 c = omega (arith, c.requires.room)
+
+pub loop-k-init : goal.loop-k-init
+loop-k-init c =
+    let a = c.args in
+    putting_first a.file.now a.start a.count a.out.now a.at c.requires
+
+pub put_map-body-requires : goal.put_map-body-requires
+put_map-body-requires c =
+    let a = c.args in
+    let l = c.loop-k in
+    putting_room a.file.now a.start a.count a.out.now a.at c.requires l.out l.body l.k l.inv c.loop-k-test.true
+
+pub overflow_add-k : goal.overflow_add-k
+overflow_add-k c =
+    omega (arith, c.requires.few, c.loop-k-test.true)
+
+pub loop-k-smaller : goal.loop-k-smaller
+loop-k-smaller c = omega (arith, c.loop-k-test.true)
+
+pub loop-k-preserved : goal.loop-k-preserved
+loop-k-preserved c =
+    let a = c.args in
+    let l = c.loop-k in
+    putting_turn a.file.now a.start a.count a.out.now a.at c.requires l.out l.body l.k l.inv c.loop-k-test.true c.put_map-body.ensures.0 c.put_map-body.ensures.1
+
+pub shape_of-out : goal.shape_of-out
+shape_of-out c = c.loop-k.invariant.long
+
+pub returns : goal.returns
+returns c =
+    let a = c.args in
+    let l = c.loop-k in
+    putting_done a.file.now a.start a.count a.out.now a.at c.requires l.out l.body l.k l.inv c.loop-k-test.false

@@ -1,0 +1,71 @@
+-- A turn goes on behind one stream and by the bytes that it has in the new file.
+use Prim.Native.Nat.{ℕ, ◌+◌, ◌-◌, ◌≤◌}
+use mathlib.Core.Path.{◌≡◌, refl, ap, ◌∙◌}
+use mathlib.Core.List.{List}
+use native.Mathlib.Nat.{le_trans}
+use native.Mathlib.Omega.{arith}
+use lib.ListN.{length}
+use Rattle.format.specs.Bytes.{flat}
+use Rattle.format.specs.ClipRecord.{Row}
+use Rattle.format.specs.Programs.{stream_at, next_stream}
+use Rattle.format.specs.Rewriting.{stream_bytes}
+use Rattle.format.proofs.Loops.{end_ge}
+use Rattle.format.proofs.Places.{up_stream}
+use Rattle.format.proofs.Rows.{rest_all}
+use Rattle.format.proofs.Sweep.{along_first, along_turn, along_done, along_within}
+use Rattle.row_bytes.proofs.Storing.{Adding, row_added, rows_added}
+use Rattle.rewrite_program.specs.Programs.{new_streams}
+use Rattle.rewrite_program.proofs.Laws.{places_are}
+use Rattle.rewrite_program.proofs.measure_streams.Goals as goal
+
+-- the file
+abbrev bytes : goal.In-loop-k → List ℕ
+bytes c = c.args.file.now
+
+-- within the loop the next stream ends within the file
+within : (c : goal.In-loop-k) → next_stream (bytes c) c.loop-k.q ≤ length (bytes c)
+within c = along_within c.loop-k.invariant.0 (up_stream (bytes c)) c.loop-k-test.true c.requires.0
+
+-- its length is added
+added : (c : goal.After-row_length-to) {q : ℕ} → q ≡ next_stream (bytes c) c.loop-k.q
+    → let l = c.loop-k in
+    let a = c.args in
+    let f = a.file.now in
+    Adding (stream_at f) (next_stream f) stream_bytes (a.at + length (new_streams f a.p a.n)) (l.to + c.row_length-to.result) q a.n (l.k + 1)
+added c e =
+    let l = c.loop-k in
+    let a = c.args in
+    let f = a.file.now in
+    row_added (stream_at f) (next_stream f) stream_bytes (a.at + length (new_streams f a.p a.n)) l.to l.q a.n l.k l.invariant.1 c.loop-k-test.true
+    (c.row_length-to.ensures ∙ ap (λ (r : Row). length (stream_bytes r)) c.stream_row.ensures) e
+
+pub loop-k-init : goal.loop-k-init
+loop-k-init c =
+    let a = c.args in
+    let f = a.file.now in (
+      along_first (next_stream f) (le_trans (end_ge (next_stream f) (up_stream f) a.p a.n) c.requires.0),
+      ap (λ (l : List ℕ). a.at + length l) (ap (flat stream_bytes) (rest_all (stream_at f) (next_stream f) a.p a.n)),
+    )
+
+pub stream_row-requires : goal.stream_row-requires
+stream_row-requires c = within c
+
+pub overflow_add-to : goal.overflow_add-to
+overflow_add-to c = record { fits = omega (arith, added c refl, c.requires.1) }
+
+pub next_stream-q-requires : goal.next_stream-q-requires
+next_stream-q-requires c = within c
+
+pub loop-k-preserved : goal.loop-k-preserved
+loop-k-preserved c =
+    let t = c in
+    let next = c.next_stream-q.ensures in
+    (along_turn t.before.loop.invariant.0 t.loop-test.true next (omega (arith, next, within t)), added c next)
+
+pub returns : goal.returns
+returns c =
+    let l = c.loop-k in
+    let a = c.args in
+    let f = a.file.now in
+    let all = rows_added (stream_at f) (next_stream f) stream_bytes (a.at + length (new_streams f a.p a.n)) l.to l.q a.n l.k l.invariant.1 c.loop-k-test.false in
+    places_are (along_done l.invariant.0 c.loop-k-test.false) all

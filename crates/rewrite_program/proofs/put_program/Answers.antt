@@ -1,0 +1,53 @@
+-- The program is stored, and its streams behind it.
+use Prim.Native.Nat.{◌+◌, ◌≤◌}
+use native.Mathlib.Omega.{arith}
+use lib.ListN.{length}
+use Rattle.format.proofs.Places.{program_head}
+use Rattle.rewrite_program.proofs.Laws.{program_ends, streams_within, head_place, streams_room, streams_put, head_room}
+use Rattle.rewrite_program.proofs.put_program.Goals as goal
+
+-- the eight bytes end within the file
+head : (c : goal.Start) → c.args.p + 8 ≤ length c.args.file.now
+head c = omega (arith, program_head c.args.file.now c.args.p, c.requires.0)
+
+pub program_row-row-requires : goal.program_row-row-requires
+program_row-row-requires c = head c
+
+pub put_row-to-requires : goal.put_row-to-requires
+put_row-to-requires c =
+    let t = c in
+    let a = t.args in
+    head_room a.file.now a.p a.out.now a.at c.program_row-row.ensures t.requires.1
+
+pub overflow_add-p : goal.overflow_add-p
+overflow_add-p c = omega (arith, head c)
+
+pub u8_at-num_streams-requires : goal.u8_at-num_streams-requires
+u8_at-num_streams-requires c = omega (arith, head c)
+
+pub overflow_add-p-2 : goal.overflow_add-p-2
+overflow_add-p-2 c = omega (arith, head c)
+
+pub put_streams-requires : goal.put_streams-requires
+put_streams-requires c =
+    let t = c in
+    let a = t.args in
+    let f = a.file.now in
+    let count = c.u8_at-num_streams.ensures.same in
+    let is = c.program_row-row.ensures in
+    let head = c.put_row-to.ensures in
+    let place = head_place f a.p count a.out.now a.at is head in
+    let room = streams_room f a.p count a.out.now a.at is head t.requires.1 in
+    (streams_within f a.p count t.requires.0, omega arith)
+
+pub returns : goal.returns
+returns c =
+    let a = c.args in
+    let f = a.file.now in
+    let count = c.u8_at-num_streams.ensures.same in
+    let is = c.program_row-row.ensures in
+    let head = c.put_row-to.ensures in
+    let put = c.put_streams.ensures in (
+      program_ends f a.p count a.at (head_place f a.p count a.out.now a.at is head) put.0,
+      streams_put f a.p count a.out.now a.at is head put.1,
+    )

@@ -1,0 +1,63 @@
+-- A turn goes on behind one program and its streams, and by the bytes that they have in the new file.
+use Prim.Native.Nat.{ℕ, ◌+◌, ◌-◌, ◌≤◌}
+use mathlib.Core.Path.{◌≡◌, refl, ap, ◌∙◌}
+use mathlib.Core.List.{List}
+use native.Mathlib.Nat.{le_trans}
+use native.Mathlib.Omega.{arith}
+use lib.ListN.{length}
+use Rattle.format.specs.Bytes.{flat}
+use Rattle.format.specs.Programs.{next_program}
+use Rattle.format.proofs.Loops.{end_ge}
+use Rattle.format.proofs.Places.{up_program}
+use Rattle.format.proofs.Rows.{as_is, rest_all}
+use Rattle.format.proofs.Sweep.{along_first, along_turn, along_within}
+use Rattle.row_bytes.proofs.Storing.{Adding, row_added, rows_added}
+use Rattle.rewrite_program.specs.Programs.{new_program}
+use Rattle.rewrite_program.specs.declared.Places.{Places}
+use Rattle.rewrite_sections.specs.Sections.{new_items}
+use Rattle.rewrite_sections.proofs.Groups.{flat_gather}
+use Rattle.rewrite_sections.proofs.measure_items.Goals as goal
+
+-- the file
+abbrev bytes : goal.In-loop-k → List ℕ
+bytes c = c.args.file.now
+
+-- within the loop the next program ends within the file
+within : (c : goal.In-loop-k) → next_program (bytes c) c.loop-k.q ≤ length (bytes c)
+within c = along_within c.loop-k.invariant.0 (up_program (bytes c)) c.loop-k-test.true c.requires.0
+
+-- its length is added
+added : (c : goal.In-loop-k) {q to : ℕ} → q ≡ next_program (bytes c) c.loop-k.q
+    → to ≡ c.loop-k.to + length (new_program (bytes c) c.loop-k.q)
+    → let a = c.args in
+    Adding (new_program (bytes c)) (next_program (bytes c)) as_is (a.at + length (new_items (bytes c) a.p a.n)) to q a.n (c.loop-k.k + 1)
+added c e place =
+    let l = c.loop-k in
+    let a = c.args in
+    let f = bytes c in
+    rw place (row_added (new_program f) (next_program f) as_is (a.at + length (new_items f a.p a.n)) l.to l.q a.n l.k l.invariant.1 c.loop-k-test.true refl e)
+
+pub loop-k-init : goal.loop-k-init
+loop-k-init c =
+    let a = c.args in
+    let f = a.file.now in (
+      along_first (next_program f) (le_trans (end_ge (next_program f) (up_program f) a.p a.n) c.requires.0),
+      ap (λ (l : List ℕ). a.at + length l) (ap (flat as_is) (rest_all (new_program f) (next_program f) a.p a.n) ∙ flat_gather as_is (new_program f) (next_program f) a.p a.n),
+    )
+
+pub measure_program-behind-requires : goal.measure_program-behind-requires
+measure_program-behind-requires c = (within c, omega (arith, added c refl refl, c.requires.1))
+
+pub loop-k-preserved : goal.loop-k-preserved
+loop-k-preserved c =
+    let t = c in
+    let next = ap (λ (r : Places). r.file) c.measure_program-behind.ensures in
+    let place = ap (λ (r : Places). r.out) c.measure_program-behind.ensures in
+    (along_turn t.before.loop.invariant.0 t.loop-test.true next (omega (arith, next, within t)), added t next place)
+
+pub returns : goal.returns
+returns c =
+    let l = c.loop-k in
+    let a = c.args in
+    let f = a.file.now in
+    rows_added (new_program f) (next_program f) as_is (a.at + length (new_items f a.p a.n)) l.to l.q a.n l.k l.invariant.1 c.loop-k-test.false

@@ -1,0 +1,34 @@
+-- Six bytes, and behind them the programs with their streams.
+use Prim.Native.Nat.{◌+◌, ◌≤◌}
+use mathlib.Core.Path.{refl, sym, ◌∙◌}
+use native.Mathlib.Omega.{arith}
+use lib.ListN.{length}
+use Rattle.rewrite_sections.proofs.Groups.{programs_long, items_within, head_within}
+use Rattle.rewrite_sections.proofs.Lengths.{programs_short}
+use Rattle.rewrite_sections.proofs.programs_length.Goals as goal
+
+-- the six bytes end within the file
+head : (c : goal.Start) → c.args.start + 6 ≤ length c.args.file.now
+head c = head_within c.args.file.now c.args.start refl c.requires
+
+pub overflow_add-start : goal.overflow_add-start
+overflow_add-start c = omega (arith, head c)
+
+pub u8_at-num_programs-requires : goal.u8_at-num_programs-requires
+u8_at-num_programs-requires c = omega (arith, head c)
+
+pub overflow_add-start-2 : goal.overflow_add-start-2
+overflow_add-start-2 c = omega (arith, head c)
+
+pub measure_items-requires : goal.measure_items-requires
+measure_items-requires c =
+    let s = c in
+    let f = s.args.file.now in
+    let count = c.u8_at-num_programs.ensures.same in
+    let short = programs_short f (λ i. (c.shared_slice_known-1.given i).fits) s.args.start in
+    (items_within f s.args.start count s.requires, omega (arith, programs_long f s.args.start count, short))
+
+pub returns : goal.returns
+returns c =
+    let a = c.args in
+    c.measure_items.ensures ∙ sym (programs_long a.file.now a.start c.u8_at-num_programs.ensures.same)

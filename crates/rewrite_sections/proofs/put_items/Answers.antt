@@ -1,0 +1,66 @@
+-- A turn stores one program with its streams and goes on behind them, in the file and in the output.
+use Prim.Native.Nat.{ℕ, ◌-◌, ◌≤◌}
+use mathlib.Core.Path.{ap, ◌∙◌}
+use mathlib.Core.List.{List}
+use native.Mathlib.Nat.{le_trans}
+use native.Mathlib.Omega.{arith}
+use lib.ListN.{length}
+use Rattle.format.specs.Bytes.{flat}
+use Rattle.format.specs.Programs.{next_program}
+use Rattle.format.proofs.Loops.{end_ge}
+use Rattle.format.proofs.Places.{up_program}
+use Rattle.format.proofs.Rows.{as_is, rest_all, rest_done}
+use Rattle.format.proofs.Sweep.{along_first, along_turn, along_within}
+use Rattle.row_bytes.proofs.Storing.{storing_first, storing_done, row_room_lem, row_put}
+use Rattle.rewrite_program.specs.Programs.{new_program}
+use Rattle.rewrite_program.specs.declared.Places.{Places}
+use Rattle.rewrite_sections.specs.Sections.{new_items}
+use Rattle.rewrite_sections.proofs.Groups.{flat_gather}
+use Rattle.rewrite_sections.proofs.put_items.Goals as goal
+
+-- the file
+abbrev bytes : goal.In-loop-k → List ℕ
+bytes c = c.args.file.now
+
+-- within the loop the next program ends within the file
+within : (c : goal.In-loop-k) → next_program (bytes c) c.loop-k.q ≤ length (bytes c)
+within c = along_within c.loop-k.invariant.0 (up_program (bytes c)) c.loop-k-test.true c.requires.0
+
+pub loop-k-init : goal.loop-k-init
+loop-k-init c =
+    let s = c in
+    let a = s.args in
+    let f = a.file.now in (
+      along_first (next_program f) (le_trans (end_ge (next_program f) (up_program f) a.p a.n) s.requires.0),
+      storing_first a.out.now (new_items f a.p a.n) a.at s.requires.1
+          (ap (flat as_is) (rest_all (new_program f) (next_program f) a.p a.n) ∙ flat_gather as_is (new_program f) (next_program f) a.p a.n),
+    )
+
+pub put_program-behind-requires : goal.put_program-behind-requires
+put_program-behind-requires c =
+    let t = c in
+    let l = t.before.loop in
+    let f = bytes t in
+    (within t, row_room_lem (new_program f) (next_program f) as_is l.q t.before.before.before.before.args.n l.k l.invariant.1 t.loop-test.true)
+
+pub loop-k-preserved : goal.loop-k-preserved
+loop-k-preserved c =
+    let t = c in
+    let l = t.before.loop in
+    let f = bytes t in
+    let put = c.put_program-behind.ensures in
+    let next = ap (λ (r : Places). r.file) put.0 in
+    let place = ap (λ (r : Places). r.out) put.0 in (
+      along_turn l.invariant.0 t.loop-test.true next (omega (arith, next, within t)),
+      row_put (new_program f) (next_program f) as_is l.q t.before.before.before.before.args.n l.k l.invariant.1 t.loop-test.true put.1 place next,
+    )
+
+pub shape_of-out : goal.shape_of-out
+shape_of-out c = c.loop-k.invariant.1.long
+
+pub returns : goal.returns
+returns c =
+    let l = c.loop-k in
+    let a = c.args in
+    let f = a.file.now in
+    storing_done l.invariant.1 (ap (flat as_is) (rest_done (new_program f) (next_program f) l.q a.n l.k c.loop-k-test.false))

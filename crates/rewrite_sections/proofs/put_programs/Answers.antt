@@ -1,0 +1,57 @@
+-- The head is stored, and behind it the programs with their streams.
+use Prim.Native.Nat.{◌+◌, ◌-◌, ◌≤◌}
+use mathlib.Core.Path.{refl}
+use native.Mathlib.Omega.{arith}
+use lib.ListN.{length}
+use Rattle.section_heads.proofs.Stored.{section_head}
+use Rattle.rewrite_sections.proofs.Groups.{programs_long, items_room, programs_put, items_within, head_within}
+use Rattle.rewrite_sections.proofs.Lengths.{programs_short}
+use Rattle.rewrite_sections.proofs.put_programs.Goals as goal
+
+-- the six bytes end within the file
+head : (c : goal.Start) → c.args.start + 6 ≤ length c.args.file.now
+head c = head_within c.args.file.now c.args.start refl c.requires.ends
+
+-- there are six at least in the new section
+long : (c : goal.Start) → 6 ≤ c.args.size
+long c = omega (arith, c.requires.size_is, programs_long c.args.file.now c.args.start refl)
+
+pub overflow_add-start : goal.overflow_add-start
+overflow_add-start c = omega (arith, head c)
+
+pub u8_at-num_programs-requires : goal.u8_at-num_programs-requires
+u8_at-num_programs-requires c = omega (arith, head c)
+
+pub overflow_sub-size : goal.overflow_sub-size
+overflow_sub-size c = omega (arith, long c)
+
+pub overflow_cast-size : goal.overflow_cast-size
+overflow_cast-size c =
+    let s = c in
+    record { fits = omega (arith, s.requires.size_is, programs_short s.args.file.now (λ i. (c.shared_slice_known-1.given i).fits) s.args.start) }
+
+pub put_head-requires : goal.put_head-requires
+put_head-requires c = omega (arith, long c, c.requires.room)
+
+pub overflow_add-start-2 : goal.overflow_add-start-2
+overflow_add-start-2 c = omega (arith, head c)
+
+pub put_items-requires : goal.put_items-requires
+put_items-requires c =
+    let s = c in
+    let a = s.args in
+    let f = a.file.now in
+    let count = c.u8_at-num_programs.ensures.same in
+    let room = items_room f a.start count s.requires.size_is a.out.now a.at (section_head (a.size - 4) c.u8_at-num_programs.result) s.requires.room c.put_head.ensures in
+    (items_within f a.start count s.requires.ends, omega arith)
+
+pub returns : goal.returns
+returns c =
+    let s = c in
+    let a = s.args in
+    let f = a.file.now in
+    let count = c.u8_at-num_programs.ensures.same in
+    let put = c.put_items.ensures in (
+      omega (arith, put.0, s.requires.size_is, programs_long f a.start count),
+      programs_put f a.start count s.requires.size_is a.out.now a.at c.put_head.ensures put.1,
+    )

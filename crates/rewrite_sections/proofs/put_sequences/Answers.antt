@@ -1,0 +1,48 @@
+-- The head is stored, and behind it the bytes of the file, which are the items.
+use Prim.Native.Nat.{◌+◌, ◌*◌, ◌^◌, ◌<◌, ◌≤◌}
+use mathlib.Core.Path.{refl, sym, ap, ◌∙◌}
+use native.Mathlib.Omega.{arith}
+use lib.ListN.{length}
+use lib.Seq.{sets}
+use Rattle.format.specs.Bytes.{part}
+use Rattle.format.proofs.Stores.{part_then}
+use Rattle.section_heads.proofs.Stored.{section_head, section_head_lem}
+use Rattle.rewrite_sections.proofs.Groups.{sequences_end_lem, sequences_are}
+use Rattle.rewrite_sections.proofs.Lengths.{sequences_short}
+use borrow.Author.Rules.{rules}
+use Rattle.rewrite_sections.proofs.put_sequences.Goals as goal
+
+-- the items end within the file
+within : (c : goal.Start) → c.args.start + 6 + (6 * c.args.atcs + 14 * c.args.stcs) ≤ length c.args.file.now
+within c = rw (c.requires.atcs_are, c.requires.stcs_are) (omega (arith, sequences_end_lem c.args.file.now c.args.start, c.requires.ends))
+
+-- the new section is short
+short : (c : goal.After-shared_slice_known-1) → 6 + 6 * c.args.atcs + 14 * c.args.stcs < 2 ^ 32
+short c =
+    let s = c in
+    rw (s.requires.atcs_are, s.requires.stcs_are) (sequences_short s.args.file.now (λ i. (c.shared_slice_known-1.given i).fits) s.args.start)
+
+pub overflow_cast-items : goal.overflow_cast-items
+overflow_cast-items c = record { fits = omega (arith, short c) }
+
+pub overflow_cast-atcs : goal.overflow_cast-atcs
+overflow_cast-atcs c = record { fits = omega (arith, short c) }
+
+pub overflow_add-start : goal.overflow_add-start
+overflow_add-start c = omega (arith, within c)
+
+pub copy-requires : goal.copy-requires
+copy-requires c = let s = c in (omega (arith, within s), search rules)
+
+pub returns : goal.returns
+returns c =
+    let s = c in
+    let a = s.args in
+    let f = a.file.now in
+    let items = 6 * a.atcs + 14 * a.stcs in
+    let is = sequences_are f a.start (λ i. (c.shared_slice_known-1.given i).fits) s.requires.ends s.requires.atcs_are s.requires.stcs_are in (
+      omega arith,
+      part_then a.out.now a.at 6 (section_head (2 + items) a.atcs) (part f (a.start + 6) items) (section_head_lem (2 + items) a.atcs) refl
+          c.put_head.ensures c.copy.ensures
+          ∙ ap (sets a.out.now a.at) (sym is),
+    )

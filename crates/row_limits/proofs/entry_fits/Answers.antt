@@ -1,0 +1,57 @@
+-- Each test that fails is one of the definition's, and so is the last; the packet has 32 bits.
+use Prim.Native.Nat.{◌/◌, ◌%◌, ◌^◌}
+use mathlib.Core.Path.{◌≡◌, sym, ◌∙◌}
+use mathlib.Core.Bool.{true}
+use native.Mathlib.Omega.{arith}
+use lib.Dec.{ltb, eqb}
+use borrow.Author.Tests.{lt-ltb, not-true, not-false}
+use Rattle.format.specs.Bytes.{both, fits}
+use Rattle.format.specs.ClipRecord.{entry_row}
+use Rattle.format.specs.Refusals.{entry_fits}
+use Rattle.format.proofs.Fields.{time_cells}
+use Rattle.format.proofs.Tests.{both_true}
+use Rattle.row_limits.proofs.Fits.{type_wide, angle_fails, time_fails, type_decides}
+use Rattle.row_limits.proofs.entry_fits.Goals as goal
+
+-- angle and I-end fit
+module _ (c : goal.Else-not-angle_fits) where
+  narrow : let a = c.args in (ltb a.angle 2 ≡ true) × (ltb a.i_end 8 ≡ true)
+  narrow =
+      let test = c.angle_fits in
+      both_true (sym test.ensures ∙ not-false test.result c.if-not-angle_fits.false)
+
+-- what is left to test once angle and I-end fit: any time's lower cell has 32 bits, and so has any packet
+module _ (c : goal.Else-not-angle_fits) where
+  left : let s = c in
+      entry_fits s.args.map_type (entry_row s.args.angle s.args.i_end s.args.time s.args.packet s.args.entry_type)
+      ≡ both (both (ltb (s.args.time / 4294967296) 1) (both (ltb s.args.entry_type 16) true)) (both (eqb (s.args.time % 512) 0) (eqb s.args.entry_type s.args.map_type))
+  left =
+      let s = c in
+      let t = s.args.time in
+      rw ((narrow f).0, (narrow f).1, lt-ltb (t % 2 ^ 32) (2 ^ 32) (omega arith), lt-ltb _ _ s.ranges.packet.fits, time_cells t)
+
+pub returns-then-map_type-ge16 : goal.returns-then-map_type-ge16
+returns-then-map_type-ge16 c =
+    let a = c.args in
+    type_wide a.map-type (entry_row a.angle a.i_end a.time a.packet a.entry-type) (omega arith)
+
+pub returns-then-not-angle_fits : goal.returns-then-not-angle_fits
+returns-then-not-angle_fits c =
+    let a = c.args in
+    let test = c.angle_fits in
+    angle_fails (ltb a.angle 2) (ltb a.i_end 8) _ _ (sym test.ensures ∙ not-true test.result c.if-not-angle_fits.true)
+
+pub returns-then-not-time_fits : goal.returns-then-not-time_fits
+returns-then-not-time_fits c =
+    let f = c in
+    let a = f.before.before.before.args in
+    let test = c.time_fits in
+    time_fails (ltb (a.time / 4294967296) 1) (eqb (a.time % 512) 0) (both (ltb a.entry-type 16) true) (eqb a.entry-type a.map-type) (sym test.ensures ∙ not-true test.result c.if-not-time_fits.true) ∙ sym (left f)
+
+pub returns : goal.returns
+returns c =
+    let f = c in
+    let a = f.before.before.before.args in
+    let test = c.time_fits in
+    let fits = both_true {a = ltb (a.time / 4294967296) 1} (sym test.ensures ∙ not-false test.result c.if-not-time_fits.false) in
+    rw (left f, fits.0, fits.1) (type_decides a.map-type a.entry-type (omega arith))

@@ -1,0 +1,40 @@
+-- Rows that are not there are refused; no rows span nothing; else the latest end and the least start are doubled, and one lessened by the other.
+use Prim.Native.Nat.{◌≤◌}
+use mathlib.Core.Path.{refl, ◌∙◌}
+use native.Mathlib.Omega.{arith}
+use Rattle.format.specs.Questions.{stcs, presentation_span_90k}
+use Rattle.format.specs.Tables.{row_room, stc_cells, stated}
+use Rattle.queries.specs.Asked.{only_stcs}
+use Rattle.queries.proofs.Asking.{unstated, answered, room}
+use Rattle.sequence_queries.proofs.Laws.{no_span, span_is}
+use Rattle.sequence_queries.proofs.presentation_span_90k.Goals as goal
+
+-- there is room for the rows
+rows_fit : (e : goal.Else-rows-eq0) → let a = e.args in a.rows ≤ row_room stc_cells a.stcs.now
+rows_fit e = let a = e.args in room stc_cells (stated a.stcs.now a.rows) e.is_stated_lem.ensures e.if-not-is_stated.false
+
+pub returns-then-not-is_stated : goal.returns-then-not-is_stated
+returns-then-not-is_stated c =
+    let a = c.args in
+    unstated presentation_span_90k (only_stcs (stated a.stcs.now a.rows)) stcs refl c.is_stated_lem.ensures c.if-not-is_stated.true
+
+pub returns-then-rows-eq0 : goal.returns-then-rows-eq0
+returns-then-rows-eq0 c =
+    let a = c.args in
+    no_span a.stcs.now a.rows c.if-rows-eq0.true ∙ answered presentation_span_90k (only_stcs (stated a.stcs.now a.rows)) stcs refl c.is_stated_lem.ensures c.if-not-is_stated.false
+
+pub latest_end-requires : goal.latest_end-requires
+latest_end-requires c = rows_fit c
+
+pub cell_at-requires : goal.cell_at-requires
+cell_at-requires c = let e = c in omega (arith, rows_fit e, e.if2.false)
+
+pub least_start-requires : goal.least_start-requires
+least_start-requires c = rows_fit c
+
+pub returns : goal.returns
+returns c =
+    let e = c in
+    let a = e.before.before.before.before.args in
+    span_is a.stcs.now a.rows e.if2.false c.Cell-at.ensures c.latest_end.ensures c.doubled-latest.ensures c.least_start.ensures c.doubled-least.ensures c.less.ensures
+    ∙ answered presentation_span_90k (only_stcs (stated a.stcs.now a.rows)) stcs refl e.before.before.is_stated_lem.ensures e.before.if1.false

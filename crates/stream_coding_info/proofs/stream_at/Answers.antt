@@ -1,0 +1,9 @@
+-- The cells are those of the definition, one by one.
+use Rattle.stream_coding_info.proofs.Laws.{stream_is}
+use Rattle.stream_coding_info.proofs.stream_at.Goals as goal
+
+pub returns : goal.returns
+returns c =
+    let a = c.args in
+    stream_is a.file.now a.p c.u16_at-pid.ensures.same c.u8_at-size.ensures.same c.body_byte-coding.ensures c.body_byte-format.ensures
+    c.is_video-video.ensures c.aspect-ratio.ensures c.language-tag.ensures
