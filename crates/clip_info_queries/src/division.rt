@@ -13,8 +13,8 @@ const SMALLEST: u64 = 1074;
 
 // The whole quotient or the next number, the nearer to the exact quotient; where both are as near, the even one.
 fn round_half_even(quotient: u64, remainder: u64, divisor: u64) -> u64
-    requires fact_1 { quotient < 2 ^ 53 }
-    requires fact_2 { remainder < 2 ^ 32 }
+    requires quotient_small { quotient < 2 ^ 53 }
+    requires remainder_small { remainder < 2 ^ 32 }
     ensures { result ≡ nearest quotient (compare (remainder * 2) divisor) }
 {
     if remainder * 2 < divisor {
@@ -29,9 +29,9 @@ fn round_half_even(quotient: u64, remainder: u64, divisor: u64) -> u64
 // The f64 nearest to a quotient, as the machine's division gives it in the default rounding mode. Each turn works out a
 // binary digit, until there are 53: dividend times 2^shift is quotient times divisor plus remainder.
 pub(crate) fn divide(dividend: u64, divisor: u64) -> f64
-    requires fact_1 { dividend < 2 ^ 53 }
-    requires fact_2 { 0 < divisor }
-    requires fact_3 { divisor < 2 ^ 32 }
+    requires dividend_small { dividend < 2 ^ 53 }
+    requires divisor_positive { 0 < divisor }
+    requires divisor_small { divisor < 2 ^ 32 }
     ensures { result ≡ div binary64 (of_int binary64 (pos dividend)) (of_int binary64 (pos divisor)) }
 {
     if dividend == 0 {

@@ -12,7 +12,7 @@ pub loop-k-preserved : goal.loop-k-preserved
 loop-k-preserved c =
     let a = c.args in
     let l = c.loop-k in
-    (omega arith, spns_turn a.stcs.now a.first a.count a.spn l.k (found_of l.found) (omega arith) c.Cell-at.ensures c.kept-found.ensures l.invariant.1)
+    (omega arith, spns_turn a.stcs.now a.first a.count a.spn l.k (found_of l.found) (omega arith) c.cell_at.ensures c.kept-found.ensures l.invariant.1)
 
 pub returns : goal.returns
 returns c =

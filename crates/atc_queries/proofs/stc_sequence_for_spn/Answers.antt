@@ -10,15 +10,14 @@ own : (k : goal.In-Rows) → let a = k.args in owns k.first-1.given.0.0 k.first-
 own k = sym (ap owned_of k.first-1.given.1) ∙ k.stcs_of_atc.ensures
 
 pub find_spn-requires : goal.find_spn-requires
-find_spn-requires c = let a = c.args in stcs_inside (stated a.atcs.now a.atc-rows) (stated a.stcs.now a.stc-rows) a.atc a.spn (own c)
+find_spn-requires c = let a = c.args in stcs_inside (stated a.atcs.now a.atc_rows) (stated a.stcs.now a.stc_rows) a.atc a.spn (own c)
 
 pub returns-in-Refused : goal.returns-in-Refused
 returns-in-Refused c =
     let a = c.args in
-    spn_refused (stated a.atcs.now a.atc-rows) (stated a.stcs.now a.stc-rows) a.atc a.spn (sym (ap owned_of c.enum_told-1.given.1) ∙ c.stcs_of_atc.ensures)
+    spn_refused (stated a.atcs.now a.atc_rows) (stated a.stcs.now a.stc_rows) a.atc a.spn (sym (ap owned_of c.enum_told-1.given.1) ∙ c.stcs_of_atc.ensures)
 
 pub returns-in-Rows : goal.returns-in-Rows
 returns-in-Rows c =
-    let k = c in
-    let a = k.before.before.before.before.before.before.args in
-    c.find_spn.ensures ∙ spn_answered (stated a.atcs.now a.atc-rows) (stated a.stcs.now a.stc-rows) a.atc a.spn (own k)
+    let a = c.args in
+    c.find_spn.ensures ∙ spn_answered (stated a.atcs.now a.atc_rows) (stated a.stcs.now a.stc_rows) a.atc a.spn (own c)

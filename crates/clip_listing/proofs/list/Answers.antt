@@ -21,21 +21,19 @@ module _ (c : goal.After-read-answer) where
   bytes : IsBytes F
   bytes i = (c.shared_slice_known-1.given i).fits
 
-  answered : read_answer_of c.read-answer.result ≡ read_answer F listing_tables
+  answered : read_answer_of c.read_answer.result ≡ read_answer F listing_tables
   unfolding listing_tables
-  answered = c.read-answer.ensures.0
+  answered = c.read_answer.ensures.0
 
 pub returns-then-input-gt65536 : goal.returns-then-input-gt65536
-returns-then-input-gt65536 c = let s = c in shows_as (sym (listing_over s.args.input.now (search rules))) c.put_refusal.ensures
+returns-then-input-gt65536 c = shows_as (sym (listing_over c.args.input.now (search rules))) c.put_refusal.ensures
 
 pub put_answer-requires : goal.put_answer-requires
 put_answer-requires c =
-    let r = c in
-    rw (r.read.ensures.1.1.1.1.1.0, r.read.ensures.1.1.1.1.1.1.0)
-    (tellable (F r) (bytes r) (rows4096 map_cells) (rows4096 entry_cells) r.read.result c.args.out-1.now (answered r) c.requires)
+    rw (c.read_answer.ensures.1.1.1.1.1.0, c.read_answer.ensures.1.1.1.1.1.1.0)
+    (tellable (F c) (bytes c) (rows4096 map_cells) (rows4096 entry_cells) c.read_answer.result c.args.out-1.now (answered c) c.requires)
 
-pub returns : goal.returns
-returns c =
-    let r = c in
-    shows_as (rw (r.read.ensures.1.1.1.1.1.0, r.read.ensures.1.1.1.1.1.1.0) (told (F r) (bytes r) (rows4096 map_cells) (rows4096 entry_cells) r.read.result (answered r) ∙ sym (listing_within (F r) (search rules))))
+pub returns-then-input-gt65536 : goal.returns
+returns-then-input-gt65536 c =
+    shows_as (rw (c.read_answer.ensures.1.1.1.1.1.0, c.read_answer.ensures.1.1.1.1.1.1.0) (told (F c) (bytes c) (rows4096 map_cells) (rows4096 entry_cells) c.read_answer.result (answered c) ∙ sym (listing_within (F c) (search rules))))
     c.put_answer.ensures

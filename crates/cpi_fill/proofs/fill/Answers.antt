@@ -68,18 +68,18 @@ put_map_entries-n-requires c =
 pub overflow_mul-at : goal.overflow_mul-at
 overflow_mul-at c =
     let t : goal.In-loop-k = search in
-    omega (arith, bounds t, room t, c.put_map_entries-n.ensures.0)
+    omega (arith, bounds t, room t, c.put_map_entries-n.ensures.value)
 
 pub overflow_add-at : goal.overflow_add-at
 overflow_add-at c =
     let t : goal.In-loop-k = search in
     let l = c.loop-k in
-    omega (arith, bounds t, room t, c.put_map_entries-n.ensures.0)
+    omega (arith, bounds t, room t, c.put_map_entries-n.ensures.value)
 
 pub loop-k-preserved : goal.loop-k-preserved
 loop-k-preserved c =
     let l = c.loop-k in
-    filling_next l.inv c.loop-k-test.true c.put_map_entries-n.result c.put_map_entries-n.ensures.0 c.put_map.ensures c.put_map_entries-n.ensures.1
+    filling_next l.inv c.loop-k-test.true c.put_map_entries-n.result c.put_map_entries-n.ensures.value c.put_map.ensures c.put_map_entries-n.ensures.table_after
 
 pub shape_of-maps : goal.shape_of-maps
 shape_of-maps c = c.loop-k.invariant.maps_left_lem.long

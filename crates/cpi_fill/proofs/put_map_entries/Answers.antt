@@ -19,7 +19,4 @@ put_entries-requires c =
 pub returns : goal.returns
 returns c =
     let a = c.args in
-    let f = a.file.now in (
-      own_count f a.start a.q c.map_body-m.result c.map_body-m.ensures,
-      c.put_entries.ensures ∙ ap (λ (x : MapBody). sets a.table.now a.at (table_bytes (entries_in f x))) c.map_body-m.ensures,
-    )
+    let f = a.file.now in record { value = own_count f a.start a.q c.map_body-m.result c.map_body-m.ensures; table_after = c.put_entries.ensures ∙ ap (λ (x : MapBody). sets a.table.now a.at (table_bytes (entries_in f x))) c.map_body-m.ensures }

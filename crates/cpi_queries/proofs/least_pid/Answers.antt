@@ -10,14 +10,14 @@ returns-then-rows-eq0 c =
 
 pub loop-k-init : goal.loop-k-init
 loop-k-init c =
-    (omega (arith, c.if-rows-eq0.false), omega (arith, c.if-rows-eq0.false), pids_first c.args.maps.now c.args.rows c.if-rows-eq0.false c.Cell-at.ensures)
+    (omega (arith, c.if-rows-eq0.false), omega (arith, c.if-rows-eq0.false), pids_first c.args.maps.now c.args.rows c.if-rows-eq0.false c.cell_at.ensures)
 
 pub loop-k-preserved : goal.loop-k-preserved
 loop-k-preserved c =
     let l = c.loop-k in
     (l.inv.0, omega arith, pids_turn c.args.maps.now c.args.rows l.k l.least (omega arith) c.cell_at-pid.ensures c.lesser-least.ensures l.inv.2)
 
-pub returns : goal.returns
-returns c =
+pub returns-then-rows-eq0 : goal.returns
+returns-then-rows-eq0 c =
     let l = c.loop-k in
     pid_is c.args.maps.now c.args.rows l.k l.least (omega arith) l.inv.2

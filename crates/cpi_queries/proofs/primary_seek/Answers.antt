@@ -22,19 +22,18 @@ module _ (c : goal.In-Number) where
   below = let a = c.args in map_below a.is_after a.at.0 (stated a.maps.now a.map_rows) (stated a.entries.now a.entry_rows) found_map
 
 pub returns-then-entry_rows-ne0 : goal.returns-then-entry_rows-ne0
-returns-then-entry_rows-ne0 c = let a = c.args in no_maps_refused a.is-after a.at.0 (stated a.maps.now a.map_rows) (stated a.entries.now a.entry_rows) (none_found c) c.if-entry_rows-ne0.true
+returns-then-entry_rows-ne0 c = let a = c.args in no_maps_refused a.is_after a.at.0 (stated a.maps.now a.map_rows) (stated a.entries.now a.entry_rows) (none_found c) c.if-entry_rows-ne0.true
 
 pub overflow_cast-row : goal.overflow_cast-row
 overflow_cast-row c = record { fits = omega (arith, below c) }
 
 pub returns-in-Refused : goal.returns-in-Refused
-returns-in-Refused c = let a = c.args in not_there a.is-after a.at.0 (stated a.maps.now a.map_rows) (stated a.entries.now a.entry_rows) (sym (ap found_of c.refusal-1.given.1) ∙ c.primary_video_ep_map.ensures)
+returns-in-Refused c = let a = c.args in not_there a.is_after a.at.0 (stated a.maps.now a.map_rows) (stated a.entries.now a.entry_rows) (sym (ap found_of c.refusal-1.given.1) ∙ c.primary_video_ep_map.ensures)
 
 pub returns-else-entry_rows-ne0 : goal.returns-else-entry_rows-ne0
-returns-else-entry_rows-ne0 c = let a = c.args in no_maps_none a.is-after a.at.0 (stated a.maps.now a.map_rows) (stated a.entries.now a.entry_rows) (none_found c) c.if-entry_rows-ne0.false
+returns-else-entry_rows-ne0 c = let a = c.args in no_maps_none a.is_after a.at.0 (stated a.maps.now a.map_rows) (stated a.entries.now a.entry_rows) (none_found c) c.if-entry_rows-ne0.false
 
 pub returns-in-Number : goal.returns-in-Number
 returns-in-Number c =
-    let k = c in
-    let a = k.before.before.before.before.before.before.args in
-    c.seek.ensures ∙ sought a.is-after a.at.0 (stated a.maps.now a.map_rows) (stated a.entries.now a.entry_rows) (found_map k)
+    let a = c.args in
+    c.seek.ensures ∙ sought a.is_after a.at.0 (stated a.maps.now a.map_rows) (stated a.entries.now a.entry_rows) (found_map c)

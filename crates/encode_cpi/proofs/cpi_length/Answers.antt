@@ -52,7 +52,7 @@ module _ (c : goal.In-Runs-2) where
   within =
       let a = c.args in
       let l = c.loop-k in
-      runs_within_count a.maps.now a.n a.entries.now a.m l.len l.few l.row l.k l.invariant c.loop-k-test.true c.Cell-at.ensures c.cell_at-count.ensures c.count_runs.ensures c.runs-1.given.1
+      runs_within_count a.maps.now a.n a.entries.now a.m l.len l.few l.row l.k l.invariant c.loop-k-test.true c.cell_at-map_type.ensures c.cell_at-count.ensures c.count_runs.ensures c.runs-1.given.1
 
 pub returns-then-n-eq0 : goal.returns-then-n-eq0
 returns-then-n-eq0 c =
@@ -90,7 +90,7 @@ pub returns-in_default : goal.returns-in_default
 returns-in_default c =
     let a = c.args in
     let l = c.loop-k in
-    measured_unfit a.maps.now a.n a.entries.now a.m l.len l.few l.row l.k l.inv c.loop-k-test.true c.Cell-at.ensures c.cell_at-count.ensures c.count_runs.ensures c.enum_told-1.given.1
+    measured_unfit a.maps.now a.n a.entries.now a.m l.len l.few l.row l.k l.inv c.loop-k-test.true c.cell_at-map_type.ensures c.cell_at-count.ensures c.count_runs.ensures c.enum_told-1.given.1
 
 pub overflow_mul-len-in-loop-k : goal.overflow_mul-len-in-loop-k
 overflow_mul-len-in-loop-k c = let r : goal.In-Runs-2 = search in omega (arith, within r, few c)
@@ -116,7 +116,7 @@ pub loop-k-preserved : goal.loop-k-preserved
 loop-k-preserved c =
     let a = c.args in
     let l = c.loop-k in
-    measured_turn a.maps.now a.n a.entries.now a.m l.len l.few l.row l.k l.inv c.loop-k-test.true c.Cell-at.ensures c.cell_at-count.ensures c.count_runs.ensures c.runs-1.given.1 c.still_few-few.ensures
+    measured_turn a.maps.now a.n a.entries.now a.m l.len l.few l.row l.k l.inv c.loop-k-test.true c.cell_at-map_type.ensures c.cell_at-count.ensures c.count_runs.ensures c.runs-1.given.1 c.still_few-few.ensures
 
 pub returns-then-not-few : goal.returns-then-not-few
 returns-then-not-few c =
@@ -124,8 +124,8 @@ returns-then-not-few c =
     let l = c.loop-k in
     measured_many a.maps.now a.n a.entries.now a.m l.len l.few l.row l.k l.inv c.loop-k-test.false c.if-not-few.true
 
-pub returns : goal.returns
-returns c =
+pub returns-then-n-eq0 : goal.returns
+returns-then-n-eq0 c =
     let a = c.args in
     let l = c.loop-k in
     measured_done a.maps.now a.n a.entries.now a.m l.len l.few l.row l.k l.inv c.loop-k-test.false c.if-not-few.false c.if-n-eq0.false

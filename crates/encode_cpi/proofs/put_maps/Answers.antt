@@ -49,21 +49,21 @@ overflow_sub-row c =
     let t : goal.In-loop-k = search in
     let a = c.args in
     let l = c.loop-k in
-    row_within a.maps.now a.n a.entries.now a.m a.out.now a.at a.end c.requires l.out l.body l.row (l.k - 1) (stored t) (less t) c.Cell-at.ensures
+    row_within a.maps.now a.n a.entries.now a.m a.out.now a.at a.end c.requires l.out l.body l.row (l.k - 1) (stored t) (less t) c.cell_at-count.ensures
 
 pub overflow_mul-row : goal.overflow_mul-row
 overflow_mul-row c =
     let t : goal.In-loop-k = search in
     let a = c.args in
     let l = c.loop-k in
-    omega (arith, own_there a.maps.now a.n a.entries.now a.m a.out.now a.at a.end c.requires l.out l.body l.row (l.k - 1) (stored t) (less t) c.Cell-at.ensures)
+    omega (arith, own_there a.maps.now a.n a.entries.now a.m a.out.now a.at a.end c.requires l.out l.body l.row (l.k - 1) (stored t) (less t) c.cell_at-count.ensures)
 
 pub put_map-body-requires : goal.put_map-body-requires
 put_map-body-requires c =
     let t : goal.In-loop-k = search in
     let a = c.args in
     let l = c.loop-k in
-    putting_room a.maps.now a.n a.entries.now a.m a.out.now a.at a.end c.requires l.out l.body l.row (l.k - 1) (stored t) (less t) c.Cell-at.ensures
+    putting_room a.maps.now a.n a.entries.now a.m a.out.now a.at a.end c.requires l.out l.body l.row (l.k - 1) (stored t) (less t) c.cell_at-count.ensures
 
 pub loop-k-smaller : goal.loop-k-smaller
 loop-k-smaller c = omega (arith, c.loop-k-test.true)
@@ -73,7 +73,7 @@ loop-k-preserved c =
     let t : goal.In-loop-k = search in
     let a = c.args in
     let l = c.loop-k in
-    putting_turn a.maps.now a.n a.entries.now a.m a.out.now a.at a.end c.requires l.out l.body l.row (l.k - 1) (stored t) (less t) c.Cell-at.ensures c.put_map-body.ensures.0 c.put_map-body.ensures.1
+    putting_turn a.maps.now a.n a.entries.now a.m a.out.now a.at a.end c.requires l.out l.body l.row (l.k - 1) (stored t) (less t) c.cell_at-count.ensures c.put_map-body.ensures.n_value c.put_map-body.ensures.out_after
 
 pub shape_of-out : goal.shape_of-out
 shape_of-out c = c.loop-k.invariant.long

@@ -8,24 +8,22 @@ use Rattle.encode_map.proofs.put_body.Goals as goal
 -- there is room for the fine address
 deep : (c : goal.After-put_rows-coarse) → 4 ≤ c.put_rows-coarse.result
 deep c =
-    let s = c in
-    let a = s.args in
-    omega (arith, s.requires.below, c.put_rows-coarse.ensures.0, body_size a.entries.now a.p a.n)
+    let a = c.args in
+    omega (arith, c.requires.below, c.put_rows-coarse.ensures.n_value, body_size a.entries.now a.p a.n)
 
 pub overflow_sub-fine : goal.overflow_sub-fine
-overflow_sub-fine c = let s = c in let a = s.args in omega (arith, s.requires.below, body_size a.entries.now a.p a.n)
+overflow_sub-fine c = let a = c.args in omega (arith, c.requires.below, body_size a.entries.now a.p a.n)
 
 pub put_rows-coarse-requires : goal.put_rows-coarse-requires
 put_rows-coarse-requires c =
-    let s = c in
-    let a = s.args in
+    let a = c.args in
     let size = body_size a.entries.now a.p a.n in
     record {
-      there = s.requires.there;
-      few = s.requires.few;
-      fit = s.requires.fit;
-      below = omega (arith, s.requires.below, size);
-      room = omega (arith, s.requires.below, s.requires.room, size);
+      there = c.requires.there;
+      few = c.requires.few;
+      fit = c.requires.fit;
+      below = omega (arith, c.requires.below, size);
+      room = omega (arith, c.requires.below, c.requires.room, size);
     }
 
 pub overflow_sub-coarse : goal.overflow_sub-coarse
@@ -33,14 +31,12 @@ overflow_sub-coarse c = deep c
 
 pub overflow_cast-fine : goal.overflow_cast-fine
 overflow_cast-fine c =
-    let s = c in
-    let a = s.args in
-    record { fits = omega (arith, c.put_rows-coarse.ensures.0, s.requires.few, runs_within a.entries.now a.p a.n) }
+    let a = c.args in
+    record { fits = omega (arith, c.put_rows-coarse.ensures.n_value, c.requires.few, runs_within a.entries.now a.p a.n) }
 
 pub put_u32-requires : goal.put_u32-requires
 put_u32-requires c =
-    let s = c in
-    omega (arith, deep c, s.requires.room, c.put_rows-coarse.ensures.0, c.put_rows-coarse.auto)
+    omega (arith, deep c, c.requires.room, c.put_rows-coarse.ensures.n_value, c.put_rows-coarse.auto)
 
 pub overflow_sub-result : goal.overflow_sub-result
 overflow_sub-result c = deep c
@@ -49,7 +45,4 @@ pub returns : goal.returns
 returns c =
     let a = c.args in
     let rows = c.put_rows-coarse in
-    let room = deep c in (
-      omega (arith, rows.ensures.0, room, body_size a.entries.now a.p a.n, c.requires.below),
-      body_below (entries_at a.entries.now a.p a.n) a.out.now rows.result (a.end - 4 * a.n) rows.ensures.0 room rows.ensures.1 c.put_u32.ensures,
-    )
+    let room = deep c in record { n_value = omega (arith, rows.ensures.0, room, body_size a.entries.now a.p a.n, c.requires.below); out_after = body_below (entries_at a.entries.now a.p a.n) a.out.now rows.result (a.end - 4 * a.n) rows.ensures.0 room rows.ensures.1 c.put_u32.ensures }

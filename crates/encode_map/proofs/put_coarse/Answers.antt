@@ -29,14 +29,12 @@ overflow_sub-to c = deep c
 
 pub put_coarse_row-requires : goal.put_coarse_row-requires
 put_coarse_row-requires c =
-    let s = c in
-    (omega (arith, s.requires.few), s.requires.narrow, omega (arith, deep c, s.requires.room))
+    (omega (arith, c.requires.few), c.requires.narrow, omega (arith, deep c, c.requires.room))
 
 pub overflow_sub-result : goal.overflow_sub-result
 overflow_sub-result c = deep c
 
-pub returns : goal.returns
-returns c =
+pub returns-then-same_run : goal.returns
+returns-then-same_run c =
     let a = c.args in
-    let e = c in
-    own_stored (own_by a.k a.before a.pair) (coarse_by a.k a.pair.time a.pair.packet) a.out.now a.to (one e) (deep e) c.put_coarse_row.ensures
+    own_stored (own_by a.k a.before a.pair) (coarse_by a.k a.pair.time a.pair.packet) a.out.now a.to (one c) (deep c) c.put_coarse_row.ensures

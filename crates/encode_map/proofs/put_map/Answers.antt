@@ -4,30 +4,29 @@ use Rattle.encode_map.proofs.Bodies.{body_size, map_put}
 use Rattle.encode_map.proofs.put_map.Goals as goal
 
 pub overflow_sub-runs : goal.overflow_sub-runs
-overflow_sub-runs c = let s = c in let a = s.args in omega (arith, c.put_body-body.ensures.0, body_size a.entries.now a.p a.n)
+overflow_sub-runs c = let a = c.args in omega (arith, c.put_body-body.ensures.n_value, body_size a.entries.now a.p a.n)
 
 pub overflow_sub-runs-2 : goal.overflow_sub-runs-2
-overflow_sub-runs-2 c = let s = c in let a = s.args in omega (arith, c.put_body-body.ensures.0, body_size a.entries.now a.p a.n)
+overflow_sub-runs-2 c = let a = c.args in omega (arith, c.put_body-body.ensures.n_value, body_size a.entries.now a.p a.n)
 
 pub overflow_sub-runs-3 : goal.overflow_sub-runs-3
-overflow_sub-runs-3 c = let s = c in let a = s.args in omega (arith, c.put_body-body.ensures.0, body_size a.entries.now a.p a.n)
+overflow_sub-runs-3 c = let a = c.args in omega (arith, c.put_body-body.ensures.n_value, body_size a.entries.now a.p a.n)
 
 pub put_header-requires : goal.put_header-requires
 put_header-requires c =
-    let s = c in
-    let a = s.args in
+    let a = c.args in
     let body = c.put_body-body in (
-      omega (arith, s.requires.kind_fits, c.cell_at-kind.ensures.same),
-      omega (arith, s.requires.runs_fit_lem, body.ensures.0, body_size a.entries.now a.p a.n),
-      omega (arith, s.requires.body_room.few, s.requires.runs_fit_lem, body.ensures.0, body_size a.entries.now a.p a.n),
-      omega (arith, s.requires.header_room, s.requires.body_room.room, body.auto),
+      omega (arith, c.requires.kind_fits, c.cell_at-kind.ensures.same),
+      omega (arith, c.requires.runs_fit_lem, body.ensures.0, body_size a.entries.now a.p a.n),
+      omega (arith, c.requires.body_room.few, c.requires.runs_fit_lem, body.ensures.0, body_size a.entries.now a.p a.n),
+      omega (arith, c.requires.header_room, c.requires.body_room.room, body.auto),
     )
 
 pub returns : goal.returns
 returns c =
     let a = c.args in
-    let put = c.put_body-body in (
-      put.ensures.0,
-      map_put a.entries.now a.p a.n a.maps.now a.k a.out.now a.at put.result c.Cell-at.ensures c.cell_at-kind.ensures (omega (arith, put.ensures.0, body_size a.entries.now a.p a.n))
-          put.ensures.1 c.put_header.ensures,
-    )
+    let put = c.put_body-body in record {
+      n_value = put.ensures.0;
+      out_after = map_put a.entries.now a.p a.n a.maps.now a.k a.out.now a.at put.result c.cell_at-pid.ensures c.cell_at-kind.ensures (omega (arith, put.ensures.0, body_size a.entries.now a.p a.n))
+          put.ensures.1 c.put_header.ensures;
+    }

@@ -24,7 +24,7 @@ module _ (c : goal.After-loop-k) where
   last = omega (arith, c.loop-k-test.false)
 
   deep : 8 ≤ c.loop-k.to
-  deep = let s = c in let a = s.args in let l = c.loop-k in first_room a.entries.now a.p a.n a.out-1.now a.fine some l.out-1 l.to l.k l.pair l.invariant last s.requires.below
+  deep = let a = c.args in let l = c.loop-k in first_room a.entries.now a.p a.n a.out-1.now a.fine some l.out-1 l.to l.k l.pair l.invariant last c.requires.below
 
 pub returns-then-n-eq0 : goal.returns-then-n-eq0
 returns-then-n-eq0 c = let a = c.args in stored_empty a.entries.now a.p a.n a.out.now a.fine c.if-n-eq0.true
@@ -64,27 +64,25 @@ overflow_add-fine c = omega (arith, fine-there c)
 
 pub put_fine-requires : goal.put_fine-requires
 put_fine-requires c =
-    let s = c in
-    let a = s.args in
+    let a = c.args in
     let l = c.loop-k in
     record {
       there = row_there c;
       is = l.invariant.is;
-      type = s.requires.fit.type;
-      fit = row_fits a.entries.now a.p a.n l.k s.requires.fit l.invariant.stored.within;
+      type = c.requires.fit.type;
+      fit = row_fits a.entries.now a.p a.n l.k c.requires.fit l.invariant.stored.within;
       room = fine-there c;
     }
 
 pub put_coarse-to-requires : goal.put_coarse-to-requires
 put_coarse-to-requires c =
-    let s = c in
-    let a = s.args in
+    let a = c.args in
     let l = c.loop-k in
     record {
-      few = omega (arith, s.requires.few, l.invariant.stored.within);
-      narrow = pair_narrow a.entries.now (a.p + entry_size * l.k) s.requires.fit.type (row_fits a.entries.now a.p a.n l.k s.requires.fit l.invariant.stored.within) l.invariant.is;
-      below = turning_room a.entries.now a.p a.n a.out.now a.fine l.out l.to l.k l.pair l.invariant (omega (arith, c.loop-k-test.true)) c.pair_at-before.ensures s.requires.below;
-      room = omega (arith, s.requires.room, l.invariant.stored.place, l.invariant.stored.long, c.put_fine.auto);
+      few = omega (arith, c.requires.few, l.invariant.stored.within);
+      narrow = pair_narrow a.entries.now (a.p + entry_size * l.k) c.requires.fit.type (row_fits a.entries.now a.p a.n l.k c.requires.fit l.invariant.stored.within) l.invariant.is;
+      below = turning_room a.entries.now a.p a.n a.out.now a.fine l.out l.to l.k l.pair l.invariant (omega (arith, c.loop-k-test.true)) c.pair_at-before.ensures c.requires.below;
+      room = omega (arith, c.requires.room, l.invariant.stored.place, l.invariant.stored.long, c.put_fine.auto);
     }
 
 pub overflow_sub-k-in-loop-k : goal.overflow_sub-k-in-loop-k
@@ -102,16 +100,15 @@ loop-k-preserved c =
 
 pub put_fine-requires-2 : goal.put_fine-requires-2
 put_fine-requires-2 c =
-    let s = c in
-    let a = s.args in
+    let a = c.args in
     let l = c.loop-k in
     let first : a.p + entry_size * 0 ≡ a.p = omega arith in
     record {
-      there = omega (arith, s.requires.there, some c);
+      there = omega (arith, c.requires.there, some c);
       is = first_pair a.entries.now a.p a.n a.out.now a.fine (some c) l.out l.to l.k l.pair l.invariant (last c);
-      type = s.requires.fit.type;
-      fit = rw first at (row_fits a.entries.now a.p a.n 0 s.requires.fit (some c));
-      room = omega (arith, s.requires.room, l.invariant.stored.long, some c);
+      type = c.requires.fit.type;
+      fit = rw first at (row_fits a.entries.now a.p a.n 0 c.requires.fit (some c));
+      room = omega (arith, c.requires.room, l.invariant.stored.long, some c);
     }
 
 pub overflow_sub-to : goal.overflow_sub-to
@@ -119,24 +116,20 @@ overflow_sub-to c = deep c
 
 pub put_coarse_row-requires : goal.put_coarse_row-requires
 put_coarse_row-requires c =
-    let e = c in
-    let s = e.before.before.before.before.before.before in
-    let a = s.args in
-    let l = e.before.loop in
-    let fit = row_fits a.entries.now a.p a.n l.k s.requires.fit l.invariant.stored.within in (
+    let a = c.args in
+    let l = c.loop-k in
+    let fit = row_fits a.entries.now a.p a.n l.k c.requires.fit l.invariant.stored.within in (
       omega arith,
-      pair_narrow a.entries.now (a.p + entry_size * l.k) s.requires.fit.type fit l.invariant.is,
-      omega (arith, deep e, s.requires.room, l.invariant.stored.place, l.invariant.stored.long, c.put_fine-2.auto),
+      pair_narrow a.entries.now (a.p + entry_size * l.k) c.requires.fit.type fit l.invariant.is,
+      omega (arith, deep c, c.requires.room, l.invariant.stored.place, l.invariant.stored.long, c.put_fine-2.auto),
     )
 
 pub overflow_sub-result : goal.overflow_sub-result
 overflow_sub-result c = deep c
 
-pub returns : goal.returns
-returns c =
-    let e = c in
-    let s = e.before.before.before.before.before.before in
-    let a = s.args in
-    let l = e.before.loop in
-    first_stored a.entries.now a.p a.n a.out.now a.fine (some e) l.out l.to l.k l.pair l.invariant (last e) s.requires.below
+pub returns-then-n-eq0 : goal.returns
+returns-then-n-eq0 c =
+    let a = c.args in
+    let l = c.loop-k in
+    first_stored a.entries.now a.p a.n a.out.now a.fine (some c) l.out l.to l.k l.pair l.invariant (last c) c.requires.below
     c.put_fine-2.ensures c.put_coarse_row.ensures

@@ -17,7 +17,7 @@ inside : (c : goal.In-loop-k) → let a = c.args in c.loop-k.q + 4 * cells_of a.
 inside c = row_inside c.args.kind c.loop-k.invariant.0 c.loop-k-test.true c.requires.0
 
 pub overflow_mul-step : goal.overflow_mul-step
-overflow_mul-step c = record { fits = omega (arith, c.Cells-of.ensures, cells_few c.args.kind) }
+overflow_mul-step c = record { fits = omega (arith, c.cells_of-step.ensures, cells_few c.args.kind) }
 
 pub loop-k-init : goal.loop-k-init
 loop-k-init c =
@@ -38,7 +38,7 @@ put_row-to-requires c =
     rw (same_bytes_lem a.kind row.result row.ensures) (row_room_lem (cells_at a.t.now (cells_of a.kind)) (step_of a.kind) (bytes_by a.kind) l.q a.n l.k l.invariant.1 c.loop-k-test.true)
 
 pub overflow_add-q : goal.overflow_add-q
-overflow_add-q c = record { fits = omega (arith, c.Cells-of.ensures, inside c) }
+overflow_add-q c = record { fits = omega (arith, c.cells_of-step.ensures, inside c) }
 
 pub loop-k-preserved : goal.loop-k-preserved
 loop-k-preserved c =
@@ -47,7 +47,7 @@ loop-k-preserved c =
     let row = c.table_row in
     let put = c.put_row-to.ensures in
     let more = c.loop-k-test.true in
-    let next : l.q + 4 * c.Cells-of.result ≡ step_of a.kind l.q = ap (λ (n : ℕ). l.q + 4 * n) c.Cells-of.ensures in
+    let next : l.q + 4 * c.cells_of-step.result ≡ step_of a.kind l.q = ap (λ (n : ℕ). l.q + 4 * n) c.cells_of-step.ensures in
     let same = same_bytes_lem a.kind row.result row.ensures in (
       pass_turn a.kind l.invariant.0 more c.requires.0 next,
       row_put (cells_at a.t.now (cells_of a.kind)) (step_of a.kind) (bytes_by a.kind) l.q a.n l.k l.invariant.1 more (rw same at put.1) (rw same at put.0) next,

@@ -21,7 +21,7 @@ inside : (c : goal.In-loop-k) → let a = c.args in c.loop-k.p + 4 * cells_of a.
 inside c = row_inside c.args.kind c.loop-k.invariant.0 c.loop-k-test.true (ends c)
 
 pub overflow_mul-step : goal.overflow_mul-step
-overflow_mul-step c = record { fits = omega (arith, c.Cells-of.ensures, cells_few c.args.kind) }
+overflow_mul-step c = record { fits = omega (arith, c.cells_of-step.ensures, cells_few c.args.kind) }
 
 pub loop-k-init : goal.loop-k-init
 loop-k-init c =
@@ -39,7 +39,7 @@ overflow_add-sum c =
     record { fits = omega (arith, l.invariant.1, c.loop-k-test.true, few_bytes a.kind c.table_row.result c.table_row.ensures c.row_length-sum.ensures) }
 
 pub overflow_add-p : goal.overflow_add-p
-overflow_add-p c = record { fits = omega (arith, c.Cells-of.ensures, inside c) }
+overflow_add-p c = record { fits = omega (arith, c.cells_of-step.ensures, inside c) }
 
 pub loop-k-preserved : goal.loop-k-preserved
 loop-k-preserved c =
@@ -47,7 +47,7 @@ loop-k-preserved c =
     let l = c.loop-k in
     let row = c.table_row in
     let more = c.loop-k-test.true in
-    let next : l.p + 4 * c.Cells-of.result ≡ step_of a.kind l.p = ap (λ (n : ℕ). l.p + 4 * n) c.Cells-of.ensures in
+    let next : l.p + 4 * c.cells_of-step.result ≡ step_of a.kind l.p = ap (λ (n : ℕ). l.p + 4 * n) c.cells_of-step.ensures in
     let long = same_length a.kind row.result row.ensures c.row_length-sum.ensures in
     let few = few_bytes a.kind row.result row.ensures c.row_length-sum.ensures in
     (pass_turn a.kind l.invariant.0 more (ends c) next, omega (arith, l.invariant.1, few), row_added (cells_at a.t.now (cells_of a.kind)) (step_of a.kind) (bytes_by a.kind) (length (rows_bytes a.kind a.t.now 0 a.n)) l.sum l.p a.n l.k l.invariant.2 more long next)
@@ -57,4 +57,4 @@ unfolding table_rows_of
 returns c =
     let a = c.args in
     let l = c.loop-k in
-    (rows_added (cells_at a.t.now (cells_of a.kind)) (step_of a.kind) (bytes_by a.kind) (length (rows_bytes a.kind a.t.now 0 a.n)) l.sum l.p a.n l.k l.invariant.2 c.loop-k-test.false, omega (arith, l.invariant.1, l.invariant.0.turns))
+    record { value = rows_added (cells_at a.t.now (cells_of a.kind)) (step_of a.kind) (bytes_by a.kind) (length (rows_bytes a.kind a.t.now 0 a.n)) l.sum l.p a.n l.k l.invariant.2 c.loop-k-test.false; upper_bound = omega (arith, l.invariant.1, l.invariant.0.turns) }

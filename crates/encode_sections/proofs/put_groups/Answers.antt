@@ -35,20 +35,19 @@ head-is c = rw c.head_kind.ensures at c.table_row-head.ensures
 
 -- the place of the rows behind its own
 next-own : (c : goal.After-own_count)
-    → let a = c.args in 4 * c.Cells-of.result * c.own_count.result ≡ 4 * cells_of (row_kind a.section) * own_at a.section a.heads.now c.loop-k.p
-next-own c = rw (c.Cells-of.ensures, c.row_kind.ensures, c.own_count.ensures, head-is c)
+    → let a = c.args in 4 * c.cells_of-step.result * c.own_count.result ≡ 4 * cells_of (row_kind a.section) * own_at a.section a.heads.now c.loop-k.p
+next-own c = rw (c.cells_of-step.ensures, c.row_kind.ensures, c.own_count.ensures, head-is c)
 
 pub overflow_mul-step : goal.overflow_mul-step
-overflow_mul-step c = record { fits = omega (arith, c.Cells-of.ensures, cells_few c.row_kind.result) }
+overflow_mul-step c = record { fits = omega (arith, c.cells_of-step.ensures, cells_few c.row_kind.result) }
 
 pub loop-k-init : goal.loop-k-init
 loop-k-init c =
-    let s = c in
-    let a = s.args in
+    let a = c.args in
     let hs = a.heads.now in (
-      pass_first (head_kind a.section) hs 0 a.n (rows_inside (head_kind a.section) hs a.n s.requires.heads_there),
-      rw (count_all a.section hs a.n) (rows_inside (row_kind a.section) a.rows.now _ s.requires.rows_there),
-      storing_first a.out.now (items_in a.section hs a.n a.rows.now) a.at s.requires.room (groups_all a.section hs a.n a.rows.now),
+      pass_first (head_kind a.section) hs 0 a.n (rows_inside (head_kind a.section) hs a.n c.requires.heads_there),
+      rw (count_all a.section hs a.n) (rows_inside (row_kind a.section) a.rows.now _ c.requires.rows_there),
+      storing_first a.out.now (items_in a.section hs a.n a.rows.now) a.at c.requires.room (groups_all a.section hs a.n a.rows.now),
     )
 
 pub table_row-head-requires : goal.table_row-head-requires
@@ -56,11 +55,10 @@ table_row-head-requires c = rw c.head_kind.ensures (inside c)
 
 pub put_group-to-requires : goal.put_group-to-requires
 put_group-to-requires c =
-    let i = c in
     let a = c.args in
     let l = c.loop-k in
     let hs = a.heads.now in
-    rw (head-is c) (record { rows_end = own i; room = part_room l.invariant.2 (group_bytes a.section (head_at a.section hs l.p) a.rows.now l.q) _ (groups_turn a.section hs a.n l.p l.q l.k i.loop-test.true a.rows.now refl) })
+    rw (head-is c) (record { rows_end = own c; room = part_room l.invariant.2 (group_bytes a.section (head_at a.section hs l.p) a.rows.now l.q) _ (groups_turn a.section hs a.n l.p l.q l.k c.loop-k-test.true a.rows.now refl) })
 
 pub overflow_add-p : goal.overflow_add-p
 overflow_add-p c = record { fits = omega (arith, head_step c.args.section c.loop-k.p, inside c) }
@@ -73,17 +71,16 @@ overflow_add-q c = let a = c.args in record { fits = omega (arith, next-own c, o
 
 pub loop-k-preserved : goal.loop-k-preserved
 loop-k-preserved c =
-    let i = c in
     let a = c.args in
     let l = c.loop-k in
     let hs = a.heads.now in
     let rs = a.rows.now in
-    let more = i.loop-test.true in
+    let more = c.loop-k-test.true in
     let step = head_step a.section l.p in
     let next = ap (λ (x : ℕ). l.q + x) (next-own c) in
     let put = rw (head-is c) at c.put_group-to.ensures in
     rw step (
-      pass_turn (head_kind a.section) l.invariant.0 more (ends i) refl,
+      pass_turn (head_kind a.section) l.invariant.0 more (ends c) refl,
       later_inside a.section hs a.n l.p l.q l.k more l.invariant.1 next,
       part_put l.invariant.2 (group_bytes a.section (head_at a.section hs l.p) rs l.q) _ (groups_turn a.section hs a.n l.p l.q l.k more rs next) put.1 put.0,
     )

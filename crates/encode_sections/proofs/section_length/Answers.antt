@@ -9,4 +9,4 @@ pub rows_length-row_bytes-requires : goal.rows_length-row_bytes-requires
 rows_length-row_bytes-requires c = rw c.row_kind.ensures c.requires.rows_there
 
 pub returns : goal.returns
-returns c = section_is_long c.requires (rw c.head_kind.ensures at c.rows_length-head_bytes_lem.ensures.0) (rw c.row_kind.ensures at c.rows_length-row_bytes.ensures.0)
+returns c = section_is_long c.requires (rw c.head_kind.ensures at c.rows_length-head_bytes_lem.ensures.value) (rw c.row_kind.ensures at c.rows_length-row_bytes.ensures.value)

@@ -5,34 +5,29 @@ use Rattle.entry_runs.proofs.Runs.{NextRun, next_run, run_unfit, counted_first, 
 use Rattle.entry_runs.proofs.count_runs.Goals as goal
 
 -- the next run begins where this one ends
-next : (c : goal.In-At-2) → let l = c in let a = l.args in NextRun a.entries.now a.p a.n a.map_type l.loop-k.k c.end-1.given.0.0
+next : (c : goal.In-At-2) → let a = c.args in NextRun a.entries.now a.p a.n a.map_type c.loop-k.k c.end-1.given.0.0
 next c =
-    let e = c in
-    let l = e in
-    let a = l.args in
-    next_run a.entries.now a.p a.n a.map_type l.loop-k.k e.loop-k-test.true e.run_end.ensures c.end-1.given.1
+    let a = c.args in
+    next_run a.entries.now a.p a.n a.map_type c.loop-k.k c.loop-k-test.true c.run_end.ensures c.end-1.given.1
 
 pub loop-k-init : goal.loop-k-init
-loop-k-init c = let a = c.args in counted_first a.entries.now a.p a.n a.map-type
+loop-k-init c = let a = c.args in counted_first a.entries.now a.p a.n a.map_type
 
 pub returns-in_default : goal.returns-in_default
 returns-in_default c =
-    let e = c in
-    let l = e.before.before in
-    let a = l.before.before.args in
-    counted_unfit a.entries.now a.p a.n a.map-type l.loop.count l.loop.k l.loop.invariant (run_unfit a.entries.now a.p a.n a.map-type l.loop.k e.before.loop-test.true e.run-end.ensures c.enum_told-1.given.1)
+    let a = c.args in
+    counted_unfit a.entries.now a.p a.n a.map_type c.loop-k.count c.loop-k.k c.loop-k.invariant (run_unfit a.entries.now a.p a.n a.map_type c.loop-k.k c.loop-k-test.true c.run_end.ensures c.enum_told-1.given.1)
 
 pub loop-k-smaller : goal.loop-k-smaller
 loop-k-smaller c = omega (arith, (next c).past)
 
 pub loop-k-preserved : goal.loop-k-preserved
 loop-k-preserved c =
-    let l = c in
-    let a = l.before.before.args in
-    counted_turn a.entries.now a.p a.n a.map-type l.loop.count l.loop.k l.loop.invariant (next c)
+    let a = c.args in
+    counted_turn a.entries.now a.p a.n a.map_type c.loop-k.count c.loop-k.k c.loop-k.invariant (next c)
 
-pub returns : goal.returns
-returns c =
+pub returns-in_default : goal.returns
+returns-in_default c =
     let a = c.args in
     let l = c.loop-k in
-    counted_done a.entries.now a.p a.n a.map-type l.count l.k l.invariant c.loop-k-test.false
+    counted_done a.entries.now a.p a.n a.map_type l.count l.k l.invariant c.loop-k-test.false

@@ -14,31 +14,31 @@ module _ (c : goal.After-goes_on) where
 pub returns-then-not-row_fits : goal.returns-then-not-row_fits
 returns-then-not-row_fits c =
     let a = c.args in
-    first_unfit a.entries.now a.p a.n a.map-type a.from c.requires.1 c.row_fits.ensures c.if-not-row_fits.true
+    first_unfit a.entries.now a.p a.n a.map_type a.from c.requires.1 c.row_fits.ensures c.if-not-row_fits.true
 
 pub loop-k-init : goal.loop-k-init
 loop-k-init c =
     let a = c.args in
-    first_fit a.entries.now a.p a.n a.map-type a.from c.requires.1 c.row_fits.ensures c.if-not-row_fits.false
+    first_fit a.entries.now a.p a.n a.map_type a.from c.requires.1 c.row_fits.ensures c.if-not-row_fits.false
 
 pub goes_on-requires : goal.goes_on-requires
 goes_on-requires c =
     let a = c.args in
-    words_fit a.entries.now _ a.map-type c.words_at-first.ensures c.row_fits.ensures c.if-not-row_fits.false
+    words_fit a.entries.now _ a.map_type c.words_at-first.ensures c.row_fits.ensures c.if-not-row_fits.false
 
 pub returns-then-not-goes_on : goal.returns-then-not-goes_on
 returns-then-not-goes_on c =
     let g : goal.After-goes_on = search in
     let a = c.args in
-    along_stopped a.entries.now a.p a.n a.map-type a.from c.loop-k.k (compared g) c.if-not-goes_on.true c.stopped.ensures
+    along_stopped a.entries.now a.p a.n a.map_type a.from c.loop-k.k (compared g) c.if-not-goes_on.true c.stopped.ensures
 
 pub loop-k-preserved : goal.loop-k-preserved
 loop-k-preserved c =
     let g : goal.After-goes_on = search in
     let a = c.args in
-    along_turn a.entries.now a.p a.n a.map-type a.from c.loop-k.k (compared g) c.if-not-goes_on.false
+    along_turn a.entries.now a.p a.n a.map_type a.from c.loop-k.k (compared g) c.if-not-goes_on.false
 
-pub returns : goal.returns
-returns c =
+pub returns-then-not-row_fits : goal.returns
+returns-then-not-row_fits c =
     let a = c.args in
-    along_done a.entries.now a.p a.n a.map-type a.from c.loop-k.k c.loop-k.invariant c.loop-k-test.false
+    along_done a.entries.now a.p a.n a.map_type a.from c.loop-k.k c.loop-k.invariant c.loop-k-test.false

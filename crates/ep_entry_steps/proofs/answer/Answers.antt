@@ -9,4 +9,4 @@ pub returns : goal.returns
 returns c =
     let a = c.args in
     c.answer_of.ensures
-    ∙ ap (λ (x : Answer). answer_numbers x) (c.row_or_packet.ensures ∙ ap (row_or_packet a.is-packet (as_row a.entry)) c.found_row.ensures)
+    ∙ ap (λ (x : Answer). answer_numbers x) (c.row_or_packet.ensures ∙ ap (row_or_packet a.is_packet (as_row a.entry)) c.found_row.ensures)

@@ -21,6 +21,5 @@ returns-in-Refused c =
 
 pub returns-in-Rows : goal.returns-in-Rows
 returns-in-Rows c =
-    let k = c in
-    let a = k.before.before.before.before.before.before.args in
-    c.end_time.ensures ∙ asked (end_asks (stated a.maps.now a.map_rows) (stated a.entries.now a.entry_rows) a.map a.is_last) (own k)
+    let a = c.args in
+    c.end_time.ensures ∙ asked (end_asks (stated a.maps.now a.map_rows) (stated a.entries.now a.entry_rows) a.map a.is_last) (own c)

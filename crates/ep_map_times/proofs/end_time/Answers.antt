@@ -7,12 +7,10 @@ returns-then-count-eq0 c = let a = c.args in no_end a.entries.now a.first a.coun
 
 pub returns-then-is_last : goal.returns-then-is_last
 returns-then-is_last c =
-    let t = c in
-    let a = t.before.before.before.args in
-    last_end a.entries.now a.first a.count a.is_last t.if2.true t.before.if1.false c.time_of.ensures
+    let a = c.args in
+    last_end a.entries.now a.first a.count a.is_last c.if-is_last.true c.if-count-eq0.false c.time_of.ensures
 
-pub returns : goal.returns
-returns c =
-    let t = c in
-    let a = t.before.before.before.args in
-    first_end a.entries.now a.first a.count a.is_last t.if2.false t.before.if1.false c.time_of-2.ensures
+pub returns-then-count-eq0 : goal.returns
+returns-then-count-eq0 c =
+    let a = c.args in
+    first_end a.entries.now a.first a.count a.is_last c.if-is_last.false c.if-count-eq0.false c.time_of-2.ensures

@@ -22,6 +22,5 @@ returns-in-Refused c =
 
 pub returns-in-Rows : goal.returns-in-Rows
 returns-in-Rows c =
-    let k = c in
-    let a = k.before.before.before.before.before.before.args in
-    ap (λ x. ticks90 x) c.span.ensures ∙ asked (span_asks (stated a.maps.now a.map_rows) (stated a.entries.now a.entry_rows) a.map) (own k)
+    let a = c.args in
+    ap (λ x. ticks90 x) c.span.ensures ∙ asked (span_asks (stated a.maps.now a.map_rows) (stated a.entries.now a.entry_rows) a.map) (own c)

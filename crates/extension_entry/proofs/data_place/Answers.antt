@@ -16,9 +16,9 @@ returns-then-row-rows c =
 pub returns-then-start-len : goal.returns-then-start-len
 returns-then-start-len c =
     let a = c.args in
-    outside a.file.now (stated a.table.now a.rows) a.row c.if-table-rows.false c.if-row-rows.false c.Cell-at.ensures c.cell_at-len.ensures c.if-start-len.true
+    outside a.file.now (stated a.table.now a.rows) a.row c.if-table-rows.false c.if-row-rows.false c.cell_at-start.ensures c.cell_at-len.ensures c.if-start-len.true
 
-pub returns : goal.returns
-returns c =
+pub returns-then-table-rows : goal.returns
+returns-then-table-rows c =
     let a = c.args in
-    within a.file.now (stated a.table.now a.rows) a.row c.if-table-rows.false c.if-row-rows.false c.Cell-at.ensures c.cell_at-len.ensures c.if-start-len.false
+    within a.file.now (stated a.table.now a.rows) a.row c.if-table-rows.false c.if-row-rows.false c.cell_at-start.ensures c.cell_at-len.ensures c.if-start-len.false

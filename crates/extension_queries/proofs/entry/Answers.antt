@@ -28,18 +28,16 @@ pub returns-then-are_ids : goal.returns-then-are_ids
 returns-then-are_ids c =
     let a = c.args in
     let l = c.loop-k in
-    let e = c in
-    row_is a.extensions.now a.rows a.id1 a.id2 l.k (omega arith) c.Cell-at.ensures c.cell_at-in-loop-k.ensures c.are_ids.ensures l.invariant.1 c.if-are_ids.true e.before.is_stated_lem.ensures e.if1.false
+    row_is a.extensions.now a.rows a.id1 a.id2 l.k (omega arith) c.cell_at.ensures c.cell_at-in-loop-k.ensures c.are_ids.ensures l.invariant.1 c.if-are_ids.true c.is_stated_lem.ensures c.if-not-is_stated.false
 
 pub loop-k-preserved : goal.loop-k-preserved
 loop-k-preserved c =
     let a = c.args in
     let l = c.loop-k in
-    (omega arith, row_fails a.extensions.now a.rows a.id1 a.id2 l.k (omega arith) c.Cell-at.ensures c.cell_at-in-loop-k.ensures c.are_ids.ensures l.invariant.1 c.if-are_ids.false)
+    (omega arith, row_fails a.extensions.now a.rows a.id1 a.id2 l.k (omega arith) c.cell_at.ensures c.cell_at-in-loop-k.ensures c.are_ids.ensures l.invariant.1 c.if-are_ids.false)
 
-pub returns : goal.returns
-returns c =
+pub returns-then-not-is_stated : goal.returns
+returns-then-not-is_stated c =
     let a = c.args in
     let l = c.loop-k in
-    let e = c in
-    no_row a.extensions.now a.rows a.id1 a.id2 l.k c.loop-k-test.false l.invariant.1 e.before.is_stated_lem.ensures e.if1.false
+    no_row a.extensions.now a.rows a.id1 a.id2 l.k c.loop-k-test.false l.invariant.1 c.is_stated_lem.ensures c.if-not-is_stated.false

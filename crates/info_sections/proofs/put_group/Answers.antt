@@ -63,7 +63,7 @@ returns-in-Sequences c =
     let t : goal.In-Sequences = search in
     let says = (atc-there t).says in
     let put = c.put_stcs.ensures in
-    rw t.enum_told-1.given.1 (put.0 ∙ ap (end_of next_stc (c.args.p + 6)) says, (c.put_atc.ensures, rw says at put.1))
+    rw t.enum_told-1.given.1 record { value = put.0 ∙ ap (end_of next_stc (c.args.p + 6)) says; heads_after = c.put_atc.ensures; rows_after = rw says at put.1 }
 
 pub returns-in-Programs : goal.returns-in-Programs
 returns-in-Programs c =
@@ -71,4 +71,4 @@ returns-in-Programs c =
     let a = c.args in
     let says = (program-there t).says in
     let put = c.put_streams.ensures in
-    rw t.enum_told-in-Programs-1.given.1 (put.0 ∙ ap (end_of (next_stream a.file.now) (a.p + 8)) says, (c.put_program.ensures, rw says at put.1))
+    rw t.enum_told-in-Programs-1.given.1 record { value = put.0 ∙ ap (end_of (next_stream a.file.now) (a.p + 8)) says; heads_after = c.put_program.ensures; rows_after = rw says at put.1 }

@@ -21,10 +21,9 @@ loop-i-init c =
 
 pub put_entry-p-requires : goal.put_entry-p-requires
 put_entry-p-requires c =
-    let s = c in
     let l = c.loop-i in
     let turn = c.loop-i-test.true in
-    (omega (arith, s.requires.0, l.invariant.1, turn), rw l.invariant.1 (s.requires.2.narrow l.i turn), omega (arith, s.requires.1, l.invariant.2, l.invariant.3.size, turn))
+    (omega (arith, c.requires.0, l.invariant.1, turn), rw l.invariant.1 (c.requires.2.narrow l.i turn), omega (arith, c.requires.1, l.invariant.2, l.invariant.3.size, turn))
 
 pub loop-i-preserved : goal.loop-i-preserved
 loop-i-preserved c =

@@ -31,8 +31,8 @@ put_entries-p-requires c =
     let a = c.args in
     let ms = a.maps.now in
     let l = c.loop-i in
-    let x = c.Cell-at.result in
-    let count = row_cell ms map_cells l.q 2 (lit< tt) refl c.Cell-at.ensures.same in
+    let x = c.cell_at-count.result in
+    let count = row_cell ms map_cells l.q 2 (lit< tt) refl c.cell_at-count.ensures.same in
     let enough = counts_turn ms l.q a.n l.i l.k a.m x (omega arith) count l.inv.2 in
     (omega arith, omega arith, times_turn a.entries.now a.m l.k x (omega arith) c.requires.4)
 
@@ -41,8 +41,8 @@ loop-i-preserved c =
     let a = c.args in
     let ms = a.maps.now in
     let l = c.loop-i in
-    let x = c.Cell-at.result in
-    let count = row_cell ms map_cells l.q 2 (lit< tt) refl c.Cell-at.ensures.same in
+    let x = c.cell_at-count.result in
+    let count = row_cell ms map_cells l.q 2 (lit< tt) refl c.cell_at-count.ensures.same in
     let enough = counts_turn ms l.q a.n l.i l.k a.m x (omega arith) count l.inv.2 in
     let es = a.entries.now in
     let left = still_as (maps_turn ms l.q a.n l.i l.k a.m x (omega arith) count l.inv.2 es) l.inv.4 in

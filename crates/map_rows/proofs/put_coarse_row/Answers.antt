@@ -4,7 +4,6 @@ use Rattle.map_rows.proofs.put_coarse_row.Goals as goal
 
 pub returns : goal.returns
 returns c =
-    let s = c in
-    let a = s.args in
-    coarse_stored a.out.now a.at a.first_fine a.time a.packet s.requires.0 s.requires.1 s.ranges.packet.fits
+    let a = c.args in
+    coarse_stored a.out.now a.at a.first_fine a.time a.packet c.requires.0 c.requires.1 c.ranges.packet.fits
     c.coarse_time_of.ensures c.coarse_row_word-word.ensures c.put_u64.ensures

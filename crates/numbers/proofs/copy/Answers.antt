@@ -8,9 +8,8 @@ loop-k-init c = let a = c.args in copying_first a.s.now a.from a.n a.out.now a.a
 
 pub loop-k-preserved : goal.loop-k-preserved
 loop-k-preserved c =
-    let t = c in
-    let a = t.before.before.args in
-    copying_turn a.s.now a.from a.n a.out.now a.at t.before.loop.invariant t.loop-test.true t.before.before.requires.0
+    let a = c.args in
+    copying_turn a.s.now a.from a.n a.out.now a.at c.loop-k.invariant c.loop-k-test.true c.requires.0
 
 pub shape_of-out : goal.shape_of-out
 shape_of-out c = c.loop-k.invariant.long

@@ -52,12 +52,11 @@ overflow_add-cell c = omega (arith, room c)
 
 pub loop-k-preserved : goal.loop-k-preserved
 loop-k-preserved c =
-    let in-loop = c in
-    let l = in-loop.before.loop in
-    let f = bytes in-loop in
-    let more = in-loop.loop-test.true in
+    let l = c.loop-k in
+    let f = bytes c in
+    let more = c.loop-k-test.true in
     let next : l.q + 3 + c.u8_at.result ≡ next_stream f l.q = rw c.u8_at.ensures.same in (
-      along_turn l.invariant.0 more next (omega (arith, next, room in-loop)),
+      along_turn l.invariant.0 more next (omega (arith, next, room c)),
       row_put (stream_at f) (next_stream f) l.invariant.1 more c.put_stream.ensures next,
     )
 
@@ -67,4 +66,4 @@ shape_of-table c = c.loop-k.invariant.1.long
 pub returns : goal.returns
 returns c =
     let l = c.loop-k in
-    (along_done l.invariant.0 c.loop-k-test.false, filled (λ q. refl) l.invariant.1 c.loop-k-test.false)
+    record { value = along_done l.invariant.0 c.loop-k-test.false; table_after = filled (λ q. refl) l.invariant.1 c.loop-k-test.false }

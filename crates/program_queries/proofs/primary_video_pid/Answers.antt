@@ -35,8 +35,7 @@ returns-in-Nothing c =
 
 pub returns-in-Number : goal.returns-in-Number
 returns-in-Number c =
-    let k = c in
-    let t = k.before.before.before.before.before.args in
+    let t = c.args in
     let l = stated t.streams.now t.rows in
-    of_row_lem stream_cells 0 l k.before.row.given.0.0 (row_there l k.before.row.given.0.0 (found-row k)).0 (lit< tt) (omega arith) c.Cell-at.ensures
-    ∙ ap (of_row stream_pid (rows_of stream_cells l)) (found-row k) ∙ pid_of l
+    of_row_lem stream_cells 0 l c.row-1.given.0.0 (row_there l c.row-1.given.0.0 (found-row c)).0 (lit< tt) (omega arith) c.cell_at.ensures
+    ∙ ap (of_row stream_pid (rows_of stream_cells l)) (found-row c) ∙ pid_of l

@@ -14,15 +14,15 @@ pub returns-then-cell_at-numbers : goal.returns-then-cell_at-numbers
 returns-then-cell_at-numbers c =
     let a = c.args in
     let l = c.loop-k in
-    let cell = c.Cell-at.ensures.same in
+    let cell = c.cell_at.ensures.same in
     one_untold a.answer.now a.numbers.now (λ i. (c.shared_slice_known-1.given i).fits) c.if-answer-numbers.false c.loop-k-test.true (c.shared_slice_known-in-loop-k-1.given l.k).fits l.invariant (λ e. c.if-cell_at-numbers.true (cell ∙ e))
 
 pub loop-k-preserved : goal.loop-k-preserved
 loop-k-preserved c =
     let a = c.args in
     let l = c.loop-k in
-    let cell = c.Cell-at.ensures.same in
+    let cell = c.cell_at.ensures.same in
     one_told a.answer.now a.numbers.now (λ i. (c.shared_slice_known-1.given i).fits) c.if-answer-numbers.false c.loop-k-test.true (c.shared_slice_known-in-loop-k-1.given l.k).fits l.invariant (sym cell ∙ c.if-cell_at-numbers.false)
 
-pub returns : goal.returns
-returns c = all_told c.args.answer.now c.args.numbers.now c.loop-k-test.false c.loop-k.invariant
+pub returns-then-answer-numbers : goal.returns
+returns-then-answer-numbers c = all_told c.args.answer.now c.args.numbers.now c.loop-k-test.false c.loop-k.invariant

@@ -55,26 +55,23 @@ module _ (c : goal.After-clpi_read-r) where
   -- its numbers are the definition's
   numbers : reading_numbers R ≡ read_numbers (read_answer F sample_tables)
   unfolding sample_tables
-  numbers = c.clpi_read-r.ensures.0
+  numbers = c.clpi_read-r.ensures.result_value
 
   -- and so are the tables
   after : T ≡ tables_after F sample_tables
   unfolding sample_tables
-  after = c.clpi_read-r.ensures.1
+  after = c.clpi_read-r.ensures.streams2_after
 
 pub returns-then-r-ne0 : goal.returns-then-r-ne0
 returns-then-r-ne0 c =
-    let k = c in
-    let alone = refused_alone (F k) (read_answer (F k) sample_tables) refl (λ e. c.if-r-ne0.true (ap (λ (l : List ℕ). get_or l 0 0) (numbers k) ∙ e)) in
-    rw (c.pass_numbers.ensures, alone) (ends_same (A k) (row_bytes_of (1 ∷ [])) (small k.before.before.before.before.before.before.before.before.before.before.before.before))
+    let alone = refused_alone (F c) (read_answer (F c) sample_tables) refl (λ e. c.if-r-ne0.true (ap (λ (l : List ℕ). get_or l 0 0) (numbers c) ∙ e)) in
+    rw (c.pass_numbers.ensures, alone) (ends_same (A c) (row_bytes_of (1 ∷ [])) (small c))
 
 pub pass_extensions-requires : goal.pass_extensions-requires
 pass_extensions-requires c =
-    let k = c in
-    extensions_held (F k) (bytes k) (R k) (T k) (numbers k) (after k) c.if-r-ne0.false
+    extensions_held (F c) (bytes c) (R c) (T c) (numbers c) (after c) c.if-r-ne0.false
 
-pub returns : goal.returns
-returns c =
-    let k = c in
-    file_same (F k) (bytes k) (R k) (T k) (numbers k) (after k) c.if-r-ne0.false (A k) (small k.before.before.before.before.before.before.before.before.before.before.before.before)
+pub returns-then-r-ne0 : goal.returns
+returns-then-r-ne0 c =
+    file_same (F c) (bytes c) (R c) (T c) (numbers c) (after c) c.if-r-ne0.false (A c) (small c)
     c.pass_streams-p.ensures c.pass_lists-q.ensures c.pass_extensions.ensures

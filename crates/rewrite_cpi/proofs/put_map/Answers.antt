@@ -26,19 +26,19 @@ module _ (c : goal.After-put_body-runs) where
 
   -- the type fits its field
   kind-small : m.kind < 2 ^ 4
-  kind-small = kind_fits c.args.file.now c.args.start q m c.map_body-m.ensures c.put_body-runs.ensures.0
+  kind-small = kind_fits c.args.file.now c.args.start q m c.map_body-m.ensures c.put_body-runs.ensures.value
 
   -- so do the runs
   runs-small : c.put_body-runs.result ≤ 65535
-  runs-small = omega (arith, own_runs c.args.file.now c.args.start q m c.map_body-m.ensures c.put_body-runs.ensures.0, c.requires.runs_fit_lem)
+  runs-small = omega (arith, own_runs c.args.file.now c.args.start q m c.map_body-m.ensures c.put_body-runs.ensures.value, c.requires.runs_fit_lem)
 
   -- and the fine rows
   fine-small : m.num_fine < 2 ^ 18
-  fine-small = count_fits c.args.file.now c.args.start q m c.map_body-m.ensures c.put_body-runs.ensures.0
+  fine-small = count_fits c.args.file.now c.args.start q m c.map_body-m.ensures c.put_body-runs.ensures.value
 
   -- the place behind the body
   behind : c.args.body + 4 + 8 * c.put_body-runs.result + 4 * m.num_fine ≡ c.args.body + length (body_bytes (entries_of c.args.file.now c.args.start q))
-  behind = place_is c.args.file.now c.args.start q m c.map_body-m.ensures c.put_body-runs.ensures.0 c.args.body
+  behind = place_is c.args.file.now c.args.start q m c.map_body-m.ensures c.put_body-runs.ensures.value c.args.body
 
 pub put_body-runs-requires : goal.put_body-runs-requires
 put_body-runs-requires c =
@@ -71,8 +71,8 @@ overflow_add-result-3 c = let b : goal.After-put_body-runs = search in omega (ar
 pub returns : goal.returns
 returns c =
     let b : goal.After-put_body-runs = search in
-    let a = c.args in (
-      behind b,
-      map_put a.file.now a.start (q b) (m b) c.map_body-m.ensures b.put_body-runs.ensures.0 a.out.now a.body (a.at + 8 + 12 * a.k) (a.body - (a.at + 6)) c.u16_at-pid.result
-          c.u16_at-pid.ensures.same b.put_body-runs.ensures.1 c.put_header.ensures,
-    )
+    let a = c.args in record {
+      value = behind b;
+      out_after = map_put a.file.now a.start (q b) (m b) c.map_body-m.ensures b.put_body-runs.ensures.value a.out.now a.body (a.at + 8 + 12 * a.k) (a.body - (a.at + 6)) c.u16_at-pid.result
+          c.u16_at-pid.ensures.same b.put_body-runs.ensures.out_after c.put_header.ensures;
+    }

@@ -35,7 +35,7 @@ pub loop-k-preserved : goal.loop-k-preserved
 loop-k-preserved c =
     let a = c.args in
     let l = c.loop-k in
-    putting_turn a.file.now a.start a.count a.out.now a.at c.requires l.out l.body l.k l.inv c.loop-k-test.true c.put_map-body.ensures.0 c.put_map-body.ensures.1
+    putting_turn a.file.now a.start a.count a.out.now a.at c.requires l.out l.body l.k l.inv c.loop-k-test.true c.put_map-body.ensures.value c.put_map-body.ensures.out_after
 
 pub shape_of-out : goal.shape_of-out
 shape_of-out c = c.loop-k.invariant.long

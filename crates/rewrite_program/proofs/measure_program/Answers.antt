@@ -22,10 +22,9 @@ overflow_add-p-2 c = omega (arith, head c)
 
 pub measure_streams-requires : goal.measure_streams-requires
 measure_streams-requires c =
-    let s = c in
-    let f = s.args.file.now in
+    let f = c.args.file.now in
     let count = c.u8_at-num_streams.ensures.same in
-    (streams_within f s.args.p count s.requires.0, omega (arith, program_long f s.args.p count, s.requires.1))
+    (streams_within f c.args.p count c.requires.0, omega (arith, program_long f c.args.p count, c.requires.1))
 
 pub returns : goal.returns
 returns c =

@@ -58,9 +58,8 @@ next_stream-q-requires c = within c
 
 pub loop-k-preserved : goal.loop-k-preserved
 loop-k-preserved c =
-    let t = c in
     let next = c.next_stream-q.ensures in
-    (along_turn t.before.loop.invariant.0 t.loop-test.true next (omega (arith, next, within t)), added c next)
+    (along_turn c.loop-k.invariant.0 c.loop-k-test.true next (omega (arith, next, within c)), added c next)
 
 pub returns : goal.returns
 returns c =

@@ -15,9 +15,8 @@ program_row-row-requires c = head c
 
 pub put_row-to-requires : goal.put_row-to-requires
 put_row-to-requires c =
-    let t = c in
-    let a = t.args in
-    head_room a.file.now a.p a.out.now a.at c.program_row-row.ensures t.requires.1
+    let a = c.args in
+    head_room a.file.now a.p a.out.now a.at c.program_row-row.ensures c.requires.1
 
 pub overflow_add-p : goal.overflow_add-p
 overflow_add-p c = omega (arith, head c)
@@ -30,15 +29,14 @@ overflow_add-p-2 c = omega (arith, head c)
 
 pub put_streams-requires : goal.put_streams-requires
 put_streams-requires c =
-    let t = c in
-    let a = t.args in
+    let a = c.args in
     let f = a.file.now in
     let count = c.u8_at-num_streams.ensures.same in
     let is = c.program_row-row.ensures in
     let head = c.put_row-to.ensures in
     let place = head_place f a.p count a.out.now a.at is head in
-    let room = streams_room f a.p count a.out.now a.at is head t.requires.1 in
-    (streams_within f a.p count t.requires.0, omega arith)
+    let room = streams_room f a.p count a.out.now a.at is head c.requires.1 in
+    (streams_within f a.p count c.requires.0, omega arith)
 
 pub returns : goal.returns
 returns c =
@@ -47,7 +45,4 @@ returns c =
     let count = c.u8_at-num_streams.ensures.same in
     let is = c.program_row-row.ensures in
     let head = c.put_row-to.ensures in
-    let put = c.put_streams.ensures in (
-      program_ends f a.p count a.at (head_place f a.p count a.out.now a.at is head) put.0,
-      streams_put f a.p count a.out.now a.at is head put.1,
-    )
+    let put = c.put_streams.ensures in record { value = program_ends f a.p count a.at (head_place f a.p count a.out.now a.at is head) put.0; out_after = streams_put f a.p count a.out.now a.at is head put.1 }

@@ -36,11 +36,10 @@ room c e =
 
 pub loop-k-init : goal.loop-k-init
 loop-k-init c =
-    let s = c in
-    let a = s.args in
+    let a = c.args in
     let f = a.file.now in (
-      along_first (next_stream f) (le_trans (end_ge (next_stream f) (up_stream f) a.p a.n) s.requires.0),
-      storing_first a.out.now (new_streams f a.p a.n) a.at s.requires.1 (ap (flat stream_bytes) (rest_all (stream_at f) (next_stream f) a.p a.n)),
+      along_first (next_stream f) (le_trans (end_ge (next_stream f) (up_stream f) a.p a.n) c.requires.0),
+      storing_first a.out.now (new_streams f a.p a.n) a.at c.requires.1 (ap (flat stream_bytes) (rest_all (stream_at f) (next_stream f) a.p a.n)),
     )
 
 pub stream_row-requires : goal.stream_row-requires
@@ -54,14 +53,13 @@ next_stream-q-requires c = within c
 
 pub loop-k-preserved : goal.loop-k-preserved
 loop-k-preserved c =
-    let t = c in
-    let l = t.before.loop in
-    let f = bytes t in
+    let l = c.loop-k in
+    let f = bytes c in
     let next = c.next_stream-q.ensures in
     let row = c.stream_row.ensures in
     let put = row_as stream_bytes l.out l.to row c.put_row-to.ensures in (
-      along_turn l.invariant.0 t.loop-test.true next (omega (arith, next, within t)),
-      row_put (stream_at f) (next_stream f) stream_bytes l.q t.before.before.before.before.args.n l.k l.invariant.1 t.loop-test.true put.1 put.0 next,
+      along_turn l.invariant.0 c.loop-k-test.true next (omega (arith, next, within c)),
+      row_put (stream_at f) (next_stream f) stream_bytes l.q c.args.n l.k l.invariant.1 c.loop-k-test.true put.1 put.0 next,
     )
 
 pub shape_of-out : goal.shape_of-out
@@ -73,4 +71,4 @@ returns c =
     let a = c.args in
     let f = a.file.now in
     let done = storing_done l.invariant.1 (ap (flat stream_bytes) (rest_done (stream_at f) (next_stream f) l.q a.n l.k c.loop-k-test.false)) in
-    (places_are (along_done l.invariant.0 c.loop-k-test.false) done.0, done.1)
+    record { value = places_are (along_done l.invariant.0 c.loop-k-test.false) done.0; out_after = done.1 }

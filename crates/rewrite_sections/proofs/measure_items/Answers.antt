@@ -50,10 +50,9 @@ measure_program-behind-requires c = (within c, omega (arith, added c refl refl, 
 
 pub loop-k-preserved : goal.loop-k-preserved
 loop-k-preserved c =
-    let t = c in
     let next = ap (λ (r : Places). r.file) c.measure_program-behind.ensures in
     let place = ap (λ (r : Places). r.out) c.measure_program-behind.ensures in
-    (along_turn t.before.loop.invariant.0 t.loop-test.true next (omega (arith, next, within t)), added t next place)
+    (along_turn c.loop-k.invariant.0 c.loop-k-test.true next (omega (arith, next, within c)), added c next place)
 
 pub returns : goal.returns
 returns c =

@@ -22,11 +22,10 @@ overflow_add-start-2 c = omega (arith, head c)
 
 pub measure_items-requires : goal.measure_items-requires
 measure_items-requires c =
-    let s = c in
-    let f = s.args.file.now in
+    let f = c.args.file.now in
     let count = c.u8_at-num_programs.ensures.same in
-    let short = programs_short f (λ i. (c.shared_slice_known-1.given i).fits) s.args.start in
-    (items_within f s.args.start count s.requires, omega (arith, programs_long f s.args.start count, short))
+    let short = programs_short f (λ i. (c.shared_slice_known-1.given i).fits) c.args.start in
+    (items_within f c.args.start count c.requires, omega (arith, programs_long f c.args.start count, short))
 
 pub returns : goal.returns
 returns c =

@@ -28,31 +28,28 @@ within c = along_within c.loop-k.invariant.0 (up_program (bytes c)) c.loop-k-tes
 
 pub loop-k-init : goal.loop-k-init
 loop-k-init c =
-    let s = c in
-    let a = s.args in
+    let a = c.args in
     let f = a.file.now in (
-      along_first (next_program f) (le_trans (end_ge (next_program f) (up_program f) a.p a.n) s.requires.0),
-      storing_first a.out.now (new_items f a.p a.n) a.at s.requires.1
+      along_first (next_program f) (le_trans (end_ge (next_program f) (up_program f) a.p a.n) c.requires.0),
+      storing_first a.out.now (new_items f a.p a.n) a.at c.requires.1
           (ap (flat as_is) (rest_all (new_program f) (next_program f) a.p a.n) ∙ flat_gather as_is (new_program f) (next_program f) a.p a.n),
     )
 
 pub put_program-behind-requires : goal.put_program-behind-requires
 put_program-behind-requires c =
-    let t = c in
-    let l = t.before.loop in
-    let f = bytes t in
-    (within t, row_room_lem (new_program f) (next_program f) as_is l.q t.before.before.before.before.args.n l.k l.invariant.1 t.loop-test.true)
+    let l = c.loop-k in
+    let f = bytes c in
+    (within c, row_room_lem (new_program f) (next_program f) as_is l.q c.args.n l.k l.invariant.1 c.loop-k-test.true)
 
 pub loop-k-preserved : goal.loop-k-preserved
 loop-k-preserved c =
-    let t = c in
-    let l = t.before.loop in
-    let f = bytes t in
+    let l = c.loop-k in
+    let f = bytes c in
     let put = c.put_program-behind.ensures in
     let next = ap (λ (r : Places). r.file) put.0 in
     let place = ap (λ (r : Places). r.out) put.0 in (
-      along_turn l.invariant.0 t.loop-test.true next (omega (arith, next, within t)),
-      row_put (new_program f) (next_program f) as_is l.q t.before.before.before.before.args.n l.k l.invariant.1 t.loop-test.true put.1 place next,
+      along_turn l.invariant.0 c.loop-k-test.true next (omega (arith, next, within c)),
+      row_put (new_program f) (next_program f) as_is l.q c.args.n l.k l.invariant.1 c.loop-k-test.true put.1 place next,
     )
 
 pub shape_of-out : goal.shape_of-out

@@ -27,8 +27,7 @@ overflow_sub-size c = omega (arith, long c)
 
 pub overflow_cast-size : goal.overflow_cast-size
 overflow_cast-size c =
-    let s = c in
-    record { fits = omega (arith, s.requires.size_is, programs_short s.args.file.now (λ i. (c.shared_slice_known-1.given i).fits) s.args.start) }
+    record { fits = omega (arith, c.requires.size_is, programs_short c.args.file.now (λ i. (c.shared_slice_known-1.given i).fits) c.args.start) }
 
 pub put_head-requires : goal.put_head-requires
 put_head-requires c = omega (arith, long c, c.requires.room)
@@ -38,20 +37,15 @@ overflow_add-start-2 c = omega (arith, head c)
 
 pub put_items-requires : goal.put_items-requires
 put_items-requires c =
-    let s = c in
-    let a = s.args in
+    let a = c.args in
     let f = a.file.now in
     let count = c.u8_at-num_programs.ensures.same in
-    let room = items_room f a.start count s.requires.size_is a.out.now a.at (section_head (a.size - 4) c.u8_at-num_programs.result) s.requires.room c.put_head.ensures in
-    (items_within f a.start count s.requires.ends, omega arith)
+    let room = items_room f a.start count c.requires.size_is a.out.now a.at (section_head (a.size - 4) c.u8_at-num_programs.result) c.requires.room c.put_head.ensures in
+    (items_within f a.start count c.requires.ends, omega arith)
 
 pub returns : goal.returns
 returns c =
-    let s = c in
-    let a = s.args in
+    let a = c.args in
     let f = a.file.now in
     let count = c.u8_at-num_programs.ensures.same in
-    let put = c.put_items.ensures in (
-      omega (arith, put.0, s.requires.size_is, programs_long f a.start count),
-      programs_put f a.start count s.requires.size_is a.out.now a.at c.put_head.ensures put.1,
-    )
+    let put = c.put_items.ensures in record { value = omega (arith, put.0, c.requires.size_is, programs_long f a.start count); out_after = programs_put f a.start count c.requires.size_is a.out.now a.at c.put_head.ensures put.1 }

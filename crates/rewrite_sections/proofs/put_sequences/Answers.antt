@@ -19,8 +19,7 @@ within c = rw (c.requires.atcs_are, c.requires.stcs_are) (omega (arith, sequence
 -- the new section is short
 short : (c : goal.After-shared_slice_known-1) → 6 + 6 * c.args.atcs + 14 * c.args.stcs < 2 ^ 32
 short c =
-    let s = c in
-    rw (s.requires.atcs_are, s.requires.stcs_are) (sequences_short s.args.file.now (λ i. (c.shared_slice_known-1.given i).fits) s.args.start)
+    rw (c.requires.atcs_are, c.requires.stcs_are) (sequences_short c.args.file.now (λ i. (c.shared_slice_known-1.given i).fits) c.args.start)
 
 pub overflow_cast-items : goal.overflow_cast-items
 overflow_cast-items c = record { fits = omega (arith, short c) }
@@ -32,17 +31,16 @@ pub overflow_add-start : goal.overflow_add-start
 overflow_add-start c = omega (arith, within c)
 
 pub copy-requires : goal.copy-requires
-copy-requires c = let s = c in (omega (arith, within s), search rules)
+copy-requires c = (omega (arith, within c), search rules)
 
 pub returns : goal.returns
 returns c =
-    let s = c in
-    let a = s.args in
+    let a = c.args in
     let f = a.file.now in
     let items = 6 * a.atcs + 14 * a.stcs in
-    let is = sequences_are f a.start (λ i. (c.shared_slice_known-1.given i).fits) s.requires.ends s.requires.atcs_are s.requires.stcs_are in (
-      omega arith,
-      part_then a.out.now a.at 6 (section_head (2 + items) a.atcs) (part f (a.start + 6) items) (section_head_lem (2 + items) a.atcs) refl
+    let is = sequences_are f a.start (λ i. (c.shared_slice_known-1.given i).fits) c.requires.ends c.requires.atcs_are c.requires.stcs_are in record {
+      value = omega arith;
+      out_after = part_then a.out.now a.at 6 (section_head (2 + items) a.atcs) (part f (a.start + 6) items) (section_head_lem (2 + items) a.atcs) refl
           c.put_head.ensures c.copy.ensures
-          ∙ ap (sets a.out.now a.at) (sym is),
-    )
+          ∙ ap (sets a.out.now a.at) (sym is);
+    }

@@ -7,9 +7,9 @@ use Rattle.row_bytes.proofs.put_atc.Goals as goal
 
 pub returns : goal.returns
 returns c =
-    let a = c.args in (
-      refl,
-      field_then a.out.now a.at 4 a.row.cell0 _ refl c.put_u32.ensures
+    let a = c.args in record {
+      value = refl;
+      out_after = field_then a.out.now a.at 4 a.row.cell0 _ refl c.put_u32.ensures
           (field_then _ (a.at + 4) 1 a.row.cell1 _ (sym (add_assoc a.at 4 1)) c.put_u8.ensures
-          (field_last _ (a.at + 5) 1 a.row.cell2 c.put_u8-2.ensures)),
-    )
+          (field_last _ (a.at + 5) 1 a.row.cell2 c.put_u8-2.ensures));
+    }

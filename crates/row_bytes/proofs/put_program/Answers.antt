@@ -12,10 +12,10 @@ use Rattle.row_bytes.proofs.put_program.Goals as goal
 pub returns : goal.returns
 returns c =
     let a = c.args in
-    let r = a.row in (
-      refl,
-      part_then a.out.now a.at 7 (field_bytes (4 ∷ 2 ∷ 1 ∷ []) (row3 r)) (bytes_of 1 0) (program_fields r.cell0 r.cell1 r.cell2) refl
+    let r = a.row in record {
+      value = refl;
+      out_after = part_then a.out.now a.at 7 (field_bytes (4 ∷ 2 ∷ 1 ∷ []) (row3 r)) (bytes_of 1 0) (program_fields r.cell0 r.cell1 r.cell2) refl
           (field_then a.out.now a.at 4 r.cell0 _ refl c.put_u32.ensures
           (field_then _ (a.at + 4) 2 r.cell1 _ (sym (add_assoc a.at 4 2)) c.put_u16.ensures
-          (field_last _ (a.at + 6) 1 r.cell2 c.put_u8.ensures))) c.put_u8-2.ensures,
-    )
+          (field_last _ (a.at + 6) 1 r.cell2 c.put_u8.ensures))) c.put_u8-2.ensures;
+    }

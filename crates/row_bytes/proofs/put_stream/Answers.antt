@@ -45,25 +45,20 @@ put_u8-requires c = let room = video-room c in search rules
 
 pub returns-then-is_video : goal.returns-then-is_video
 returns-then-is_video c =
-    let t = c in
-    let a = t.before.before.before.args in
+    let a = c.args in
     let r = a.row in
-    let is = video_bytes r.cell0 r.cell1 r.cell2 r.cell3 r.cell4 t.before.is-video.ensures t.if1.true in
-    let head = stream_head r.cell0 3 r.cell1 r.cell2 in (
-      rw (video-long t),
-      rw is (part_then a.out.now a.at 5 head (bytes_of 1 (r.cell3 % 16 * 16)) (head_length r.cell0 3 r.cell1 r.cell2) refl c.put_stream_head.ensures c.put_u8.ensures),
-    )
+    let is = video_bytes r.cell0 r.cell1 r.cell2 r.cell3 r.cell4 c.is_video.ensures c.if-is_video.true in
+    let head = stream_head r.cell0 3 r.cell1 r.cell2 in record { value = rw (video-long c); out_after = rw is (part_then a.out.now a.at 5 head (bytes_of 1 (r.cell3 % 16 * 16)) (head_length r.cell0 3 r.cell1 r.cell2) refl c.put_stream_head.ensures c.put_u8.ensures) }
 
 pub put_stream_head-requires-then-row-eq0 : goal.put_stream_head-requires-then-row-eq0
 put_stream_head-requires-then-row-eq0 c = omega (arith, short-long c, c.requires)
 
 pub returns-then-row-eq0 : goal.returns-then-row-eq0
 returns-then-row-eq0 c =
-    let t = c in
-    let a = t.before.before.before.before.before.args in
+    let a = c.args in
     let r = a.row in
-    let is = short_bytes r.cell0 r.cell1 r.cell2 r.cell3 r.cell4 t.before.before.before.is-video.ensures t.before.before.if1.false t.if2.true in
-    (rw (short-long t), rw is c.put_stream_head-then-row-eq0.ensures)
+    let is = short_bytes r.cell0 r.cell1 r.cell2 r.cell3 r.cell4 c.is_video.ensures c.if-is_video.false c.if-row-eq0.true in
+    record { value = rw (short-long c); out_after = rw is c.put_stream_head-then-row-eq0.ensures }
 
 pub put_stream_head-requires-2 : goal.put_stream_head-requires-2
 put_stream_head-requires-2 c = omega (arith, tagged-room c)
@@ -74,15 +69,14 @@ put_u8-requires-2 c = let room = tagged-room c in search rules
 pub put_u16-requires : goal.put_u16-requires
 put_u16-requires c = let room = tagged-room c in search rules
 
-pub returns : goal.returns
-returns c =
-    let t = c in
-    let a = t.before.before.before.before.before.args in
+pub returns-then-is_video : goal.returns
+returns-then-is_video c =
+    let a = c.args in
     let r = a.row in
-    let is = tagged_bytes r.cell0 r.cell1 r.cell2 r.cell3 r.cell4 t.before.before.before.is-video.ensures t.before.before.if1.false t.if2.false in
-    let head = stream_head r.cell0 5 r.cell1 r.cell2 in (
-      rw (tagged-long t),
-      rw is
+    let is = tagged_bytes r.cell0 r.cell1 r.cell2 r.cell3 r.cell4 c.is_video.ensures c.if-is_video.false c.if-row-eq0.false in
+    let head = stream_head r.cell0 5 r.cell1 r.cell2 in record {
+      value = rw (tagged-long c);
+      out_after = rw is
           (part_then a.out.now a.at 5 head (bytes_of 1 (r.cell4 / 65536) ++ bytes_of 2 r.cell4) (head_length r.cell0 5 r.cell1 r.cell2) refl c.put_stream_head-2.ensures
-          (field_then _ (a.at + 5) 1 (r.cell4 / 65536) _ (sym (add_assoc a.at 5 1)) c.put_u8-2.ensures c.put_u16.ensures)),
-    )
+          (field_then _ (a.at + 5) 1 (r.cell4 / 65536) _ (sym (add_assoc a.at 5 1)) c.put_u8-2.ensures c.put_u16.ensures));
+    }

@@ -22,18 +22,17 @@ module _ (c : goal.Else-not-angle_fits) where
 
 -- what is left to test once angle and I-end fit: any time's lower cell has 32 bits, and so has any packet
 module _ (c : goal.Else-not-angle_fits) where
-  left : let s = c in
-      entry_fits s.args.map_type (entry_row s.args.angle s.args.i_end s.args.time s.args.packet s.args.entry_type)
-      ≡ both (both (ltb (s.args.time / 4294967296) 1) (both (ltb s.args.entry_type 16) true)) (both (eqb (s.args.time % 512) 0) (eqb s.args.entry_type s.args.map_type))
+  left :
+      entry_fits c.args.map_type (entry_row c.args.angle c.args.i_end c.args.time c.args.packet c.args.entry_type)
+      ≡ both (both (ltb (c.args.time / 4294967296) 1) (both (ltb c.args.entry_type 16) true)) (both (eqb (c.args.time % 512) 0) (eqb c.args.entry_type c.args.map_type))
   left =
-      let s = c in
-      let t = s.args.time in
-      rw ((narrow f).0, (narrow f).1, lt-ltb (t % 2 ^ 32) (2 ^ 32) (omega arith), lt-ltb _ _ s.ranges.packet.fits, time_cells t)
+      let t = c.args.time in
+      rw ((narrow f).0, (narrow f).1, lt-ltb (t % 2 ^ 32) (2 ^ 32) (omega arith), lt-ltb _ _ c.ranges.packet.fits, time_cells t)
 
 pub returns-then-map_type-ge16 : goal.returns-then-map_type-ge16
 returns-then-map_type-ge16 c =
     let a = c.args in
-    type_wide a.map-type (entry_row a.angle a.i_end a.time a.packet a.entry-type) (omega arith)
+    type_wide a.map_type (entry_row a.angle a.i_end a.time a.packet a.entry_type) (omega arith)
 
 pub returns-then-not-angle_fits : goal.returns-then-not-angle_fits
 returns-then-not-angle_fits c =
@@ -43,15 +42,13 @@ returns-then-not-angle_fits c =
 
 pub returns-then-not-time_fits : goal.returns-then-not-time_fits
 returns-then-not-time_fits c =
-    let f = c in
-    let a = f.before.before.before.args in
+    let a = c.args in
     let test = c.time_fits in
-    time_fails (ltb (a.time / 4294967296) 1) (eqb (a.time % 512) 0) (both (ltb a.entry-type 16) true) (eqb a.entry-type a.map-type) (sym test.ensures ∙ not-true test.result c.if-not-time_fits.true) ∙ sym (left f)
+    time_fails (ltb (a.time / 4294967296) 1) (eqb (a.time % 512) 0) (both (ltb a.entry_type 16) true) (eqb a.entry_type a.map_type) (sym test.ensures ∙ not-true test.result c.if-not-time_fits.true) ∙ sym (left c)
 
-pub returns : goal.returns
-returns c =
-    let f = c in
-    let a = f.before.before.before.args in
+pub returns-then-map_type-ge16 : goal.returns
+returns-then-map_type-ge16 c =
+    let a = c.args in
     let test = c.time_fits in
     let fits = both_true {a = ltb (a.time / 4294967296) 1} (sym test.ensures ∙ not-false test.result c.if-not-time_fits.false) in
-    rw (left f, fits.0, fits.1) (type_decides a.map-type a.entry-type (omega arith))
+    rw (left c, fits.0, fits.1) (type_decides a.map_type a.entry_type (omega arith))

@@ -6,7 +6,6 @@ use Rattle.row_limits.proofs.stc_fits.Goals as goal
 
 pub returns : goal.returns
 returns c =
-    let k = c in
-    let a = k.before.args in
-    let any = any_cell a.t.now (λ i. (k.shared-slice-known.given i).fits) in
-    rw (any (a.p + 4), any (a.p + 4 + 4), any (a.p + 4 + 4 + 4), ← c.Cell-at.ensures.same) (last_test (ltb c.Cell-at.result 65536))
+    let a = c.args in
+    let any = any_cell a.t.now (λ i. (c.shared_slice_known-1.given i).fits) in
+    rw (any (a.p + 4), any (a.p + 4 + 4), any (a.p + 4 + 4 + 4), ← c.cell_at.ensures.same) (last_test (ltb c.cell_at.result 65536))

@@ -11,36 +11,32 @@ use Rattle.row_limits.proofs.stream_fits.Goals as goal
 module _ (c : goal.Else-language-ge16777216) where
   fields : let a = c.args in fits (16 ∷ 8 ∷ 8 ∷ 4 ∷ 24 ∷ []) (a.pid ∷ a.coding_type ∷ a.format ∷ a.aspect ∷ a.language ∷ []) ≡ true
   fields =
-      let e = c in
-      let a = e.args in
-      rw (lt-ltb a.pid 65536 e.if-pid-ge65536.false, lt-ltb a.coding_type 256 e.if-coding_type-ge256.false, lt-ltb a.format 256 c.if-format-ge256.false, lt-ltb a.aspect 16 c.if-aspect-ge16.false, lt-ltb a.language 16777216 c.if-language-ge16777216.false)
+      let a = c.args in
+      rw (lt-ltb a.pid 65536 c.if-pid-ge65536.false, lt-ltb a.coding_type 256 c.if-coding_type-ge256.false, lt-ltb a.format 256 c.if-format-ge256.false, lt-ltb a.aspect 16 c.if-aspect-ge16.false, lt-ltb a.language 16777216 c.if-language-ge16777216.false)
 
 pub returns-then-pid-ge65536 : goal.returns-then-pid-ge65536
 returns-then-pid-ge65536 c = rw (le-ltb c.args.pid 65536 (omega arith))
 
 pub returns-then-coding_type-ge256 : goal.returns-then-coding_type-ge256
-returns-then-coding_type-ge256 c = let a = c.args in rw (lt-ltb a.pid 65536 c.if-pid-ge65536.false, le-ltb a.coding-type 256 (omega arith))
+returns-then-coding_type-ge256 c = let a = c.args in rw (lt-ltb a.pid 65536 c.if-pid-ge65536.false, le-ltb a.coding_type 256 (omega arith))
 
 pub returns-then-format-ge256 : goal.returns-then-format-ge256
 returns-then-format-ge256 c =
-    let e = c in
-    let a = e.before.before.args in
-    rw (lt-ltb a.pid 65536 e.before.if1.false, lt-ltb a.coding-type 256 e.if2.false, le-ltb a.format 256 (omega arith))
+    let a = c.args in
+    rw (lt-ltb a.pid 65536 c.if-pid-ge65536.false, lt-ltb a.coding_type 256 c.if-coding_type-ge256.false, le-ltb a.format 256 (omega arith))
 
 pub returns-then-aspect-ge16 : goal.returns-then-aspect-ge16
 returns-then-aspect-ge16 c =
-    let e = c in
-    let a = e.before.before.args in
-    rw (lt-ltb a.pid 65536 e.before.if1.false, lt-ltb a.coding-type 256 e.if2.false, lt-ltb a.format 256 c.if-format-ge256.false, le-ltb a.aspect 16 (omega arith))
+    let a = c.args in
+    rw (lt-ltb a.pid 65536 c.if-pid-ge65536.false, lt-ltb a.coding_type 256 c.if-coding_type-ge256.false, lt-ltb a.format 256 c.if-format-ge256.false, le-ltb a.aspect 16 (omega arith))
 
 pub returns-then-language-ge16777216 : goal.returns-then-language-ge16777216
 returns-then-language-ge16777216 c =
-    let e = c in
-    let a = e.before.before.args in
-    rw (lt-ltb a.pid 65536 e.before.if1.false, lt-ltb a.coding-type 256 e.if2.false, lt-ltb a.format 256 c.if-format-ge256.false, lt-ltb a.aspect 16 c.if-aspect-ge16.false, le-ltb a.language 16777216 (omega arith))
+    let a = c.args in
+    rw (lt-ltb a.pid 65536 c.if-pid-ge65536.false, lt-ltb a.coding_type 256 c.if-coding_type-ge256.false, lt-ltb a.format 256 c.if-format-ge256.false, lt-ltb a.aspect 16 c.if-aspect-ge16.false, le-ltb a.language 16777216 (omega arith))
 
 pub returns-then-is_video : goal.returns-then-is_video
 returns-then-is_video c = rw (fields c, ← c.is_video.ensures, c.if-is_video.true)
 
-pub returns : goal.returns
-returns c = rw (fields c, ← c.is_video.ensures, c.if-is_video.false)
+pub returns-then-pid-ge65536 : goal.returns
+returns-then-pid-ge65536 c = rw (fields c, ← c.is_video.ensures, c.if-is_video.false)

@@ -18,7 +18,7 @@ module _ (c : goal.Else-not-is_stated) where
   rows_fit = let a = c.args in room a.cells (stated a.table.now a.rows) c.is_stated_lem.ensures c.if-not-is_stated.false
 
   cell-fits : let a = c.args in (k : ℕ) → k < a.rows → 4 * (a.cells * k + a.cell) + 4 ≤ length a.table.now
-  cell-fits k h = let s = c in let a = s.args in cell_room a.cells a.table.now a.rows k a.cell h s.requires.0 rows_fit
+  cell-fits k h = let a = c.args in cell_room a.cells a.table.now a.rows k a.cell h c.requires.0 rows_fit
 
 pub returns-then-not-is_stated : goal.returns-then-not-is_stated
 returns-then-not-is_stated c =
@@ -44,22 +44,18 @@ cell_at-requires c = cell-fits c c.loop-k.k c.loop-k-test.true
 
 pub returns-then-passes : goal.returns-then-passes
 returns-then-passes c =
-    let s = c in
-    let a = s.args in
+    let a = c.args in
     let l = c.loop-k in
-    let e = c in
-    row_is a.table.now a.rows a.cells a.cell a.from a.test e.before.is_stated_lem.ensures e.if1.false l.k s.requires.0 c.loop-k-test.true c.Cell-at.ensures c.passes.ensures c.if-passes.true l.invariant
+    row_is a.table.now a.rows a.cells a.cell a.from a.test c.is_stated_lem.ensures c.if-not-is_stated.false l.k c.requires.0 c.loop-k-test.true c.cell_at.ensures c.passes.ensures c.if-passes.true l.invariant
 
 pub loop-k-preserved : goal.loop-k-preserved
 loop-k-preserved c =
-    let s = c in
-    let a = s.args in
-    let l = c.loop-k in
-    row_fails a.table.now a.rows a.cells a.cell a.from a.test l.k s.requires.0 c.loop-k-test.true c.Cell-at.ensures c.passes.ensures c.if-passes.false l.invariant
-
-pub returns : goal.returns
-returns c =
     let a = c.args in
     let l = c.loop-k in
-    let e = c in
-    no_row a.table.now a.rows a.cells a.cell a.from a.test e.before.is_stated_lem.ensures e.if1.false l.k c.loop-k-test.false l.invariant
+    row_fails a.table.now a.rows a.cells a.cell a.from a.test l.k c.requires.0 c.loop-k-test.true c.cell_at.ensures c.passes.ensures c.if-passes.false l.invariant
+
+pub returns-then-not-is_stated : goal.returns
+returns-then-not-is_stated c =
+    let a = c.args in
+    let l = c.loop-k in
+    no_row a.table.now a.rows a.cells a.cell a.from a.test c.is_stated_lem.ensures c.if-not-is_stated.false l.k c.loop-k-test.false l.invariant

@@ -9,6 +9,6 @@ pub returns : goal.returns
 returns c =
     let a = c.args in
     let t = a.t.now in
-    cell_and t a.p a.p 2 refl c.Cell-at.ensures.same
+    cell_and t a.p a.p 2 refl c.cell_at.ensures.same
     (cell_and t (a.p + 4) (a.p + 4) 1 refl c.cell_at-2.ensures.same
     (cell_and t (a.p + 4 + 4) (a.p + 8) 0 (omega arith) c.cell_at-3.ensures.same refl))

@@ -34,11 +34,10 @@ overflow_add-cell c = omega (arith, room c)
 
 pub loop-k-preserved : goal.loop-k-preserved
 loop-k-preserved c =
-    let in-loop = c in
-    let l = in-loop.before.loop in
-    let f = in-loop.before.before.before.before.args.file.now in
-    let more = in-loop.loop-test.true in (
-      along_turn l.invariant.0 more refl (room in-loop).0,
+    let l = c.loop-k in
+    let f = c.args.file.now in
+    let more = c.loop-k-test.true in (
+      along_turn l.invariant.0 more refl (room c).0,
       row_put (stc_at f) next_stc l.invariant.1 more c.put_stc.ensures refl,
     )
 
@@ -48,4 +47,4 @@ shape_of-table c = c.loop-k.invariant.1.long
 pub returns : goal.returns
 returns c =
     let l = c.loop-k in
-    (along_done l.invariant.0 c.loop-k-test.false, filled (λ q. refl) l.invariant.1 c.loop-k-test.false)
+    record { value = along_done l.invariant.0 c.loop-k-test.false; table_after = filled (λ q. refl) l.invariant.1 c.loop-k-test.false }

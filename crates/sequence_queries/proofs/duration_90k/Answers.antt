@@ -30,9 +30,8 @@ row_duration-requires c =
     let a = c.args in
     (room stc_cells (stated a.stcs.now a.rows) c.is_stated_lem.ensures c.if-not-is_stated.false, c.if-stc-rows.false)
 
-pub returns : goal.returns
-returns c =
+pub returns-then-not-is_stated : goal.returns
+returns-then-not-is_stated c =
     let a = c.args in
-    let t = c in
     ap (λ x. ticks90 x) (c.doubled.ensures ∙ ap doubled c.row_duration.ensures)
-    ∙ row_answers (duration90k a.stc) a.stcs.now a.rows a.stc (λ s. ticks90 (doubled (duration_of s))) refl t.before.before.is_stated_lem.ensures t.before.if1.false (asks a.stc a.stcs.now a.rows) t.if2.false refl
+    ∙ row_answers (duration90k a.stc) a.stcs.now a.rows a.stc (λ s. ticks90 (doubled (duration_of s))) refl c.is_stated_lem.ensures c.if-not-is_stated.false (asks a.stc a.stcs.now a.rows) c.if-stc-rows.false refl

@@ -17,7 +17,7 @@ returns-then-rows-eq0 c =
     let a = c.args in
     no_first a.stcs.now a.rows c.if-rows-eq0.true ∙ answered first_stc_sequence (only_stcs (stated a.stcs.now a.rows)) stcs refl c.is_stated_lem.ensures c.if-not-is_stated.false
 
-pub returns : goal.returns
-returns c =
+pub returns-then-not-is_stated : goal.returns
+returns-then-not-is_stated c =
     let a = c.args in
     a_first a.stcs.now a.rows c.if-rows-eq0.false ∙ answered first_stc_sequence (only_stcs (stated a.stcs.now a.rows)) stcs refl c.is_stated_lem.ensures c.if-not-is_stated.false

@@ -13,7 +13,7 @@ pub loop-k-preserved : goal.loop-k-preserved
 loop-k-preserved c =
     let a = c.args in
     let l = c.loop-k in
-    (omega arith, latest_turn a.stcs.now a.rows l.k (as45 l.latest) (omega arith) refl c.Cell-at.ensures c.later-latest.ensures l.invariant.1)
+    (omega arith, latest_turn a.stcs.now a.rows l.k (as45 l.latest) (omega arith) refl c.cell_at.ensures c.later-latest.ensures l.invariant.1)
 
 pub returns : goal.returns
 returns c =

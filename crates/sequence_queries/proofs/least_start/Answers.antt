@@ -13,7 +13,7 @@ pub loop-k-preserved : goal.loop-k-preserved
 loop-k-preserved c =
     let a = c.args in
     let l = c.loop-k in
-    (omega arith, least_turn a.stcs.now a.rows l.k (as45 l.least) (omega arith) refl c.Cell-at.ensures c.earlier-least.ensures l.invariant.1)
+    (omega arith, least_turn a.stcs.now a.rows l.k (as45 l.least) (omega arith) refl c.cell_at.ensures c.earlier-least.ensures l.invariant.1)
 
 pub returns : goal.returns
 returns c =

@@ -30,19 +30,15 @@ loop-k-init c = λ whole i. i
 
 pub plus-left-requires-in-loop-k : goal.plus-left-requires-in-loop-k
 plus-left-requires-in-loop-k c =
-    let l = c in
-    let a = l.before.before.before.before.before.args in
-    few_minutes a.stcs.now a.rows (omega arith) (l.loop.invariant _ (first l.before))
+    let a = c.args in
+    few_minutes a.stcs.now a.rows (omega arith) (c.loop-k.invariant _ (first c))
 
 pub loop-k-preserved : goal.loop-k-preserved
 loop-k-preserved c =
-    let d = c in
-    let l = d.before.before in
-    let a = l.before.before.before.before.before.args in
-    λ whole i. added_turn a.stcs.now a.rows whole l.loop.k (omega arith) d.row-duration.ensures (duration-fits d) c.doubled.ensures c.plus-left-in-loop-k.ensures (l.loop.invariant whole i)
+    let a = c.args in
+    λ whole i. added_turn a.stcs.now a.rows whole c.loop-k.k (omega arith) c.row_duration.ensures (duration-fits c) c.doubled.ensures c.plus-left-in-loop-k.ensures (c.loop-k.invariant whole i)
 
 pub returns : goal.returns
 returns c =
-    let l = c in
-    let a = l.before.before.before.before.before.args in
-    added_done a.stcs.now a.rows l.loop.k a.stc (as90 a.at) c.loop-k-test.false (l.loop.invariant _ (first l.before))
+    let a = c.args in
+    added_done a.stcs.now a.rows c.loop-k.k a.stc (as90 a.at) c.loop-k-test.false (c.loop-k.invariant _ (first c))

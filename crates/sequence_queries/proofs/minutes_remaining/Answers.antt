@@ -35,11 +35,10 @@ minutes_from-requires c =
 pub returns-then-stc-rows : goal.returns-then-stc-rows
 returns-then-stc-rows c =
     let a = c.args in
-    let f = c in
     ap number c.minutes_from.ensures
-    ∙ row_answers (minutes_remaining a.stc (as90 a.at)) a.stcs.now a.rows a.stc (of_row a.stc (as90 a.at) a.stcs.now a.rows) refl f.before.before.is_stated_lem.ensures f.before.if1.false (asks a.stc (as90 a.at) a.stcs.now a.rows) f.if2.true refl
+    ∙ row_answers (minutes_remaining a.stc (as90 a.at)) a.stcs.now a.rows a.stc (of_row a.stc (as90 a.at) a.stcs.now a.rows) refl c.is_stated_lem.ensures c.if-not-is_stated.false (asks a.stc (as90 a.at) a.stcs.now a.rows) c.if-stc-rows.true refl
 
-pub returns : goal.returns
-returns c =
+pub returns-then-not-is_stated : goal.returns
+returns-then-not-is_stated c =
     let a = c.args in
     no_row (minutes_remaining a.stc (as90 a.at)) a.stcs.now a.rows a.stc (of_row a.stc (as90 a.at) a.stcs.now a.rows) refl c.is_stated_lem.ensures c.if-not-is_stated.false (asks a.stc (as90 a.at) a.stcs.now a.rows) c.if-stc-rows.false

@@ -27,14 +27,13 @@ pub latest_end-requires : goal.latest_end-requires
 latest_end-requires c = rows_fit c
 
 pub cell_at-requires : goal.cell_at-requires
-cell_at-requires c = let e = c in omega (arith, rows_fit e, e.if2.false)
+cell_at-requires c = omega (arith, rows_fit c, c.if-rows-eq0.false)
 
 pub least_start-requires : goal.least_start-requires
 least_start-requires c = rows_fit c
 
-pub returns : goal.returns
-returns c =
-    let e = c in
-    let a = e.before.before.before.before.args in
-    span_is a.stcs.now a.rows e.if2.false c.Cell-at.ensures c.latest_end.ensures c.doubled-latest.ensures c.least_start.ensures c.doubled-least.ensures c.less.ensures
-    ∙ answered presentation_span_90k (only_stcs (stated a.stcs.now a.rows)) stcs refl e.before.before.is_stated_lem.ensures e.before.if1.false
+pub returns-then-not-is_stated : goal.returns
+returns-then-not-is_stated c =
+    let a = c.args in
+    span_is a.stcs.now a.rows c.if-rows-eq0.false c.cell_at.ensures c.latest_end.ensures c.doubled-latest.ensures c.least_start.ensures c.doubled-least.ensures c.less.ensures
+    ∙ answered presentation_span_90k (only_stcs (stated a.stcs.now a.rows)) stcs refl c.is_stated_lem.ensures c.if-not-is_stated.false

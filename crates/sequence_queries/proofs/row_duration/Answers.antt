@@ -4,5 +4,4 @@ use Rattle.sequence_queries.proofs.row_duration.Goals as goal
 
 pub returns : goal.returns
 returns c =
-    let s = c in
-    duration_is s.args.stcs.now s.args.rows s.args.stc s.requires.1 c.Cell-at.ensures c.cell_at-2.ensures c.less.ensures
+    duration_is c.args.stcs.now c.args.rows c.args.stc c.requires.1 c.cell_at.ensures c.cell_at-2.ensures c.less.ensures

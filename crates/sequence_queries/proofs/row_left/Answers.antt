@@ -5,9 +5,8 @@ use Rattle.sequence_queries.proofs.row_left.Goals as goal
 
 pub returns : goal.returns
 returns c =
-    let s = c in
-    left_is s.args.stcs.now s.args.rows s.args.stc (as90 s.args.at) s.requires.1
-    c.Cell-at.ensures
+    left_is c.args.stcs.now c.args.rows c.args.stc (as90 c.args.at) c.requires.1
+    c.cell_at.ensures
     c.cell_at-2.ensures
     c.doubled.ensures
     c.doubled-2.ensures

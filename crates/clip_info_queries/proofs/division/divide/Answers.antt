@@ -18,11 +18,11 @@ module _ (c : goal.In-loop-quotient) where
 
   -- there may be more digits
   short : c.loop-quotient.shift < 84
-  short = let a = c.args in few a.dividend a.divisor c.loop-quotient.quotient c.loop-quotient.remainder c.loop-quotient.shift some c.requires.1.1 c.loop-quotient-test.true c.loop-quotient.invariant
+  short = let a = c.args in few a.dividend a.divisor c.loop-quotient.quotient c.loop-quotient.remainder c.loop-quotient.shift some c.requires.divisor_small c.loop-quotient-test.true c.loop-quotient.invariant
 
   -- one digit more
   turned : Digits c.args.dividend c.args.divisor (c.loop-quotient.quotient * 2 + c.loop-quotient.remainder * 2 / c.args.divisor) (c.loop-quotient.remainder * 2 % c.args.divisor) (c.loop-quotient.shift + 1)
-  turned = let a = c.args in next_digit a.dividend a.divisor c.loop-quotient.quotient c.loop-quotient.remainder c.loop-quotient.shift some c.requires.1.1 c.loop-quotient-test.true c.loop-quotient.invariant
+  turned = let a = c.args in next_digit a.dividend a.divisor c.loop-quotient.quotient c.loop-quotient.remainder c.loop-quotient.shift some c.requires.divisor_small c.loop-quotient-test.true c.loop-quotient.invariant
 
 -- behind the loop, with all 53 digits
 module _ (c : goal.After-round_half_even-digits) where
@@ -36,11 +36,11 @@ module _ (c : goal.After-round_half_even-digits) where
 
 pub returns-then-dividend-eq0 : goal.returns-then-dividend-eq0
 returns-then-dividend-eq0 c =
-    zero_bits c.args.dividend c.args.divisor c.if-dividend-eq0.true c.requires.1.0 c.requires.1.1
+    zero_bits c.args.dividend c.args.divisor c.if-dividend-eq0.true c.requires.divisor_positive c.requires.divisor_small
 
 pub loop-quotient-init : goal.loop-quotient-init
 loop-quotient-init c =
-    whole_part c.args.dividend c.args.divisor c.requires.0 c.requires.1.0
+    whole_part c.args.dividend c.args.divisor c.requires.dividend_small c.requires.divisor_positive
 
 pub overflow_add-quotient : goal.overflow_add-quotient
 overflow_add-quotient c = omega (arith, (turned c).2)
@@ -57,8 +57,8 @@ overflow_add-result c = omega (arith, under c)
 pub float_from_bits-result : goal.float_from_bits-result
 float_from_bits-result c = no_nan _ (under c)
 
-pub returns : goal.returns
-returns c =
+pub returns-then-dividend-eq0 : goal.returns
+returns-then-dividend-eq0 c =
     let a = c.args in
     let l = c.loop-quotient in
-    rw c.round_half_even-digits.ensures (quotient_bits a.dividend a.divisor l.quotient l.remainder l.shift c.requires.0 c.requires.1.1 (omega arith) l.inv)
+    rw c.round_half_even-digits.ensures (quotient_bits a.dividend a.divisor l.quotient l.remainder l.shift c.requires.dividend_small c.requires.divisor_small (omega arith) l.inv)

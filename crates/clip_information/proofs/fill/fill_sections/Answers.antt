@@ -28,19 +28,4 @@ unfolding clip_of
 returns c =
     let t = c.args in
     let f = t.file.now in
-    let at = c.read-starts.ensures in (
-      filled_from (atcs_from f) t.atcs.now at.sequences c.fill.ensures.0,
-      (
-        filled_from (stcs_from f) t.stcs.now at.sequences c.fill.ensures.1,
-        (
-          filled_from (programs_from f) t.programs.now at.programs c.fill-2.ensures.0,
-          (
-            filled_from (streams_from f) t.streams.now at.programs c.fill-2.ensures.1,
-            (
-              filled_from (maps_from f) t.maps.now at.cpi c.fill-3.ensures.0,
-              filled_from (entries_from f) t.entries.now at.cpi c.fill-3.ensures.1,
-            ),
-          ),
-        ),
-      ),
-    )
+    let at = c.read-starts.ensures in record { atcs_after = filled_from (atcs_from f) t.atcs.now at.sequences c.fill.ensures.heads_after; stcs_after = filled_from (stcs_from f) t.stcs.now at.sequences c.fill.ensures.rows_after; programs_after = filled_from (programs_from f) t.programs.now at.programs c.fill-2.ensures.heads_after; streams_after = filled_from (streams_from f) t.streams.now at.programs c.fill-2.ensures.rows_after; maps_after = filled_from (maps_from f) t.maps.now at.cpi c.fill-3.ensures.maps_after; entries_after = filled_from (entries_from f) t.entries.now at.cpi c.fill-3.ensures.entries_after }

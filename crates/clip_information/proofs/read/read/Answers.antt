@@ -65,40 +65,16 @@ accepted-requires c =
 pub returns-in-Refused : goal.returns-in-Refused
 returns-in-Refused c =
     let p : goal.After-prepare = search in
-    (prepared_answer_lem (F p) (L p) (prepared p) c.n-1.given.1, (refl, (refl, (refl, (refl, (refl, (refl, (refl, (refl, refl)))))))))
+    record { result_value = prepared_answer_lem (F p) (L p) (prepared p) c.n-1.given.1; atcs_after = refl; stcs_after = refl; programs_after = refl; streams_after = refl; maps_after = refl; entries_after = refl; extensions_after = refl; programs2_after = refl; streams2_after = refl }
 
 pub returns-in-TooShort : goal.returns-in-TooShort
 returns-in-TooShort c =
     let p : goal.After-prepare = search in
-    (prepared_answer_lem (F p) (L p) (prepared p) c.table-1.given.1, (refl, (refl, (refl, (refl, (refl, (refl, (refl, (refl, refl)))))))))
+    record { result_value = prepared_answer_lem (F p) (L p) (prepared p) c.table-1.given.1; atcs_after = refl; stcs_after = refl; programs_after = refl; streams_after = refl; maps_after = refl; entries_after = refl; extensions_after = refl; programs2_after = refl; streams2_after = refl }
 
 pub returns-in-Ready : goal.returns-in-Ready
 unfolding tables_of record_of
 returns-in-Ready c =
     let p = P k in
     let s = c.fill_sections.ensures in
-    rw c.accepted.ensures (
-      stated (F p) (L p) (ready k) ∙ prepared_answer_lem (F p) (L p) (prepared p) c.rows-1.given.1,
-      (
-        s.0,
-        (
-          s.1.0,
-          (
-            s.1.1.0,
-            (
-              s.1.1.1.0,
-              (
-                s.1.1.1.1.0,
-                (
-                  s.1.1.1.1.1,
-                  (
-                    filled_from (extension_rows (F p)) (L p).extensions c.read.ensures.extensions-1 c.fill.ensures,
-                    (c.fill_list.ensures.0, c.fill_list.ensures.1),
-                  ),
-                ),
-              ),
-            ),
-          ),
-        ),
-      ),
-    )
+    rw c.accepted.ensures record { result_value = stated (F p) (L p) (ready k) ∙ prepared_answer_lem (F p) (L p) (prepared p) c.rows-1.given.1; atcs_after = s.0; stcs_after = s.1.0; programs_after = s.1.1.0; streams_after = s.1.1.1.0; maps_after = s.1.1.1.1.0; entries_after = s.1.1.1.1.1; extensions_after = filled_from (extension_rows (F p)) (L p).extensions c.read.ensures.extensions-1 c.fill.ensures; programs2_after = c.fill_list.ensures.programs_after; streams2_after = c.fill_list.ensures.streams_after }

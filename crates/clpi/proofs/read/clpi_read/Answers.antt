@@ -25,14 +25,14 @@ module _ (c : goal.After-read) where
 pub reading_of-requires : goal.reading_of-requires
 reading_of-requires c =
     let r : goal.After-read = search in
-    counts_fit (F r) (bytes r) (T r) r.read.result r.read.ensures.0
+    counts_fit (F r) (bytes r) (T r) r.read.result r.read.ensures.result_value
 
 pub returns : goal.returns
 returns c =
     let r : goal.After-read = search in
     let e = r.read.ensures in
-    let l = r.read.last in (
-      c.reading_of.ensures ∙ ap read_numbers e.0,
-      tables_are (F r) (T r) (nine_tables_of l.1.0 l.1.1.0 l.1.1.1.0 l.1.1.1.1.0 l.1.1.1.1.1.0 l.1.1.1.1.1.1.0 l.1.1.1.1.1.1.1.0 l.1.1.1.1.1.1.1.1.0 l.1.1.1.1.1.1.1.1.1.0) r.read.result e.0
-          e.1.0 e.1.1.0 e.1.1.1.0 e.1.1.1.1.0 e.1.1.1.1.1.0 e.1.1.1.1.1.1.0 e.1.1.1.1.1.1.1.0 e.1.1.1.1.1.1.1.1.0 e.1.1.1.1.1.1.1.1.1,
-    )
+    let l = r.read.last in record {
+      result_value = c.reading_of.ensures ∙ ap read_numbers e.0;
+      streams2_after = tables_are (F r) (T r) (nine_tables_of l.1.0 l.1.1.0 l.1.1.1.0 l.1.1.1.1.0 l.1.1.1.1.1.0 l.1.1.1.1.1.1.0 l.1.1.1.1.1.1.1.0 l.1.1.1.1.1.1.1.1.0 l.1.1.1.1.1.1.1.1.1.0) r.read.result e.0
+          e.1.0 e.1.1.0 e.1.1.1.0 e.1.1.1.1.0 e.1.1.1.1.1.0 e.1.1.1.1.1.1.0 e.1.1.1.1.1.1.1.0 e.1.1.1.1.1.1.1.1.0 e.1.1.1.1.1.1.1.1.1;
+    }

@@ -70,4 +70,4 @@ returns c =
     let l = tables s in
     let at = c.args.places in
     placed_stored (clip_in l) c.requires.placed c.args.out-1.now c.put_head.ensures (stored_as _ 220 c.put_sequences.ensures (sequences_in l))
-    (stored_as _ at.programs c.put_programs.ensures (programs_in l)) (stored_as _ at.cpi c.put_cpi.ensures.1 (cpi_in_lem l)) c.put_marks.ensures
+    (stored_as _ at.programs c.put_programs.ensures (programs_in l)) (stored_as _ at.cpi c.put_cpi.ensures.out_after (cpi_in_lem l)) c.put_marks.ensures

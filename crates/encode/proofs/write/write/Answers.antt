@@ -51,7 +51,7 @@ pub returns-then-out-len : goal.returns-then-out-len
 unfolding write_answer
 returns-then-out-len c =
     let p : goal.In-Places-2 = search in
-    (answer_short (refusal_in (tables m)) (clip_in (tables m)) (output m) (none p) (marked p) (omega arith), refl)
+    record { result_value = answer_short (refusal_in (tables m)) (clip_in (tables m)) (output m) (none p) (marked p) (omega arith); out_after = refl }
 
 pub put_sections-requires : goal.put_sections-requires
 put_sections-requires c =
@@ -62,11 +62,11 @@ pub returns-in-Refused : goal.returns-in-Refused
 unfolding write_answer
 returns-in-Refused c =
     let m : goal.After-measure = search in
-    (answer_refused (refusal_in (tables m)) (clip_in (tables m)) (output m) (refused_told (refusal_in (tables m)) (clip_in (tables m)) m.measure.ensures c.n-1.given.1), refl)
+    record { result_value = answer_refused (refusal_in (tables m)) (clip_in (tables m)) (output m) (refused_told (refusal_in (tables m)) (clip_in (tables m)) m.measure.ensures c.n-1.given.1); out_after = refl }
 
 pub returns-else-out-len : goal.returns-else-out-len
 unfolding write_answer
 returns-else-out-len c =
     let p : goal.In-Places-2 = search in
     let room : p.places-1.given.0.0.marks + 6 ≤ length (output m) = omega arith in
-    (answer_written (refusal_in (tables m)) (clip_in (tables m)) (output m) (none p) (marked p) room, output_written (refusal_in (tables m)) (clip_in (tables m)) (output m) (marked p) room c.put_sections.ensures)
+    record { result_value = answer_written (refusal_in (tables m)) (clip_in (tables m)) (output m) (none p) (marked p) room; out_after = output_written (refusal_in (tables m)) (clip_in (tables m)) (output m) (marked p) room c.put_sections.ensures }

@@ -6,4 +6,4 @@ use Rattle.ep_map_queries.proofs.entries.find_in.Goals as goal
 pub returns : goal.returns
 returns c =
     let a = c.args in
-    c.found_row.ensures ∙ find_is a.entries.now a.first a.count a.is-after a.at c.scan.result c.scan.ensures
+    c.found_row.ensures ∙ find_is a.entries.now a.first a.count a.is_after a.at c.scan.result c.scan.ensures

@@ -13,17 +13,15 @@ own k = sym (ap owned_of k.first-1.given.1) ∙ k.entries_of_map.ensures
 
 pub seek_in-requires : goal.seek_in-requires
 seek_in-requires c =
-    let k = c in
-    let a = k.before.before.before.before.before.before.args in
-    (inside (stated a.maps.now a.map_rows) (stated a.entries.now a.entry_rows) a.map (own k), omega arith)
+    let a = c.args in
+    (inside (stated a.maps.now a.map_rows) (stated a.entries.now a.entry_rows) a.map (own c), omega arith)
 
 pub returns-in-Refused : goal.returns-in-Refused
 returns-in-Refused c =
     let a = c.args in
-    not_asked (seek_asks (stated a.maps.now a.map_rows) (stated a.entries.now a.entry_rows) a.map a.is-after a.at.0) (sym (ap owned_of c.enum_told-1.given.1) ∙ c.entries_of_map.ensures)
+    not_asked (seek_asks (stated a.maps.now a.map_rows) (stated a.entries.now a.entry_rows) a.map a.is_after a.at.0) (sym (ap owned_of c.enum_told-1.given.1) ∙ c.entries_of_map.ensures)
 
 pub returns-in-Rows : goal.returns-in-Rows
 returns-in-Rows c =
-    let k = c in
-    let a = k.before.before.before.before.before.before.args in
-    c.seek_in.ensures ∙ asked (seek_asks (stated a.maps.now a.map_rows) (stated a.entries.now a.entry_rows) a.map a.is-after a.at.0) (own k)
+    let a = c.args in
+    c.seek_in.ensures ∙ asked (seek_asks (stated a.maps.now a.map_rows) (stated a.entries.now a.entry_rows) a.map a.is_after a.at.0) (own c)

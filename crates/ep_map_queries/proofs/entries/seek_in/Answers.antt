@@ -38,7 +38,6 @@ returns-in-Nothing c =
 
 pub returns-in-Number : goal.returns-in-Number
 returns-in-Number c =
-    let k = c in
-    let a = k.before.before.before.before.before.args in
-    packet_is a.entries.now a.first a.count a.at k.before.row.given.0.0 (row_below k) c.packet_at.ensures
-    ∙ ap (of_row packet (entries_at a.entries.now a.first a.count)) (found-row k)
+    let a = c.args in
+    packet_is a.entries.now a.first a.count a.at c.row-1.given.0.0 (row_below c) c.packet_at.ensures
+    ∙ ap (of_row packet (entries_at a.entries.now a.first a.count)) (found-row c)

@@ -7,9 +7,8 @@ use Rattle.limits.proofs.rows.rows_fit.Goals as goal
 
 pub loop-k-init : goal.loop-k-init
 loop-k-init c =
-    let s = c in
-    let a = s.args in
-    tested_first (fits_by a.kind) (table_cells a.kind) a.t.now a.p a.n s.requires
+    let a = c.args in
+    tested_first (fits_by a.kind) (table_cells a.kind) a.t.now a.p a.n c.requires
 
 pub row_fits-requires : goal.row_fits-requires
 row_fits-requires c =
@@ -35,8 +34,8 @@ loop-k-preserved c =
     let l = c.loop-k in
     tested_turn (fits_by a.kind) (table_cells a.kind) a.t.now a.p a.n l.k l.at c.loop-k-test.true l.invariant c.row_fits.ensures c.if-not-row_fits.false c.row_bytes_lem.ensures
 
-pub returns : goal.returns
-returns c =
+pub returns-then-not-row_fits : goal.returns
+returns-then-not-row_fits c =
     let a = c.args in
     let l = c.loop-k in
     tested_done (fits_by a.kind) (table_cells a.kind) a.t.now a.p a.n l.k l.at c.loop-k-test.false l.invariant

@@ -13,21 +13,18 @@ tables c =
     stated_tables no_scalars a.rows a.atcs.now a.stcs.now a.programs.now a.streams.now a.maps.now []
 
 pub groups_fit-requires : goal.groups_fit-requires
-groups_fit-requires c = c.requires.0
+groups_fit-requires c = c.requires.sequences
 
 pub returns-then-not-groups_fit : goal.returns-then-not-groups_fit
 returns-then-not-groups_fit c = sequences_fail (tables c) c.groups_fit.ensures c.if-not-groups_fit.true
 
 pub groups_fit-requires-2 : goal.groups_fit-requires-2
-groups_fit-requires-2 c = c.requires.1.0
+groups_fit-requires-2 c = c.requires.programs
 
 pub returns-then-not-groups_fit-2 : goal.returns-then-not-groups_fit-2
 returns-then-not-groups_fit-2 c =
-    let sequences = c in
-    programs_fail (tables sequences.before) sequences.before.groups-fit.ensures sequences.if1.false c.groups_fit-2.ensures c.if-not-groups_fit-2.true
+    programs_fail (tables c) c.groups_fit.ensures c.if-not-groups_fit.false c.groups_fit-2.ensures c.if-not-groups_fit-2.true
 
-pub returns : goal.returns
-returns c =
-    let programs = c in
-    let sequences = programs.before.before in
-    maps_decide (tables sequences.before) sequences.before.groups-fit.ensures sequences.if1.false programs.before.groups-fit2.ensures programs.if2.false c.heads_fit.ensures
+pub returns-then-not-groups_fit : goal.returns
+returns-then-not-groups_fit c =
+    maps_decide (tables c) c.groups_fit.ensures c.if-not-groups_fit.false c.groups_fit-2.ensures c.if-not-groups_fit-2.false c.heads_fit.ensures

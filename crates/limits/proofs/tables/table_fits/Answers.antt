@@ -4,7 +4,7 @@ use Rattle.limits.proofs.Clips.{table_room}
 use Rattle.limits.proofs.tables.table_fits.Goals as goal
 
 pub rows_fit-requires : goal.rows_fit-requires
-rows_fit-requires c = let s = c in let a = s.args in table_room a.kind a.t.now a.rows s.requires
+rows_fit-requires c = let a = c.args in table_room a.kind a.t.now a.rows c.requires
 
 pub returns : goal.returns
 unfolding table_rows_of

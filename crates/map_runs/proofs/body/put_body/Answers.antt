@@ -12,7 +12,7 @@ put_coarse-fine-requires c =
 
 pub overflow_cast-fine : goal.overflow_cast-fine
 overflow_cast-fine c =
-    record { fits = omega (arith, c.put_coarse-fine.ensures.0, c.requires.rows.few, runs_within c.args.file.now c.args.m) }
+    record { fits = omega (arith, c.put_coarse-fine.ensures.value, c.requires.rows.few, runs_within c.args.file.now c.args.m) }
 
 pub put_u32-requires : goal.put_u32-requires
 put_u32-requires c =
@@ -20,13 +20,13 @@ put_u32-requires c =
 
 pub put_fine-requires : goal.put_fine-requires
 put_fine-requires c =
-    record { rows = c.requires.rows; room = omega (arith, c.requires.room, body_size c.args.file.now c.args.m, c.put_coarse-fine.ensures.0, c.put_coarse-fine.kept, c.put_u32.kept) }
+    record { rows = c.requires.rows; room = omega (arith, c.requires.room, body_size c.args.file.now c.args.m, c.put_coarse-fine.ensures.value, c.put_coarse-fine.kept, c.put_u32.kept) }
 
 pub returns : goal.returns
 returns c =
     let a = c.args in
-    let coarse = c.put_coarse-fine in (
-      omega (arith, coarse.ensures.0),
-      body_stored (entries_in a.file.now a.m) a.out.now a.at coarse.result _ coarse.ensures.0 refl
-          coarse.ensures.1 c.put_u32.ensures c.put_fine.ensures.1,
-    )
+    let coarse = c.put_coarse-fine in record {
+      value = omega (arith, coarse.ensures.0);
+      out_after = body_stored (entries_in a.file.now a.m) a.out.now a.at coarse.result _ coarse.ensures.0 refl
+          coarse.ensures.1 c.put_u32.ensures c.put_fine.ensures.out_after;
+    }

@@ -53,4 +53,4 @@ pub returns : goal.returns
 returns c =
     let a = c.args in
     let l = c.loop-k in
-    (refl, fine_done a.file.now a.m a.out.now a.at l.out l.walk l.k l.inv c.loop-k-test.false)
+    record { value = refl; out_after = fine_done a.file.now a.m a.out.now a.at l.out l.walk l.k l.inv c.loop-k-test.false }

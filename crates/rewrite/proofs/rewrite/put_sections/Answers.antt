@@ -73,5 +73,5 @@ unfolding clip_of
 returns c =
     let f = F n in
     let at = c.read-starts.ensures in
-    placed_stored (clip_of f) c.requires.placed c.args.out-1.now (stored_as _ 0 c.put_head.ensures (head_in f _ _ _ c.clip_info.ensures)) (stored_as _ 220 c.put_sequences.ensures.1 (sequences_in f at.sequences))
-    (stored_as _ c.args.programs_at c.put_programs.ensures.1 (programs_in f at.programs)) (stored_as _ c.args.cpi_at c.put_cpi.ensures.1 (cpi_in_lem f at.cpi)) c.put_marks.ensures
+    placed_stored (clip_of f) c.requires.placed c.args.out-1.now (stored_as _ 0 c.put_head.ensures (head_in f _ _ _ c.clip_info.ensures)) (stored_as _ 220 c.put_sequences.ensures.out_after (sequences_in f at.sequences))
+    (stored_as _ c.args.programs_at c.put_programs.ensures.out_after (programs_in f at.programs)) (stored_as _ c.args.cpi_at c.put_cpi.ensures.out_after (cpi_in_lem f at.cpi)) c.put_marks.ensures

@@ -33,7 +33,7 @@ unfolding rewrite_answer
 returns-then-out-len c =
     let k : goal.In-Places-2 = search in
     let r = ready k (k.atcs-1.given.0.1.1.1.1.1.0 + 6) (omega arith) in
-    (answer_short (rewrite_refusal (F k)) (clip_of (F k)) (O k) r.rewritable r.placed.marks_at (omega arith), refl)
+    record { result_value = answer_short (rewrite_refusal (F k)) (clip_of (F k)) (O k) r.rewritable r.placed.marks_at (omega arith); out_after = refl }
 
 pub put_sections-requires : goal.put_sections-requires
 put_sections-requires c =
@@ -44,11 +44,11 @@ pub returns-in-Refused : goal.returns-in-Refused
 unfolding rewrite_answer
 returns-in-Refused c =
     let f = c.args.file.now in
-    (answer_refused (rewrite_refusal f) (clip_of f) c.args.out-1.now (refusal_told f c.plan.ensures c.n-1.given.1), refl)
+    record { result_value = answer_refused (rewrite_refusal f) (clip_of f) c.args.out-1.now (refusal_told f c.plan.ensures c.n-1.given.1); out_after = refl }
 
 pub returns-else-out-len : goal.returns-else-out-len
 unfolding rewrite_answer
 returns-else-out-len c =
     let k : goal.In-Places-2 = search in
     let r = ready k (length (O k)) (omega arith) in
-    (answer_written (rewrite_refusal (F k)) (clip_of (F k)) (O k) r.rewritable r.placed.marks_at r.placed.room, output_written (rewrite_refusal (F k)) (clip_of (F k)) (O k) r.placed.marks_at r.placed.room c.put_sections.ensures)
+    record { result_value = answer_written (rewrite_refusal (F k)) (clip_of (F k)) (O k) r.rewritable r.placed.marks_at r.placed.room; out_after = output_written (rewrite_refusal (F k)) (clip_of (F k)) (O k) r.placed.marks_at r.placed.room c.put_sections.ensures }

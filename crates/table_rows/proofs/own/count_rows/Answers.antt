@@ -8,14 +8,13 @@ pub loop-k-init : goal.loop-k-init
 loop-k-init c = let a = c.args in (omega arith, sum_first a.heads.now a.rows a.cell)
 
 pub overflow_add-sum : goal.overflow_add-sum
-overflow_add-sum c = let l = c.loop-k in record { fits = omega (arith, l.invariant.1.small, c.Cell-at.ensures.below) }
+overflow_add-sum c = let l = c.loop-k in record { fits = omega (arith, l.invariant.1.small, c.cell_at.ensures.below) }
 
 pub loop-k-preserved : goal.loop-k-preserved
 loop-k-preserved c =
-    let s = c in
-    let a = s.args in
+    let a = c.args in
     let l = c.loop-k in
-    (omega arith, sum_turn a.heads.now a.rows a.cell l.k l.sum s.requires.1 (omega arith) c.Cell-at.ensures l.invariant.1)
+    (omega arith, sum_turn a.heads.now a.rows a.cell l.k l.sum c.requires.1 (omega arith) c.cell_at.ensures l.invariant.1)
 
 pub returns : goal.returns
 returns c =

@@ -13,12 +13,12 @@ heads-fit e = let a = e.args in heads_there a.heads.now a.rows.now a.head_rows a
 pub returns-then-not-adds_up : goal.returns-then-not-adds_up
 returns-then-not-adds_up c =
     let a = c.args in
-    not_counted a.heads.now a.rows.now a.head_rows a.row-rows a.cell a.cells a.head c.adds_up.ensures c.if-not-adds_up.true
+    not_counted a.heads.now a.rows.now a.head_rows a.row_rows a.cell a.cells a.head c.adds_up.ensures c.if-not-adds_up.true
 
 pub returns-then-head-head_rows : goal.returns-then-head-head_rows
 returns-then-head-head_rows c =
     let a = c.args in
-    no_head a.heads.now a.rows.now a.head_rows a.row-rows a.cell a.cells a.head c.adds_up.ensures c.if-not-adds_up.false c.if-head-head_rows.true
+    no_head a.heads.now a.rows.now a.head_rows a.row_rows a.cell a.cells a.head c.adds_up.ensures c.if-not-adds_up.false c.if-head-head_rows.true
 
 pub count_rows-first-requires : goal.count_rows-first-requires
 count_rows-first-requires c = (omega (arith, heads-fit c, c.if-head-head_rows.false), c.requires.0)
@@ -26,9 +26,7 @@ count_rows-first-requires c = (omega (arith, heads-fit c, c.if-head-head_rows.fa
 pub cell_at-count-requires : goal.cell_at-count-requires
 cell_at-count-requires c = omega (arith, heads-fit c, c.if-head-head_rows.false, c.requires.0)
 
-pub returns : goal.returns
-returns c =
-    let e = c in
-    let s = e.before.before.before.before.before in
-    let a = s.args in
-    owned a.heads.now a.rows.now a.head_rows a.row-rows a.cell a.cells a.head e.before.before.adds_up.ensures e.before.if1.false e.if2.false s.requires.0 c.count_rows-first.ensures c.Cell-at.ensures
+pub returns-then-not-adds_up : goal.returns
+returns-then-not-adds_up c =
+    let a = c.args in
+    owned a.heads.now a.rows.now a.head_rows a.row_rows a.cell a.cells a.head c.adds_up.ensures c.if-not-adds_up.false c.if-head-head_rows.false c.requires.0 c.count_rows-first.ensures c.cell_at-count.ensures
