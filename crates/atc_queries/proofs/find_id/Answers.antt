@@ -22,8 +22,8 @@ loop-k-preserved c =
     let l = c.loop-k in
     (omega arith, ids_turn a.atcs.now a.rows a.id l.k l.first (omega arith) c.cell_at-count.ensures c.cell_at-offset.ensures c.has_id.ensures l.invariant.1 c.if-has_id.false)
 
-pub returns-then-has_id : goal.returns
-returns-then-has_id c =
+pub returns : goal.returns
+returns c =
     let a = c.args in
     let l = c.loop-k in
     id_none a.atcs.now a.rows a.id l.k l.first c.loop-k-test.false l.invariant.1

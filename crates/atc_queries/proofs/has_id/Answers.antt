@@ -5,5 +5,5 @@ use Rattle.atc_queries.proofs.has_id.Goals as goal
 pub returns-then-id-offset : goal.returns-then-id-offset
 returns-then-id-offset c = let a = c.args in below_offset a.id a.offset a.count c.if-id-offset.true
 
-pub returns-then-id-offset : goal.returns
-returns-then-id-offset c = let a = c.args in from_offset a.id a.offset a.count c.if-id-offset.false
+pub returns : goal.returns
+returns c = let a = c.args in from_offset a.id a.offset a.count c.if-id-offset.false

@@ -33,7 +33,7 @@ put_answer-requires c =
     rw (c.read_answer.ensures.1.1.1.1.1.0, c.read_answer.ensures.1.1.1.1.1.1.0)
     (tellable (F c) (bytes c) (rows4096 map_cells) (rows4096 entry_cells) c.read_answer.result c.args.out-1.now (answered c) c.requires)
 
-pub returns-then-input-gt65536 : goal.returns
-returns-then-input-gt65536 c =
+pub returns : goal.returns
+returns c =
     shows_as (rw (c.read_answer.ensures.1.1.1.1.1.0, c.read_answer.ensures.1.1.1.1.1.1.0) (told (F c) (bytes c) (rows4096 map_cells) (rows4096 entry_cells) c.read_answer.result (answered c) ∙ sym (listing_within (F c) (search rules))))
     c.put_answer.ensures

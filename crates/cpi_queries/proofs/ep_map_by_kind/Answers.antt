@@ -5,4 +5,4 @@ use Rattle.cpi_queries.proofs.Choice.{kind_asked}
 use Rattle.cpi_queries.proofs.ep_map_by_kind.Goals as goal
 
 pub returns : goal.returns
-returns c = let a = c.args in c.first_row_lem.ensures ∙ kind_asked (stated a.maps.now a.rows) a.kind
+returns c = let a = c.args in c.first_row.ensures ∙ kind_asked (stated a.maps.now a.rows) a.kind

@@ -17,7 +17,7 @@ loop-k-preserved c =
     let l = c.loop-k in
     (l.inv.0, omega arith, pids_turn c.args.maps.now c.args.rows l.k l.least (omega arith) c.cell_at-pid.ensures c.lesser-least.ensures l.inv.2)
 
-pub returns-then-rows-eq0 : goal.returns
-returns-then-rows-eq0 c =
+pub returns : goal.returns
+returns c =
     let l = c.loop-k in
     pid_is c.args.maps.now c.args.rows l.k l.least (omega arith) l.inv.2

@@ -5,4 +5,4 @@ use Rattle.cpi_queries.proofs.Choice.{video_asked}
 use Rattle.cpi_queries.proofs.next_video_ep_map.Goals as goal
 
 pub returns : goal.returns
-returns c = let a = c.args in c.first_row_lem.ensures ∙ video_asked (stated a.maps.now a.rows) a.from
+returns c = let a = c.args in c.first_row.ensures ∙ video_asked (stated a.maps.now a.rows) a.from

@@ -14,7 +14,7 @@ returns-in-Refused c =
     else_refused (least_pid (map map_pid (table_rows_of map_cells a.maps.now a.rows))) (ap found_of (sym c.refusal-1.given.1) ∙ c.next_video_ep_map.ensures)
 
 pub returns-in-Nothing : goal.returns-in-Nothing
-returns-in-Nothing c = else_later (ap found_of (sym c.enum_told-1.given.1) ∙ c.next_video_ep_map.ensures) c.least_pid_lem.ensures
+returns-in-Nothing c = else_later (ap found_of (sym c.enum_told-1.given.1) ∙ c.next_video_ep_map.ensures) c.least_pid.ensures
 
 pub returns-in-Number : goal.returns-in-Number
 returns-in-Number c =

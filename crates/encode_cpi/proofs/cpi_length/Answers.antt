@@ -124,8 +124,8 @@ returns-then-not-few c =
     let l = c.loop-k in
     measured_many a.maps.now a.n a.entries.now a.m l.len l.few l.row l.k l.inv c.loop-k-test.false c.if-not-few.true
 
-pub returns-then-n-eq0 : goal.returns
-returns-then-n-eq0 c =
+pub returns : goal.returns
+returns c =
     let a = c.args in
     let l = c.loop-k in
     measured_done a.maps.now a.n a.entries.now a.m l.len l.few l.row l.k l.inv c.loop-k-test.false c.if-not-few.false c.if-n-eq0.false

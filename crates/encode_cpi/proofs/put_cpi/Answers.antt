@@ -51,7 +51,7 @@ put_maps-requires c =
       room = omega (arith, c.requires.room, c.put_top.kept);
     }
 
-pub returns-then-n-eq0 : goal.returns
-returns-then-n-eq0 c =
+pub returns : goal.returns
+returns c =
     let a = c.args in
     record { value = refl; out_after = cpi_put a.maps.now a.n a.entries.now a.m a.out.now a.at a.len c.requires c.if-n-eq0.false c.put_top.ensures c.put_maps.ensures }

@@ -34,7 +34,7 @@ put_coarse_row-requires c =
 pub overflow_sub-result : goal.overflow_sub-result
 overflow_sub-result c = deep c
 
-pub returns-then-same_run : goal.returns
-returns-then-same_run c =
+pub returns : goal.returns
+returns c =
     let a = c.args in
     own_stored (own_by a.k a.before a.pair) (coarse_by a.k a.pair.time a.pair.packet) a.out.now a.to (one c) (deep c) c.put_coarse_row.ensures

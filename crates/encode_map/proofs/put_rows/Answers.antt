@@ -127,8 +127,8 @@ put_coarse_row-requires c =
 pub overflow_sub-result : goal.overflow_sub-result
 overflow_sub-result c = deep c
 
-pub returns-then-n-eq0 : goal.returns
-returns-then-n-eq0 c =
+pub returns : goal.returns
+returns c =
     let a = c.args in
     let l = c.loop-k in
     first_stored a.entries.now a.p a.n a.out.now a.fine (some c) l.out l.to l.k l.pair l.invariant (last c) c.requires.below

@@ -12,8 +12,8 @@ unfolding pairs_counted
 returns-then-not-adds_up-2 c =
     then_second _ _ c.adds_up.ensures c.if-not-adds_up.false (first_fails _ _ c.adds_up-2.ensures c.if-not-adds_up-2.true)
 
-pub returns-then-not-adds_up : goal.returns
+pub returns : goal.returns
 unfolding pairs_counted
-returns-then-not-adds_up c =
+returns c =
     then_second _ _ c.adds_up.ensures c.if-not-adds_up.false
     (then_second _ _ c.adds_up-2.ensures c.if-not-adds_up-2.false c.adds_up-3.ensures)

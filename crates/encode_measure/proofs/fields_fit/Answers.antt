@@ -5,6 +5,6 @@ use Rattle.encode_measure.proofs.fields_fit.Goals as goal
 pub returns-then-not-scalars_fit : goal.returns-then-not-scalars_fit
 returns-then-not-scalars_fit c = first_fails _ _ c.scalars_fit.ensures c.if-not-scalars_fit.true
 
-pub returns-then-not-scalars_fit : goal.returns
-returns-then-not-scalars_fit c =
+pub returns : goal.returns
+returns c =
     then_second _ _ c.scalars_fit.ensures c.if-not-scalars_fit.false c.cells_fit.ensures

@@ -132,8 +132,8 @@ overflow_add-marks_at c =
     let b : goal.In-Bytes-2 = search in
     record { fits = omega (arith, marks_bound (writable b) (none b), (few b).1, sequences_long (writable b) c.section_length-programs_at.ensures, programs_long (writable b) c.section_length.ensures, place_programs (clip b), place_cpi (clip b), place_marks (clip b)) }
 
-pub returns-then-not-counts_add : goal.returns
-returns-then-not-counts_add c =
+pub returns : goal.returns
+returns c =
     let b : goal.In-Bytes-2 = search in
     let first = sequences_long (writable b) c.section_length-programs_at.ensures in
     let second = programs_long (writable b) c.section_length.ensures in

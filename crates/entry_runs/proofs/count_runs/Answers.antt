@@ -26,8 +26,8 @@ loop-k-preserved c =
     let a = c.args in
     counted_turn a.entries.now a.p a.n a.map_type c.loop-k.count c.loop-k.k c.loop-k.invariant (next c)
 
-pub returns-in_default : goal.returns
-returns-in_default c =
+pub returns : goal.returns
+returns c =
     let a = c.args in
     let l = c.loop-k in
     counted_done a.entries.now a.p a.n a.map_type l.count l.k l.invariant c.loop-k-test.false

@@ -11,6 +11,6 @@ pub returns-then-words-first-2 : goal.returns-then-words-first-2
 returns-then-words-first-2 c =
     other_packet c.args.first c.args.words (search rules) (search rules) c.requires c.if-words-first.false c.if-words-first-2.true
 
-pub returns-then-words-first : goal.returns
-returns-then-words-first c =
+pub returns : goal.returns
+returns c =
     angles_tell c.args.first c.args.words (search rules) (search rules) c.requires c.if-words-first.false c.if-words-first-2.false

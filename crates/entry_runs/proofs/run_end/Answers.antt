@@ -38,7 +38,7 @@ loop-k-preserved c =
     let a = c.args in
     along_turn a.entries.now a.p a.n a.map_type a.from c.loop-k.k (compared g) c.if-not-goes_on.false
 
-pub returns-then-not-row_fits : goal.returns
-returns-then-not-row_fits c =
+pub returns : goal.returns
+returns c =
     let a = c.args in
     along_done a.entries.now a.p a.n a.map_type a.from c.loop-k.k c.loop-k.invariant c.loop-k-test.false

@@ -6,6 +6,6 @@ pub returns-then-same_run : goal.returns-then-same_run
 returns-then-same_run c =
     stopped_as c.args.first c.args.words c.args.k c.packet_of.ensures c.packet_of-2.ensures c.same_run.ensures c.if-same_run.true
 
-pub returns-then-same_run : goal.returns
-returns-then-same_run c =
+pub returns : goal.returns
+returns c =
     stopped_as c.args.first c.args.words c.args.k c.packet_of.ensures c.packet_of-2.ensures c.same_run.ensures c.if-same_run.false

@@ -10,7 +10,7 @@ returns-then-is_last c =
     let a = c.args in
     last_end a.entries.now a.first a.count a.is_last c.if-is_last.true c.if-count-eq0.false c.time_of.ensures
 
-pub returns-then-count-eq0 : goal.returns
-returns-then-count-eq0 c =
+pub returns : goal.returns
+returns c =
     let a = c.args in
     first_end a.entries.now a.first a.count a.is_last c.if-is_last.false c.if-count-eq0.false c.time_of-2.ensures

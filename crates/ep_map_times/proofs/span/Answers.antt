@@ -5,7 +5,7 @@ use Rattle.ep_map_times.proofs.span.Goals as goal
 pub returns-then-count-eq0 : goal.returns-then-count-eq0
 returns-then-count-eq0 c = let a = c.args in no_span a.entries.now a.first a.count c.if-count-eq0.true
 
-pub returns-then-count-eq0 : goal.returns
-returns-then-count-eq0 c =
+pub returns : goal.returns
+returns c =
     let a = c.args in
     span_is a.entries.now a.first a.count c.if-count-eq0.false c.time_of.ensures c.time_of-2.ensures c.less.ensures

@@ -11,6 +11,6 @@ pub returns-then-s-len : goal.returns-then-s-len
 returns-then-s-len c =
     data_past c.args.file.now c.args.start c.args.p c.requires c.u32_at-addr.ensures c.u32_at-len.ensures c.if-s-len.true
 
-pub returns-then-addr-eq0 : goal.returns
-returns-then-addr-eq0 c =
+pub returns : goal.returns
+returns c =
     data_kept c.args.file.now c.args.start c.args.p c.requires c.u32_at-addr.ensures c.u32_at-len.ensures c.if-addr-eq0.false c.if-s-len.false c.u16_at.ensures c.u16_at-2.ensures

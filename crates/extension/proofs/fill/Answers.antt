@@ -14,8 +14,8 @@ fill_entries-requires c =
     let e = sym c.n-1.given.1 ∙ c.head_at.ensures in
     (block f c.args.start (λ i. (c.shared_slice_known-1.given i).fits) c.requires.0 e, table_room f c.args.start c.n-1.given.0.0 c.args.table-1.now (rows_are f c.args.start e) c.requires.1)
 
-pub returns-in_default : goal.returns
-returns-in_default c =
+pub returns : goal.returns
+returns c =
     let f = c.args.file.now in
     let e = sym c.n-1.given.1 ∙ c.head_at.ensures in
     table_filled f c.args.start c.n-1.given.0.0 c.args.table-1.now (rows_are f c.args.start e) c.requires.1 c.fill_entries.ensures

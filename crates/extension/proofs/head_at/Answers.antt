@@ -114,8 +114,8 @@ pub overflow_add-start-2 : goal.overflow_add-start-2
 overflow_add-start-2 c =
     omega (arith, (got-length l).inside, length-below l, c.requires)
 
-pub returns-then-start-eq0 : goal.returns
-returns-then-start-eq0 c =
+pub returns : goal.returns
+returns c =
     let n : goal.In-Read-read_u8-2 = search in
     let count = got-count n in
     let all = went (file b) (n.n-1.given.0.1.0.pos + 12 * n.n-1.given.0.0) (sym c.enum_told-in-At-skip-2-1.given.1 ∙ c.skip-2.ensures) in

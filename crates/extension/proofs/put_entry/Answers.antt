@@ -12,7 +12,7 @@ pub put_row4-requires : goal.put_row4-requires
 put_row4-requires c =
     omega (arith, c.requires, entry_size_lem c.args.entry-1 c.entry-1.given.1)
 
-pub returns-in_default : goal.returns
-returns-in_default c =
+pub returns : goal.returns
+returns c =
     let a = c.args in
     one_put a.entry c.entry-1.given.1 a.at a.table.now c.put_row4.ensures

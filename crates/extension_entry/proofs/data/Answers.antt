@@ -23,7 +23,7 @@ overflow_add-end c = omega (arith, inside c)
 pub slice-bounds-result-end-2 : goal.slice-bounds-result-end-2
 slice-bounds-result-end-2 c = omega (arith, inside c)
 
-pub returns-in_default : goal.returns
-returns-in_default c =
+pub returns : goal.returns
+returns c =
     let a = c.args in
     rw (add-sub_cancel_left c.start-1.given.0.0 c.start-1.given.0.1.0) (given a.file.now (stated a.table.now a.rows) a.row (sym c.start-1.given.1 ∙ c.data_place.ensures.same)).1

@@ -18,7 +18,7 @@ returns-then-start-len c =
     let a = c.args in
     outside a.file.now (stated a.table.now a.rows) a.row c.if-table-rows.false c.if-row-rows.false c.cell_at-start.ensures c.cell_at-len.ensures c.if-start-len.true
 
-pub returns-then-table-rows : goal.returns
-returns-then-table-rows c =
+pub returns : goal.returns
+returns c =
     let a = c.args in
     within a.file.now (stated a.table.now a.rows) a.row c.if-table-rows.false c.if-row-rows.false c.cell_at-start.ensures c.cell_at-len.ensures c.if-start-len.false

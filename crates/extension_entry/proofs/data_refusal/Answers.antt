@@ -9,7 +9,7 @@ returns-in-Refused c =
     let a = c.args in
     (not_given a.file.now (stated a.table.now a.rows) a.row (sym c.enum_told-1.given.1 ∙ c.data_place.ensures.same)).0
 
-pub returns-in-Refused : goal.returns
-returns-in-Refused c =
+pub returns : goal.returns
+returns c =
     let a = c.args in
     (given a.file.now (stated a.table.now a.rows) a.row (sym c.enum_told-in_default-1.given.1 ∙ c.data_place.ensures.same)).0

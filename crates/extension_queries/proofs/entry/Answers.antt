@@ -8,12 +8,12 @@ use Rattle.extension_queries.proofs.entry.Goals as goal
 
 -- the rows are there
 rows_fit : (e : goal.Else-not-is_stated) → let a = e.args in a.rows ≤ row_room extension_cells a.extensions.now
-rows_fit e = let a = e.args in room extension_cells (stated a.extensions.now a.rows) e.is_stated_lem.ensures e.if-not-is_stated.false
+rows_fit e = let a = e.args in room extension_cells (stated a.extensions.now a.rows) e.is_stated.ensures e.if-not-is_stated.false
 
 pub returns-then-not-is_stated : goal.returns-then-not-is_stated
 returns-then-not-is_stated c =
     let a = c.args in
-    not_stated a.extensions.now a.rows a.id1 a.id2 c.is_stated_lem.ensures c.if-not-is_stated.true
+    not_stated a.extensions.now a.rows a.id1 a.id2 c.is_stated.ensures c.if-not-is_stated.true
 
 pub loop-k-init : goal.loop-k-init
 loop-k-init c = let a = c.args in (omega arith, searched_all a.extensions.now a.rows a.id1 a.id2)
@@ -28,7 +28,7 @@ pub returns-then-are_ids : goal.returns-then-are_ids
 returns-then-are_ids c =
     let a = c.args in
     let l = c.loop-k in
-    row_is a.extensions.now a.rows a.id1 a.id2 l.k (omega arith) c.cell_at.ensures c.cell_at-in-loop-k.ensures c.are_ids.ensures l.invariant.1 c.if-are_ids.true c.is_stated_lem.ensures c.if-not-is_stated.false
+    row_is a.extensions.now a.rows a.id1 a.id2 l.k (omega arith) c.cell_at.ensures c.cell_at-in-loop-k.ensures c.are_ids.ensures l.invariant.1 c.if-are_ids.true c.is_stated.ensures c.if-not-is_stated.false
 
 pub loop-k-preserved : goal.loop-k-preserved
 loop-k-preserved c =
@@ -36,8 +36,8 @@ loop-k-preserved c =
     let l = c.loop-k in
     (omega arith, row_fails a.extensions.now a.rows a.id1 a.id2 l.k (omega arith) c.cell_at.ensures c.cell_at-in-loop-k.ensures c.are_ids.ensures l.invariant.1 c.if-are_ids.false)
 
-pub returns-then-not-is_stated : goal.returns
-returns-then-not-is_stated c =
+pub returns : goal.returns
+returns c =
     let a = c.args in
     let l = c.loop-k in
-    no_row a.extensions.now a.rows a.id1 a.id2 l.k c.loop-k-test.false l.invariant.1 c.is_stated_lem.ensures c.if-not-is_stated.false
+    no_row a.extensions.now a.rows a.id1 a.id2 l.k c.loop-k-test.false l.invariant.1 c.is_stated.ensures c.if-not-is_stated.false

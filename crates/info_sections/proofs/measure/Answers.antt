@@ -99,8 +99,8 @@ loop-k-preserved c =
       counted_turn l.inv.1 more next.1 (c.own_count.ensures.same ∙ sym (own_length (own n) (file n) l.pos)) c.own_count.ensures.below,
     )
 
-pub returns-in_default : goal.returns
-returns-in_default c =
+pub returns : goal.returns
+returns c =
     let k : goal.In-Read-2 = search in
     let l = c.loop-k in
     let s = kind k in

@@ -14,6 +14,6 @@ pub returns-then-time-at : goal.returns-then-time-at
 returns-then-time-at c =
     before_it_lem c.args.at c.args.time c.if-is_after.false c.if-time-at.true
 
-pub returns-then-at-time : goal.returns
-returns-then-at-time c =
+pub returns : goal.returns
+returns c =
     not_before c.args.at c.args.time c.if-is_after.false c.if-time-at.false

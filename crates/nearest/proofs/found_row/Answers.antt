@@ -1,5 +1,4 @@
 -- Each test rules one case out.
-use borrow.Author.Tests.{not-true, not-false}
 use Rattle.nearest.proofs.Steps.{no_rows, a_row_before, none_after, a_row_after}
 use Rattle.nearest.proofs.found_row.Goals as goal
 
@@ -9,14 +8,14 @@ returns-then-rows-eq0 c = let a = c.args in no_rows a.is_after a.nearest c.if-ro
 pub returns-then-not-is_after : goal.returns-then-not-is_after
 returns-then-not-is_after c =
     let a = c.args in
-    a_row_before a.nearest c.if-rows-eq0.false (not-true a.is_after c.if-not-is_after.true)
+    a_row_before a.nearest c.if-rows-eq0.false c.if-not-is_after.true
 
 pub returns-then-nearest-eq-FAR : goal.returns-then-nearest-eq-FAR
 returns-then-nearest-eq-FAR c =
     let a = c.args in
-    none_after a.nearest c.if-rows-eq0.false (not-false a.is_after c.if-not-is_after.false) c.if-nearest-eq-FAR.true
+    none_after a.nearest c.if-rows-eq0.false c.if-not-is_after.false c.if-nearest-eq-FAR.true
 
-pub returns-then-rows-eq0 : goal.returns
-returns-then-rows-eq0 c =
+pub returns : goal.returns
+returns c =
     let a = c.args in
-    a_row_after a.nearest c.if-rows-eq0.false (not-false a.is_after c.if-not-is_after.false) c.if-nearest-eq-FAR.false
+    a_row_after a.nearest c.if-rows-eq0.false c.if-not-is_after.false c.if-nearest-eq-FAR.false

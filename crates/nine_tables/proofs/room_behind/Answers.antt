@@ -19,6 +19,6 @@ pub returns-then-bytes-rows-4 : goal.returns-then-bytes-rows-4
 unfolding room_behind
 returns-then-bytes-rows-4 c = simp (le-leb _ _ c.if-bytes-rows.false, le-leb _ _ c.if-bytes-rows-2.false, le-leb _ _ c.if-bytes-rows-3.false, lt-leb _ _ c.if-bytes-rows-4.true)
 
-pub returns-then-bytes-rows : goal.returns
+pub returns : goal.returns
 unfolding room_behind
-returns-then-bytes-rows c = simp (le-leb _ _ c.if-bytes-rows.false, le-leb _ _ c.if-bytes-rows-2.false, le-leb _ _ c.if-bytes-rows-3.false, le-leb _ _ c.if-bytes-rows-4.false)
+returns c = simp (le-leb _ _ c.if-bytes-rows.false, le-leb _ _ c.if-bytes-rows-2.false, le-leb _ _ c.if-bytes-rows-3.false, le-leb _ _ c.if-bytes-rows-4.false)

@@ -23,6 +23,6 @@ pub returns-then-bytes-rows-5 : goal.returns-then-bytes-rows-5
 unfolding room_of
 returns-then-bytes-rows-5 c = simp (le-leb _ _ c.if-bytes-rows.false, le-leb _ _ c.if-bytes-rows-2.false, le-leb _ _ c.if-bytes-rows-3.false, le-leb _ _ c.if-bytes-rows-4.false, lt-leb _ _ c.if-bytes-rows-5.true)
 
-pub returns-then-bytes-rows : goal.returns
+pub returns : goal.returns
 unfolding room_of
-returns-then-bytes-rows c = simp (c.room_behind.ensures, le-leb _ _ c.if-bytes-rows.false, le-leb _ _ c.if-bytes-rows-2.false, le-leb _ _ c.if-bytes-rows-3.false, le-leb _ _ c.if-bytes-rows-4.false, le-leb _ _ c.if-bytes-rows-5.false)
+returns c = simp (c.room_behind.ensures, le-leb _ _ c.if-bytes-rows.false, le-leb _ _ c.if-bytes-rows-2.false, le-leb _ _ c.if-bytes-rows-3.false, le-leb _ _ c.if-bytes-rows-4.false, le-leb _ _ c.if-bytes-rows-5.false)

@@ -43,7 +43,7 @@ returns-in_default-skip c =
 pub skip_streams-requires : goal.skip_streams-requires
 skip_streams-requires c = omega (arith, streams c)
 
-pub returns-in_default : goal.returns
-returns-in_default c =
+pub returns : goal.returns
+returns c =
     let a = c.args in
     program_passed a.file.now a.r.pos (count c) (streams c).1 c.skip_streams.ensures

@@ -11,8 +11,8 @@ returns-in_default c =
     let f = a.file.now in
     stream_cut f a.r.pos (not_got f (a.r.pos + 2) 1 (sym c.enum_told-1.given.1 ∙ c.read_count.ensures.same))
 
-pub returns-in_default : goal.returns
-returns-in_default c =
+pub returns : goal.returns
+returns c =
     let a = c.args in
     let f = a.file.now in
     stream_passed f a.r.pos (got f (a.r.pos + 2) 1 (sym c.size-1.given.1 ∙ c.read_count.ensures.same)) c.skip.ensures

@@ -28,7 +28,7 @@ loop-k-preserved c =
     let next = went f (next_stream f l.pos) (sym c.next-1.given.1 ∙ c.skip_stream.ensures) in
     along_turn l.invariant c.loop-k-test.true next.1 (omega (arith, next.0, next.1))
 
-pub returns-in_default : goal.returns
-returns-in_default c =
+pub returns : goal.returns
+returns c =
     let l = c.loop-k in
     reached c.args.file.now (along_done l.invariant c.loop-k-test.false) l.invariant.inside

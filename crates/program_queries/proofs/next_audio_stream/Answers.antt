@@ -5,4 +5,4 @@ use Rattle.program_queries.proofs.Laws.{audio_asked}
 use Rattle.program_queries.proofs.next_audio_stream.Goals as goal
 
 pub returns : goal.returns
-returns c = let a = c.args in c.first_row_lem.ensures ∙ audio_asked (stated a.streams.now a.rows) a.from
+returns c = let a = c.args in c.first_row.ensures ∙ audio_asked (stated a.streams.now a.rows) a.from

@@ -5,4 +5,4 @@ use Rattle.program_queries.proofs.Laws.{stream_asked}
 use Rattle.program_queries.proofs.stream_by_pid.Goals as goal
 
 pub returns : goal.returns
-returns c = let a = c.args in c.first_row_lem.ensures ∙ stream_asked (stated a.streams.now a.rows) a.pid
+returns c = let a = c.args in c.first_row.ensures ∙ stream_asked (stated a.streams.now a.rows) a.pid

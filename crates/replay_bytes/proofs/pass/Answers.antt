@@ -39,7 +39,7 @@ loop-i-preserved c =
     let a = c.args in
     one_same a.answer.now a.at a.other.now a.from a.n (search rules) (search rules) c.loop-i-test.true c.loop-i.invariant c.if-answer-at.false
 
-pub returns-then-at-answer : goal.returns
-returns-then-at-answer c =
+pub returns : goal.returns
+returns c =
     let a = c.args in
     all_same a.answer.now a.at a.other.now a.from a.n (search rules) (search rules) c.loop-i-test.false c.loop-i.invariant

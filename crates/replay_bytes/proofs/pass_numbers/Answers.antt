@@ -24,5 +24,5 @@ loop-k-preserved c =
     let cell = c.cell_at.ensures.same in
     one_told a.answer.now a.numbers.now (λ i. (c.shared_slice_known-1.given i).fits) c.if-answer-numbers.false c.loop-k-test.true (c.shared_slice_known-in-loop-k-1.given l.k).fits l.invariant (sym cell ∙ c.if-cell_at-numbers.false)
 
-pub returns-then-answer-numbers : goal.returns
-returns-then-answer-numbers c = all_told c.args.answer.now c.args.numbers.now c.loop-k-test.false c.loop-k.invariant
+pub returns : goal.returns
+returns c = all_told c.args.answer.now c.args.numbers.now c.loop-k-test.false c.loop-k.invariant

@@ -71,7 +71,7 @@ pub pass_extensions-requires : goal.pass_extensions-requires
 pass_extensions-requires c =
     extensions_held (F c) (bytes c) (R c) (T c) (numbers c) (after c) c.if-r-ne0.false
 
-pub returns-then-r-ne0 : goal.returns
-returns-then-r-ne0 c =
+pub returns : goal.returns
+returns c =
     file_same (F c) (bytes c) (R c) (T c) (numbers c) (after c) c.if-r-ne0.false (A c) (small c)
     c.pass_streams-p.ensures c.pass_lists-q.ensures c.pass_extensions.ensures

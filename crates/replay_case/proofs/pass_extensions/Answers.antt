@@ -23,7 +23,7 @@ loop-row-preserved c =
     let a = c.args in
     one_passed a.answer.now a.at a.file.now a.table.now a.rows (search rules) c.loop-row-test.true c.loop-row.invariant c.pass_extension-p.ensures
 
-pub returns-then-at-answer : goal.returns
-returns-then-at-answer c =
+pub returns : goal.returns
+returns c =
     let a = c.args in
     all_passed a.answer.now a.at a.file.now a.table.now a.rows c.loop-row-test.false c.loop-row.invariant

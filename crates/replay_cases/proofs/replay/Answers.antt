@@ -15,5 +15,5 @@ pub loop-at-preserved : goal.loop-at-preserved
 loop-at-preserved c =
     one_counted c.args.sample.now (search rules) c.cell_at-n.ensures.same c.cell_at-m.ensures.same c.loop-at.invariant (search rules) c.is_case_same.ensures c.one_more-same.ensures
 
-pub returns-then-n-m : goal.returns
-returns-then-n-m c = none_left c.args.sample.now c.loop-at-test.false c.loop-at.invariant
+pub returns : goal.returns
+returns c = none_left c.args.sample.now c.loop-at-test.false c.loop-at.invariant

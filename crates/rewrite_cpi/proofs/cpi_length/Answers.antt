@@ -93,7 +93,7 @@ loop-k-preserved c =
     let l = c.loop-k in
     measured_turn a.file.now a.start a.count l.len l.k l.inv c.loop-k-test.true c.map_body-m.result c.map_body-m.ensures c.count_runs-runs.ensures c.if-runs-gt-MOST_RUNS.false
 
-pub returns-then-count-eq0 : goal.returns
-returns-then-count-eq0 c =
+pub returns : goal.returns
+returns c =
     let l = c.loop-k in
     measured_done c.args.file.now c.args.start c.args.count l.len l.k c.requires l.inv c.loop-k-test.false c.if-count-eq0.false

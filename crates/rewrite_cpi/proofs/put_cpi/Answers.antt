@@ -75,8 +75,8 @@ put_maps-requires c =
     let a = c.args in
     maps_room a.file.now a.start u.u8_at-n.result a.len a.out.now a.at (room u) (some u) (few u) c.put_top.kept.1.1.0
 
-pub returns-then-count-eq0 : goal.returns
-returns-then-count-eq0 c =
+pub returns : goal.returns
+returns c =
     let u : goal.After-u8_at-n = search in
     let a = c.args in
     cpi_put a.file.now a.start u.u8_at-n.result a.len a.out.now a.at (room u) (some u) c.put_top.ensures c.put_maps.ensures.value c.put_maps.ensures.out_after

@@ -69,8 +69,8 @@ put_u8-requires-2 c = let room = tagged-room c in search rules
 pub put_u16-requires : goal.put_u16-requires
 put_u16-requires c = let room = tagged-room c in search rules
 
-pub returns-then-is_video : goal.returns
-returns-then-is_video c =
+pub returns : goal.returns
+returns c =
     let a = c.args in
     let r = a.row in
     let is = tagged_bytes r.cell0 r.cell1 r.cell2 r.cell3 r.cell4 c.is_video.ensures c.if-is_video.false c.if-row-eq0.false in

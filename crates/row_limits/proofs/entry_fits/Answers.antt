@@ -46,8 +46,8 @@ returns-then-not-time_fits c =
     let test = c.time_fits in
     time_fails (ltb (a.time / 4294967296) 1) (eqb (a.time % 512) 0) (both (ltb a.entry_type 16) true) (eqb a.entry_type a.map_type) (sym test.ensures ∙ not-true test.result c.if-not-time_fits.true) ∙ sym (left c)
 
-pub returns-then-map_type-ge16 : goal.returns
-returns-then-map_type-ge16 c =
+pub returns : goal.returns
+returns c =
     let a = c.args in
     let test = c.time_fits in
     let fits = both_true {a = ltb (a.time / 4294967296) 1} (sym test.ensures ∙ not-false test.result c.if-not-time_fits.false) in

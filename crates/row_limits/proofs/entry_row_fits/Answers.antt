@@ -6,5 +6,5 @@ use Rattle.row_limits.proofs.entry_row_fits.Goals as goal
 pub returns : goal.returns
 returns c =
     let a = c.args in
-    row_tested a.map_type c.entry_fits_lem.ensures
-    (entry_whole a.t.now a.p c.angle_at.ensures c.i_end_at.ensures c.time_at_lem.ensures c.packet_at.ensures c.type_at.ensures)
+    row_tested a.map_type c.entry_fits.ensures
+    (entry_whole a.t.now a.p c.angle_at.ensures c.i_end_at.ensures c.time_at.ensures c.packet_at.ensures c.type_at.ensures)

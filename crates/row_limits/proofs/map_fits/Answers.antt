@@ -12,8 +12,8 @@ pub returns-then-cell_at-ge16 : goal.returns-then-cell_at-ge16
 returns-then-cell_at-ge16 c =
     rw (← c.cell_at.ensures.same, lt-ltb c.cell_at.result 65536 c.if-cell_at-ge65536.false, ← c.cell_at-2.ensures.same, le-ltb c.cell_at-2.result 16 (omega arith))
 
-pub returns-then-cell_at-ge65536 : goal.returns
-returns-then-cell_at-ge65536 c =
+pub returns : goal.returns
+returns c =
     let p = c.args.p in
     rw (← c.cell_at.ensures.same, lt-ltb c.cell_at.result 65536 c.if-cell_at-ge65536.false, ← c.cell_at-2.ensures.same, lt-ltb c.cell_at-2.result 16 c.if-cell_at-ge16.false, third p, ← c.cell_at-3.ensures.same)
     (last_test (ltb c.cell_at-3.result 262144))

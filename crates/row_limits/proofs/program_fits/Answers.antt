@@ -10,8 +10,8 @@ returns-then-cell_at-ge65536 c =
     let a = c.args in
     rw (any_cell a.t.now (λ i. (c.shared_slice_known-1.given i).fits) a.p, ← c.cell_at.ensures.same, le-ltb c.cell_at.result 65536 (omega arith))
 
-pub returns-then-cell_at-ge65536 : goal.returns
-returns-then-cell_at-ge65536 c =
+pub returns : goal.returns
+returns c =
     let a = c.args in
     rw (any_cell a.t.now (λ i. (c.shared_slice_known-1.given i).fits) a.p, ← c.cell_at.ensures.same, lt-ltb c.cell_at.result 65536 c.if-cell_at-ge65536.false, third a.p, ← c.cell_at-2.ensures.same)
     (last_test (ltb c.cell_at-2.result 256))

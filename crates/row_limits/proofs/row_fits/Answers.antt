@@ -32,7 +32,7 @@ pub returns-in-Stream : goal.returns-in-Stream
 returns-in-Stream c = rw c.enum_told-in-Stream-1.given.1 c.stream_row_fits.ensures
 
 pub returns-in-Map : goal.returns-in-Map
-returns-in-Map c = rw c.enum_told-in-Map-1.given.1 c.map_fits_lem.ensures
+returns-in-Map c = rw c.enum_told-in-Map-1.given.1 c.map_fits.ensures
 
 pub returns-in-Entry : goal.returns-in-Entry
 returns-in-Entry c = rw c.kind-1.given.1 c.entry_row_fits.ensures

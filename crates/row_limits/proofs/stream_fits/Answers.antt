@@ -38,5 +38,5 @@ returns-then-language-ge16777216 c =
 pub returns-then-is_video : goal.returns-then-is_video
 returns-then-is_video c = rw (fields c, ← c.is_video.ensures, c.if-is_video.true)
 
-pub returns-then-pid-ge65536 : goal.returns
-returns-then-pid-ge65536 c = rw (fields c, ← c.is_video.ensures, c.if-is_video.false)
+pub returns : goal.returns
+returns c = rw (fields c, ← c.is_video.ensures, c.if-is_video.false)

@@ -15,7 +15,7 @@ use Rattle.row_search.proofs.first_row.Goals as goal
 -- the rows are there, and so is the cell of row k
 module _ (c : goal.Else-not-is_stated) where
   rows_fit : let a = c.args in a.rows ≤ row_room a.cells a.table.now
-  rows_fit = let a = c.args in room a.cells (stated a.table.now a.rows) c.is_stated_lem.ensures c.if-not-is_stated.false
+  rows_fit = let a = c.args in room a.cells (stated a.table.now a.rows) c.is_stated.ensures c.if-not-is_stated.false
 
   cell-fits : let a = c.args in (k : ℕ) → k < a.rows → 4 * (a.cells * k + a.cell) + 4 ≤ length a.table.now
   cell-fits k h = let a = c.args in cell_room a.cells a.table.now a.rows k a.cell h c.requires.0 rows_fit
@@ -23,7 +23,7 @@ module _ (c : goal.Else-not-is_stated) where
 pub returns-then-not-is_stated : goal.returns-then-not-is_stated
 returns-then-not-is_stated c =
     let a = c.args in
-    not_stated a.table.now a.rows a.cells a.cell a.from a.test c.is_stated_lem.ensures c.if-not-is_stated.true
+    not_stated a.table.now a.rows a.cells a.cell a.from a.test c.is_stated.ensures c.if-not-is_stated.true
 
 pub loop-k-init : goal.loop-k-init
 loop-k-init c =
@@ -46,7 +46,7 @@ pub returns-then-passes : goal.returns-then-passes
 returns-then-passes c =
     let a = c.args in
     let l = c.loop-k in
-    row_is a.table.now a.rows a.cells a.cell a.from a.test c.is_stated_lem.ensures c.if-not-is_stated.false l.k c.requires.0 c.loop-k-test.true c.cell_at.ensures c.passes.ensures c.if-passes.true l.invariant
+    row_is a.table.now a.rows a.cells a.cell a.from a.test c.is_stated.ensures c.if-not-is_stated.false l.k c.requires.0 c.loop-k-test.true c.cell_at.ensures c.passes.ensures c.if-passes.true l.invariant
 
 pub loop-k-preserved : goal.loop-k-preserved
 loop-k-preserved c =
@@ -54,8 +54,8 @@ loop-k-preserved c =
     let l = c.loop-k in
     row_fails a.table.now a.rows a.cells a.cell a.from a.test l.k c.requires.0 c.loop-k-test.true c.cell_at.ensures c.passes.ensures c.if-passes.false l.invariant
 
-pub returns-then-not-is_stated : goal.returns
-returns-then-not-is_stated c =
+pub returns : goal.returns
+returns c =
     let a = c.args in
     let l = c.loop-k in
-    no_row a.table.now a.rows a.cells a.cell a.from a.test c.is_stated_lem.ensures c.if-not-is_stated.false l.k c.loop-k-test.false l.invariant
+    no_row a.table.now a.rows a.cells a.cell a.from a.test c.is_stated.ensures c.if-not-is_stated.false l.k c.loop-k-test.false l.invariant

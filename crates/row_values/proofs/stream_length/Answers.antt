@@ -13,7 +13,7 @@ returns-then-row-eq0 c =
     let r = c.args.row in
     sym (short_length r.cell0 r.cell1 r.cell2 r.cell3 r.cell4 c.is_video.ensures c.if-is_video.false c.if-row-eq0.true)
 
-pub returns-then-is_video : goal.returns
-returns-then-is_video c =
+pub returns : goal.returns
+returns c =
     let r = c.args.row in
     sym (tagged_length r.cell0 r.cell1 r.cell2 r.cell3 r.cell4 c.is_video.ensures c.if-is_video.false c.if-row-eq0.false)

@@ -22,8 +22,8 @@ overflow_mul-num_stc c = omega (arith, small c)
 pub overflow_add-num_stc : goal.overflow_add-num_stc
 overflow_add-num_stc c = omega (arith, small c)
 
-pub returns-in_default : goal.returns
-returns-in_default c =
+pub returns : goal.returns
+returns c =
     let a = c.args in
     let f = a.file.now in
     atc_passed f a.r.pos (got f (a.r.pos + 4) 1 (sym c.num_stc-1.given.1 ∙ c.read_count.ensures.same)) c.skip.ensures

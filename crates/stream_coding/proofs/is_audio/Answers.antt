@@ -11,5 +11,5 @@ returns-then-coding_type-le134 c = in_range _ c.if-coding_type-lt128.false c.if-
 pub returns-then-coding_type-eq161 : goal.returns-then-coding_type-eq161
 returns-then-coding_type-eq161 c = secondary _ c.if-coding_type-lt128.false c.if-coding_type-le134.false c.if-coding_type-eq161.true
 
-pub returns-then-coding_type-lt128 : goal.returns
-returns-then-coding_type-lt128 c = last_audio _ c.if-coding_type-lt128.false c.if-coding_type-le134.false c.if-coding_type-eq161.false
+pub returns : goal.returns
+returns c = last_audio _ c.if-coding_type-lt128.false c.if-coding_type-le134.false c.if-coding_type-eq161.false

@@ -11,5 +11,5 @@ returns-then-kind-eq5 c = rw c.if-kind-eq5.true
 pub returns-then-kind-eq6 : goal.returns-then-kind-eq6
 returns-then-kind-eq6 c = rw c.if-kind-eq6.true
 
-pub returns-then-kind-eq1 : goal.returns
-returns-then-kind-eq1 c = last_map _ c.if-kind-eq1.false c.if-kind-eq5.false c.if-kind-eq6.false
+pub returns : goal.returns
+returns c = last_map _ c.if-kind-eq1.false c.if-kind-eq5.false c.if-kind-eq6.false

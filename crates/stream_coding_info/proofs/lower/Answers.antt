@@ -11,6 +11,6 @@ pub returns-then-b-gt90 : goal.returns-then-b-gt90
 unfolding lower
 returns-then-b-gt90 c = rw (le-leb 65 c.args.b c.if-b-lt65.false, lt-leb c.args.b 90 c.if-b-gt90.true)
 
-pub returns-then-b-lt65 : goal.returns
+pub returns : goal.returns
 unfolding lower
-returns-then-b-lt65 c = rw (le-leb 65 c.args.b c.if-b-lt65.false, le-leb c.args.b 90 c.if-b-gt90.false)
+returns c = rw (le-leb 65 c.args.b c.if-b-lt65.false, le-leb c.args.b 90 c.if-b-gt90.false)

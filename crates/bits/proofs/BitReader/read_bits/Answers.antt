@@ -11,8 +11,8 @@ returns-then-left-n c = rw (le-leb _ _ c.if-n-gt32.false, lt-leb _ _ c.if-left-n
 pub returns-then-left-gt64 : goal.returns-then-left-gt64
 returns-then-left-gt64 c = rw (le-leb _ _ c.if-n-gt32.false, le-leb _ _ c.if-left-n.false, lt-leb _ _ c.if-left-gt64.true)
 
-pub returns-then-n-gt32 : goal.returns
-returns-then-n-gt32 c =
+pub returns : goal.returns
+returns c =
     rw (
       le-leb _ _ c.if-n-gt32.false,
       le-leb _ _ c.if-left-n.false,

@@ -11,8 +11,8 @@ returns-then-used-gt64 c = rw (le-leb _ _ c.if-n-gt32.false, lt-leb _ _ c.if-use
 pub returns-then-total-gt64 : goal.returns-then-total-gt64
 returns-then-total-gt64 c = rw (le-leb _ _ c.if-n-gt32.false, le-leb _ _ c.if-used-gt64.false, lt-leb _ _ c.if-total-gt64.true)
 
-pub returns-then-n-gt32 : goal.returns
-returns-then-n-gt32 c =
+pub returns : goal.returns
+returns c =
     rw (
       le-leb _ _ c.if-n-gt32.false,
       le-leb _ _ c.if-used-gt64.false,

@@ -57,8 +57,8 @@ overflow_add-result c = omega (arith, under c)
 pub float_from_bits-result : goal.float_from_bits-result
 float_from_bits-result c = no_nan _ (under c)
 
-pub returns-then-dividend-eq0 : goal.returns
-returns-then-dividend-eq0 c =
+pub returns : goal.returns
+returns c =
     let a = c.args in
     let l = c.loop-quotient in
     rw c.round_half_even-digits.ensures (quotient_bits a.dividend a.divisor l.quotient l.remainder l.shift c.requires.dividend_small c.requires.divisor_small (omega arith) l.inv)

@@ -13,5 +13,5 @@ returns-then-remainder-divisor c = let a = c.args in picked a.quotient (a.remain
 pub returns-then-remainder-divisor-2 : goal.returns-then-remainder-divisor-2
 returns-then-remainder-divisor-2 c = let a = c.args in picked a.quotient (a.remainder * 2) a.divisor Ordering.eq c.if-remainder-divisor-2.true
 
-pub returns-then-remainder-divisor : goal.returns
-returns-then-remainder-divisor c = let a = c.args in add-one a.quotient ∙ picked a.quotient (a.remainder * 2) a.divisor Ordering.gt (omega arith)
+pub returns : goal.returns
+returns c = let a = c.args in add-one a.quotient ∙ picked a.quotient (a.remainder * 2) a.divisor Ordering.gt (omega arith)

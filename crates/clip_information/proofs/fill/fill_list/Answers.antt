@@ -32,6 +32,6 @@ fill-requires c =
     let k : goal.In-At-2 = search in
     list_fillable (F k) c.args.list-1 c.requires _ _ k.list-1.given.1 c.if-not-listed.false
 
-pub returns-then-not-listed : goal.returns
-returns-then-not-listed c =
+pub returns : goal.returns
+returns c =
     let k : goal.In-At-2 = search in record { programs_after = filled_as c.args.programs-1.now (programs_put (F k) c.args.list-1 c.requires _ _ k.list-1.given.1 c.if-not-listed.false) c.fill.ensures.heads_after; streams_after = filled_as c.args.streams-1.now (streams_put (F k) c.args.list-1 c.requires _ _ k.list-1.given.1 c.if-not-listed.false) c.fill.ensures.rows_after }

@@ -15,6 +15,6 @@ pub u16_at-requires : goal.u16_at-requires
 u16_at-requires c =
     omega (arith, count_in_lem c.args.file.now c.args.start c.requires c.if-start-eq0.false c.if-file-start.false)
 
-pub returns-then-start-eq0 : goal.returns
-returns-then-start-eq0 c =
+pub returns : goal.returns
+returns c =
     c.u16_at.ensures.same ∙ marks_counted c.args.file.now c.args.start c.if-start-eq0.false c.if-file-start.false

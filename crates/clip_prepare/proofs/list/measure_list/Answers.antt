@@ -29,7 +29,7 @@ returns-in_default-measure c =
     let k : goal.In-At-2 = search in
     list_past (F k) c.args.list-1 _ _ k.list-1.given.1 (sym c.measure.ensures ∙ c.enum_told-in_default-measure-1.given.1)
 
-pub returns-in_default : goal.returns
-returns-in_default c =
+pub returns : goal.returns
+returns c =
     let k : goal.In-At-2 = search in
     list_rows (F k) c.args.list-1 _ _ k.list-1.given.1 _ _ (sym c.measure.ensures ∙ c.programs-1.given.1)

@@ -42,7 +42,7 @@ returns-then-len-u32_at c =
     let k : goal.In-Clip = search in
     info_past (F c) (most c) _ (is-clip k) (omega arith) (omega (arith, c.u32_at.ensures.same))
 
-pub returns-then-len-gt-MOST : goal.returns
-returns-then-len-gt-MOST c =
+pub returns : goal.returns
+returns c =
     let k : goal.In-Clip = search in
     front_passes (F c) (most c) _ (is-clip k) (omega arith) (omega (arith, c.u32_at.ensures.same))

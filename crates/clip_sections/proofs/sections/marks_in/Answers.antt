@@ -9,6 +9,6 @@ pub returns-then-len-start : goal.returns-then-len-start
 returns-then-len-start c =
     marks_far c.args.file.now c.args.start c.if-start-eq0.false c.if-len-start.true
 
-pub returns-then-start-eq0 : goal.returns
-returns-then-start-eq0 c =
+pub returns : goal.returns
+returns c =
     marks_near c.args.file.now c.args.start c.if-start-eq0.false c.if-len-start.false

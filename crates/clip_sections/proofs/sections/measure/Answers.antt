@@ -61,8 +61,8 @@ module _ (c : goal.After-measure-3) where
 
 -- the marks were looked for where they start
 module _ (c : goal.After-marks_in) where
-  marks : marks_in (F K6) (marks_start (F K6)) ≡ c.marks_in_lem.result
-  marks = sym (ap (marks_in (F K6)) c.read-starts.ensures.marks) ∙ sym c.marks_in_lem.ensures
+  marks : marks_in (F K6) (marks_start (F K6)) ≡ c.marks_in.result
+  marks = sym (ap (marks_in (F K6)) c.read-starts.ensures.marks) ∙ sym c.marks_in.ensures
 
 pub returns-then-refusal-ne0 : goal.returns-then-refusal-ne0
 returns-then-refusal-ne0 c =

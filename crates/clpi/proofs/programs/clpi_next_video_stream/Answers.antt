@@ -4,4 +4,4 @@ use Rattle.format.specs.Questions.{answer_numbers}
 use Rattle.clpi.proofs.programs.clpi_next_video_stream.Goals as goal
 
 pub returns : goal.returns
-returns c = c.answer_of.ensures ∙ ap answer_numbers c.next_video_stream_lem.ensures
+returns c = c.answer_of.ensures ∙ ap answer_numbers c.next_video_stream.ensures

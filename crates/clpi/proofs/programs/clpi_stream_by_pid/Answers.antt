@@ -4,4 +4,4 @@ use Rattle.format.specs.Questions.{answer_numbers}
 use Rattle.clpi.proofs.programs.clpi_stream_by_pid.Goals as goal
 
 pub returns : goal.returns
-returns c = c.answer_of.ensures ∙ ap answer_numbers c.stream_by_pid_lem.ensures
+returns c = c.answer_of.ensures ∙ ap answer_numbers c.stream_by_pid.ensures

@@ -14,8 +14,8 @@ returns-in_default c =
     let cut = stayed f (a.r.pos + a.n) (sym c.enum_told-1.given.1 ∙ c.skip.ensures) in
     number_past f (a.r.pos + a.n) 1 (lt-leb (a.r.pos + a.n + 1) (length f) (omega arith))
 
-pub returns-in_default : goal.returns
-returns-in_default c =
+pub returns : goal.returns
+returns c =
     let a = c.args in
     let at = went a.file.now (a.r.pos + a.n) (sym c.count-1.given.1 ∙ c.skip.ensures) in
     rw at.1 at c.read_u8.ensures

@@ -42,7 +42,7 @@ loop-k-preserved c =
           (sym c.map_rows.ensures ∙ v.1),
     )
 
-pub returns-in-Refused : goal.returns
-returns-in-Refused c =
+pub returns : goal.returns
+returns c =
     let l = c.loop-k in
     counting_done c.args.file.now c.args.start c.args.count c.requires.counted l.entries l.k l.inv.1 c.loop-k-test.false

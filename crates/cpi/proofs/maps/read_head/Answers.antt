@@ -111,8 +111,8 @@ returns-in_default-skip-2 c =
     head_headers (F k) (S k) (some k) (near k) (inside k) (type-one e4) four
     (omega (arith, stayed (F k) (S k + 8 + 12 * c.u8_at-count.result) (sym c.enum_told-in_default-skip-2-1.given.1 ∙ c.skip-2.ensures), c.u8_at-count.ensures.same))
 
-pub returns-then-start-eq0 : goal.returns
-returns-then-start-eq0 c =
+pub returns : goal.returns
+returns c =
     let k : goal.In-At-2 = search in
     let e4 : goal.Else-u16_at-ne1 = search in
     let four : 4 ≤ cpi_length (F k) (S k) = omega (arith, value k) in

@@ -8,6 +8,6 @@ pub returns-then-n-eq0 : goal.returns-then-n-eq0
 returns-then-n-eq0 c =
     walk_none c.args.file.now c.args.p c.args.n _ c.if-n-eq0.true (omega arith) refl
 
-pub returns-then-n-eq0 : goal.returns
-returns-then-n-eq0 c =
+pub returns : goal.returns
+returns c =
     rw c.at_row.ensures (walk_first c.args.file.now c.args.p c.args.n (omega arith) (omega arith))

@@ -11,7 +11,7 @@ pub loop-k-preserved : goal.loop-k-preserved
 loop-k-preserved c =
     let a = c.args in
     let l = c.loop-k in
-    (omega arith, look_turn a.entries.now a.first a.count a.is_after a.at c.requires.1 l.k l.nearest (omega arith) c.time_at_lem.ensures c.look_at_time-nearest.ensures l.invariant.1)
+    (omega arith, look_turn a.entries.now a.first a.count a.is_after a.at c.requires.1 l.k l.nearest (omega arith) c.time_at-time.ensures c.look_at_time-nearest.ensures l.invariant.1)
 
 pub returns : goal.returns
 returns c =

@@ -26,16 +26,16 @@ pub overflow_add-at : goal.overflow_add-at
 overflow_add-at c =
     let a = c.args in
     let l = c.loop-k in
-    record { fits = omega (arith, tested_room (fits_by a.kind) (table_cells a.kind) a.t.now a.p a.n l.k l.at c.loop-k-test.true l.invariant, c.row_bytes_lem.ensures) }
+    record { fits = omega (arith, tested_room (fits_by a.kind) (table_cells a.kind) a.t.now a.p a.n l.k l.at c.loop-k-test.true l.invariant, c.row_bytes-size.ensures) }
 
 pub loop-k-preserved : goal.loop-k-preserved
 loop-k-preserved c =
     let a = c.args in
     let l = c.loop-k in
-    tested_turn (fits_by a.kind) (table_cells a.kind) a.t.now a.p a.n l.k l.at c.loop-k-test.true l.invariant c.row_fits.ensures c.if-not-row_fits.false c.row_bytes_lem.ensures
+    tested_turn (fits_by a.kind) (table_cells a.kind) a.t.now a.p a.n l.k l.at c.loop-k-test.true l.invariant c.row_fits.ensures c.if-not-row_fits.false c.row_bytes-size.ensures
 
-pub returns-then-not-row_fits : goal.returns
-returns-then-not-row_fits c =
+pub returns : goal.returns
+returns c =
     let a = c.args in
     let l = c.loop-k in
     tested_done (fits_by a.kind) (table_cells a.kind) a.t.now a.p a.n l.k l.at c.loop-k-test.false l.invariant

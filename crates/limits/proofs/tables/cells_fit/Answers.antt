@@ -25,6 +25,6 @@ pub returns-then-not-groups_fit-2 : goal.returns-then-not-groups_fit-2
 returns-then-not-groups_fit-2 c =
     programs_fail (tables c) c.groups_fit.ensures c.if-not-groups_fit.false c.groups_fit-2.ensures c.if-not-groups_fit-2.true
 
-pub returns-then-not-groups_fit : goal.returns
-returns-then-not-groups_fit c =
+pub returns : goal.returns
+returns c =
     maps_decide (tables c) c.groups_fit.ensures c.if-not-groups_fit.false c.groups_fit-2.ensures c.if-not-groups_fit-2.false c.heads_fit.ensures

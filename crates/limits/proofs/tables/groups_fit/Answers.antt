@@ -5,5 +5,5 @@ use Rattle.limits.proofs.tables.groups_fit.Goals as goal
 pub returns-then-not-heads_fit : goal.returns-then-not-heads_fit
 returns-then-not-heads_fit c = first_fails _ _ c.heads_fit.ensures c.if-not-heads_fit.true
 
-pub returns-then-not-heads_fit : goal.returns
-returns-then-not-heads_fit c = then_second _ _ c.heads_fit.ensures c.if-not-heads_fit.false c.table_fits.ensures
+pub returns : goal.returns
+returns c = then_second _ _ c.heads_fit.ensures c.if-not-heads_fit.false c.table_fits.ensures

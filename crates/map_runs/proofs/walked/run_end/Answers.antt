@@ -28,8 +28,8 @@ loop-k-preserved c =
     let l = c.loop-k in
     along_turn a.file.now a.m a.from a.first c.requires.2 l.walk l.k l.inv c.loop-k-test.true c.meet-met.result c.meet-met.ensures c.same_key.ensures c.if-not-same_key.false
 
-pub returns-then-not-same_key : goal.returns
-returns-then-not-same_key c =
+pub returns : goal.returns
+returns c =
     let a = c.args in
     let l = c.loop-k in
     along_done a.file.now a.m a.from l.walk l.k l.inv c.loop-k-test.false

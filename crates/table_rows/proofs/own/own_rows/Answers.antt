@@ -26,7 +26,7 @@ count_rows-first-requires c = (omega (arith, heads-fit c, c.if-head-head_rows.fa
 pub cell_at-count-requires : goal.cell_at-count-requires
 cell_at-count-requires c = omega (arith, heads-fit c, c.if-head-head_rows.false, c.requires.0)
 
-pub returns-then-not-adds_up : goal.returns
-returns-then-not-adds_up c =
+pub returns : goal.returns
+returns c =
     let a = c.args in
     owned a.heads.now a.rows.now a.head_rows a.row_rows a.cell a.cells a.head c.adds_up.ensures c.if-not-adds_up.false c.if-head-head_rows.false c.requires.0 c.count_rows-first.ensures c.cell_at-count.ensures
