@@ -13,27 +13,21 @@ use Rattle.clip_listing.proofs.Laws.{tellable, told, listing_within, listing_ove
 use borrow.Author.Rules.{rules}
 use Rattle.clip_listing.proofs.list.Goals as goal
 
--- what was read
-module _ (c : goal.After-read-answer) where
-  abbrev F : List ℕ
-  F = c.args.input.now
-
-  bytes : IsBytes F
-  bytes i = (c.shared_slice_known-1.given i).fits
-
-  answered : read_answer_of c.read_answer.result ≡ read_answer F listing_tables
-  unfolding listing_tables
-  answered = c.read_answer.ensures.0
-
 pub returns-then-input-gt65536 : goal.returns-then-input-gt65536
 returns-then-input-gt65536 c = shows_as (sym (listing_over c.args.input.now (search rules))) c.put_refusal.ensures
 
 pub put_answer-requires : goal.put_answer-requires
 put_answer-requires c =
+    let F : List ℕ = c.args.input.now in
+    let bytes : IsBytes F = (λ i. (c.shared_slice_known-1.given i).fits) in
+    let answered : read_answer_of c.read_answer.result ≡ read_answer F listing_tables = c.read_answer.ensures.0 in
     rw (c.read_answer.ensures.1.1.1.1.1.0, c.read_answer.ensures.1.1.1.1.1.1.0)
-    (tellable (F c) (bytes c) (rows4096 map_cells) (rows4096 entry_cells) c.read_answer.result c.args.out-1.now (answered c) c.requires)
+    (tellable F (bytes c) (rows4096 map_cells) (rows4096 entry_cells) c.read_answer.result c.args.out.now answered c.requires)
 
 pub returns : goal.returns
 returns c =
-    shows_as (rw (c.read_answer.ensures.1.1.1.1.1.0, c.read_answer.ensures.1.1.1.1.1.1.0) (told (F c) (bytes c) (rows4096 map_cells) (rows4096 entry_cells) c.read_answer.result (answered c) ∙ sym (listing_within (F c) (search rules))))
+    let F : List ℕ = c.args.input.now in
+    let bytes : IsBytes F = (λ i. (c.shared_slice_known-1.given i).fits) in
+    let answered : read_answer_of c.read_answer.result ≡ read_answer F listing_tables = c.read_answer.ensures.0 in
+    shows_as (rw (c.read_answer.ensures.1.1.1.1.1.0, c.read_answer.ensures.1.1.1.1.1.1.0) (told F (bytes c) (rows4096 map_cells) (rows4096 entry_cells) c.read_answer.result answered ∙ sym (listing_within F (search rules))))
     c.put_answer.ensures

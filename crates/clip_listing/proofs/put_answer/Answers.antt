@@ -7,37 +7,50 @@ use Rattle.clip_listing.specs.Told.{Shown}
 use Rattle.clip_listing.proofs.Laws.{text_of}
 use Rattle.clip_listing.proofs.put_answer.Goals as goal
 
--- what was required of an accepted file's rows
-module _ (c : goal.In-Accepted) where
-  abbrev rows : Rows
-  rows = c.answer-in-Accepted-1.given.0.1.1.0
-
-  listed : let a = c.args in Shown rows × Listable a.maps.now rows.maps a.entries.now rows.entries a.out-1.now
-  listed = rw c.answer-in-Accepted-1.given.1 at c.requires.rows
-
 pub overflow_cast-rows : goal.overflow_cast-rows
-overflow_cast-rows c = record { fits = omega (arith, (listed c).0.atcs) }
+overflow_cast-rows c =
+    let rows : Rows = c.answer-in-Accepted-1.given.0.1.1.0 in
+    let listed : let a = c.args in Shown rows × Listable a.maps.now rows.maps a.entries.now rows.entries a.out.now = rw c.answer-in-Accepted-1.given.1 at c.requires.rows in
+    record { fits = omega (arith, listed.0.atcs) }
 
 pub overflow_cast-rows-in-Accepted : goal.overflow_cast-rows-in-Accepted
-overflow_cast-rows-in-Accepted c = record { fits = omega (arith, (listed c).0.stcs) }
+overflow_cast-rows-in-Accepted c =
+    let rows : Rows = c.answer-in-Accepted-1.given.0.1.1.0 in
+    let listed : let a = c.args in Shown rows × Listable a.maps.now rows.maps a.entries.now rows.entries a.out.now = rw c.answer-in-Accepted-1.given.1 at c.requires.rows in
+    record { fits = omega (arith, listed.0.stcs) }
 
 pub overflow_cast-rows-in-Accepted-2 : goal.overflow_cast-rows-in-Accepted-2
-overflow_cast-rows-in-Accepted-2 c = record { fits = omega (arith, (listed c).0.programs) }
+overflow_cast-rows-in-Accepted-2 c =
+    let rows : Rows = c.answer-in-Accepted-1.given.0.1.1.0 in
+    let listed : let a = c.args in Shown rows × Listable a.maps.now rows.maps a.entries.now rows.entries a.out.now = rw c.answer-in-Accepted-1.given.1 at c.requires.rows in
+    record { fits = omega (arith, listed.0.programs) }
 
 pub overflow_cast-rows-in-Accepted-3 : goal.overflow_cast-rows-in-Accepted-3
-overflow_cast-rows-in-Accepted-3 c = record { fits = omega (arith, (listed c).0.streams) }
+overflow_cast-rows-in-Accepted-3 c =
+    let rows : Rows = c.answer-in-Accepted-1.given.0.1.1.0 in
+    let listed : let a = c.args in Shown rows × Listable a.maps.now rows.maps a.entries.now rows.entries a.out.now = rw c.answer-in-Accepted-1.given.1 at c.requires.rows in
+    record { fits = omega (arith, listed.0.streams) }
 
 pub overflow_cast-rows-in-Accepted-4 : goal.overflow_cast-rows-in-Accepted-4
-overflow_cast-rows-in-Accepted-4 c = record { fits = omega (arith, (listed c).0.maps) }
+overflow_cast-rows-in-Accepted-4 c =
+    let rows : Rows = c.answer-in-Accepted-1.given.0.1.1.0 in
+    let listed : let a = c.args in Shown rows × Listable a.maps.now rows.maps a.entries.now rows.entries a.out.now = rw c.answer-in-Accepted-1.given.1 at c.requires.rows in
+    record { fits = omega (arith, listed.0.maps) }
 
 pub overflow_cast-rows-in-Accepted-5 : goal.overflow_cast-rows-in-Accepted-5
-overflow_cast-rows-in-Accepted-5 c = record { fits = omega (arith, (listed c).0.entries) }
+overflow_cast-rows-in-Accepted-5 c =
+    let rows : Rows = c.answer-in-Accepted-1.given.0.1.1.0 in
+    let listed : let a = c.args in Shown rows × Listable a.maps.now rows.maps a.entries.now rows.entries a.out.now = rw c.answer-in-Accepted-1.given.1 at c.requires.rows in
+    record { fits = omega (arith, listed.0.entries) }
 
 pub put_record-requires : goal.put_record-requires
-put_record-requires c = (listed c).1
+put_record-requires c =
+    let rows : Rows = c.answer-in-Accepted-1.given.0.1.1.0 in
+    let listed : let a = c.args in Shown rows × Listable a.maps.now rows.maps a.entries.now rows.entries a.out.now = rw c.answer-in-Accepted-1.given.1 at c.requires.rows in
+    listed.1
 
 pub returns-in-Refused : goal.returns-in-Refused
-returns-in-Refused c = shows_as (text_of c.args.maps.now c.args.entries.now c.answer-1.given.1) c.put_refusal.ensures
+returns-in-Refused c = shows_as (text_of c.args.maps.now c.args.entries.now c.answer.given.1) c.put_refusal.ensures
 
 pub returns-in-TooShort : goal.returns-in-TooShort
 returns-in-TooShort c = shows_as (text_of c.args.maps.now c.args.entries.now c.answer-in-TooShort-1.given.1) c.put_too_short.ensures

@@ -44,7 +44,7 @@ overflow_cast-result-in-Accepted-8 c = let k : goal.In-Accepted-2 = search in re
 
 pub returns-in-Refused : goal.returns-in-Refused
 returns-in-Refused c =
-    c.refused.ensures ∙ numbers_of_lem c.answer-1.given.1
+    c.refused.ensures ∙ numbers_of_lem c.answer.given.1
 
 pub returns-in-TooShort : goal.returns-in-TooShort
 returns-in-TooShort c =

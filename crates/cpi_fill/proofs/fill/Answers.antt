@@ -10,76 +10,95 @@ use Rattle.ep_entries.proofs.Bodies.{there, left_map}
 use Rattle.cpi_fill.proofs.Filling.{filling_first, map_room, entries_room, filling_next, filling_done}
 use Rattle.cpi_fill.proofs.fill.Goals as goal
 
--- a turn of the loop
-module _ (c : goal.In-loop-k) where
-  -- the call's start
-
-  -- the turn's values
-
-  -- the file, the section's start and how many maps it has
-  abbrev F : List ℕ
-  F = c.args.file.now
-
-  abbrev C : ℕ
-  C = c.args.start
-
-  abbrev N : ℕ
-  N = c.args.count
-
-  -- the section is in the file
-  abbrev S : CpiSection F C N
-  S = c.requires.section
-
-  -- and so are the headers
-  bounds : (C + 8 + 12 * N ≤ length F) × (length F ≤ 536870912) × (c.loop-k.k < N)
-  bounds = ((there F C N S (omega (arith, c.loop-k-test.true))).headers, S.small, c.loop-k-test.true)
-
-  -- there is room for the map's entries
-  room : c.loop-k.at + entry_size * fine_count_at F (C + 8 + 12 * c.loop-k.k) ≤ length c.loop-k.entries-1
-  room = entries_room c.loop-k.invariant c.loop-k-test.true
-
 pub loop-k-init : goal.loop-k-init
 loop-k-init c =
     let a = c.args in
     filling_first a.file.now a.start a.count a.maps.now a.entries.now c.requires
 
 pub overflow_add-q : goal.overflow_add-q
-overflow_add-q c = let t : goal.In-loop-k = search in omega (arith, bounds t)
+overflow_add-q c =
+    let F : List ℕ = c.args.file.now in
+    let C : ℕ = c.args.start in
+    let N : ℕ = c.args.count in
+    let S : CpiSection F C N = c.requires.section in
+    let bounds : (C + 8 + 12 * N ≤ length F) × (length F ≤ 536870912) × (c.loop-k.k < N) = ((there F C N S (omega (arith, c.loop-k-test.true))).headers, S.small, c.loop-k-test.true) in
+    let t : goal.In-loop-k = search in omega (arith, bounds t)
 
 pub overflow_mul-q : goal.overflow_mul-q
-overflow_mul-q c = let t : goal.In-loop-k = search in omega (arith, bounds t)
+overflow_mul-q c =
+    let F : List ℕ = c.args.file.now in
+    let C : ℕ = c.args.start in
+    let N : ℕ = c.args.count in
+    let S : CpiSection F C N = c.requires.section in
+    let bounds : (C + 8 + 12 * N ≤ length F) × (length F ≤ 536870912) × (c.loop-k.k < N) = ((there F C N S (omega (arith, c.loop-k-test.true))).headers, S.small, c.loop-k-test.true) in
+    let t : goal.In-loop-k = search in omega (arith, bounds t)
 
 pub overflow_add-q-in-loop-k : goal.overflow_add-q-in-loop-k
-overflow_add-q-in-loop-k c = let t : goal.In-loop-k = search in omega (arith, bounds t)
+overflow_add-q-in-loop-k c =
+    let F : List ℕ = c.args.file.now in
+    let C : ℕ = c.args.start in
+    let N : ℕ = c.args.count in
+    let S : CpiSection F C N = c.requires.section in
+    let bounds : (C + 8 + 12 * N ≤ length F) × (length F ≤ 536870912) × (c.loop-k.k < N) = ((there F C N S (omega (arith, c.loop-k-test.true))).headers, S.small, c.loop-k-test.true) in
+    let t : goal.In-loop-k = search in omega (arith, bounds t)
 
 pub overflow_mul-k : goal.overflow_mul-k
-overflow_mul-k c = let t : goal.In-loop-k = search in omega (arith, bounds t)
+overflow_mul-k c =
+    let F : List ℕ = c.args.file.now in
+    let C : ℕ = c.args.start in
+    let N : ℕ = c.args.count in
+    let S : CpiSection F C N = c.requires.section in
+    let bounds : (C + 8 + 12 * N ≤ length F) × (length F ≤ 536870912) × (c.loop-k.k < N) = ((there F C N S (omega (arith, c.loop-k-test.true))).headers, S.small, c.loop-k-test.true) in
+    let t : goal.In-loop-k = search in omega (arith, bounds t)
 
 pub put_map-requires : goal.put_map-requires
 put_map-requires c =
+    let F : List ℕ = c.args.file.now in
+    let C : ℕ = c.args.start in
+    let N : ℕ = c.args.count in
+    let S : CpiSection F C N = c.requires.section in
+    let bounds : (C + 8 + 12 * N ≤ length F) × (length F ≤ 536870912) × (c.loop-k.k < N) = ((there F C N S (omega (arith, c.loop-k-test.true))).headers, S.small, c.loop-k-test.true) in
     let t : goal.In-loop-k = search in
     (omega (arith, bounds t), map_room c.loop-k.invariant t.loop-k-test.true)
 
 pub put_map_entries-n-requires : goal.put_map_entries-n-requires
 put_map_entries-n-requires c =
+    let F : List ℕ = c.args.file.now in
+    let C : ℕ = c.args.start in
+    let N : ℕ = c.args.count in
+    let S : CpiSection F C N = c.requires.section in
+    let room : c.loop-k.at + entry_size * fine_count_at F (C + 8 + 12 * c.loop-k.k) ≤ length c.loop-k.entries = entries_room c.loop-k.invariant c.loop-k-test.true in
     let t : goal.In-loop-k = search in
-    record { map_in_lem = left_map (F t) (C t) (N t) c.loop-k.k t.loop-k-test.true (S t) c.loop-k.invariant.left; fits = room t }
+    record { map_in_lem = left_map F C N c.loop-k.k t.loop-k-test.true S c.loop-k.invariant.left; fits = room t }
 
 pub overflow_mul-at : goal.overflow_mul-at
 overflow_mul-at c =
+    let F : List ℕ = c.args.file.now in
+    let C : ℕ = c.args.start in
+    let N : ℕ = c.args.count in
+    let S : CpiSection F C N = c.requires.section in
+    let bounds : (C + 8 + 12 * N ≤ length F) × (length F ≤ 536870912) × (c.loop-k.k < N) = ((there F C N S (omega (arith, c.loop-k-test.true))).headers, S.small, c.loop-k-test.true) in
+    let room : c.loop-k.at + entry_size * fine_count_at F (C + 8 + 12 * c.loop-k.k) ≤ length c.loop-k.entries = entries_room c.loop-k.invariant c.loop-k-test.true in
     let t : goal.In-loop-k = search in
     omega (arith, bounds t, room t, c.put_map_entries-n.ensures.value)
 
 pub overflow_add-at : goal.overflow_add-at
 overflow_add-at c =
+    let F : List ℕ = c.args.file.now in
+    let C : ℕ = c.args.start in
+    let N : ℕ = c.args.count in
+    let S : CpiSection F C N = c.requires.section in
+    let bounds : (C + 8 + 12 * N ≤ length F) × (length F ≤ 536870912) × (c.loop-k.k < N) = ((there F C N S (omega (arith, c.loop-k-test.true))).headers, S.small, c.loop-k-test.true) in
+    let room : c.loop-k.at + entry_size * fine_count_at F (C + 8 + 12 * c.loop-k.k) ≤ length c.loop-k.entries = entries_room c.loop-k.invariant c.loop-k-test.true in
     let t : goal.In-loop-k = search in
+    let s = B t in
     let l = c.loop-k in
     omega (arith, bounds t, room t, c.put_map_entries-n.ensures.value)
 
 pub loop-k-preserved : goal.loop-k-preserved
 loop-k-preserved c =
     let l = c.loop-k in
-    filling_next l.inv c.loop-k-test.true c.put_map_entries-n.result c.put_map_entries-n.ensures.value c.put_map.ensures c.put_map_entries-n.ensures.table_after
+    filling_next l.invariant c.loop-k-test.true c.put_map_entries-n.result c.put_map_entries-n.ensures.value c.put_map.ensures c.put_map_entries-n.ensures.table_after
 
 pub shape_of-maps : goal.shape_of-maps
 shape_of-maps c = c.loop-k.invariant.maps_left_lem.long

@@ -15,9 +15,9 @@ loop-k-init c =
 pub loop-k-preserved : goal.loop-k-preserved
 loop-k-preserved c =
     let l = c.loop-k in
-    (l.inv.0, omega arith, pids_turn c.args.maps.now c.args.rows l.k l.least (omega arith) c.cell_at-pid.ensures c.lesser-least.ensures l.inv.2)
+    (l.invariant.0, omega arith, pids_turn c.args.maps.now c.args.rows l.k l.least (omega arith) c.cell_at-pid.ensures c.lesser-least.ensures l.invariant.2)
 
 pub returns : goal.returns
 returns c =
     let l = c.loop-k in
-    pid_is c.args.maps.now c.args.rows l.k l.least (omega arith) l.inv.2
+    pid_is c.args.maps.now c.args.rows l.k l.least (omega arith) l.invariant.2

@@ -7,53 +7,6 @@ use Rattle.encode_cpi.proofs.Maps.{maps_few, map_room, entries_room, count_few, 
 use Rattle.encode_cpi.proofs.Lengths.{measured_first, measured_unfit, runs_within_count, measured_turn, measured_many, measured_done, measured_none}
 use Rattle.encode_cpi.proofs.cpi_length.Goals as goal
 
--- a turn of the loop
-module _ (c : goal.In-loop-k) where
-  -- the call's start
-
-  -- the turn's values
-
-  -- the map's row lies inside its table
-  row_there : 12 * c.loop-k.k + 12 ≤ length c.args.maps.now
-  row_there = let a = c.args in map_room a.maps.now a.n a.entries.now a.m c.requires.0 c.loop-k.k c.loop-k-test.true
-
--- the number of the map's entries is read
-module _ (c : goal.After-cell_at-count) where
-  -- the turn
-
-  -- the map's entries lie inside their table
-  entries_there : entry_size * c.loop-k.row + entry_size * c.cell_at-count.result ≤ length c.args.entries.now
-  entries_there =
-      let a = c.args in
-      let l = c.loop-k in
-      omega (arith, entries_room a.maps.now a.n a.entries.now a.m c.requires.0, own_within a.maps.now a.n a.entries.now a.m l.row l.k l.invariant.walk c.loop-k-test.true c.cell_at-count.ensures)
-
-  -- there are few of them
-  few : c.cell_at-count.result ≤ 262143
-  few =
-      let a = c.args in
-      let l = c.loop-k in
-      count_few a.maps.now a.n a.entries.now a.m l.row l.k l.invariant.walk c.loop-k-test.true c.cell_at-count.ensures
-
-  -- and few maps
-  few_maps : c.args.n ≤ 255
-  few_maps = let a = c.args in maps_few a.maps.now a.n a.entries.now a.m c.requires.1
-
--- the map's runs are counted
-module _ (c : goal.In-Runs-2) where
-  -- its entries' number
-
-  -- its type
-
-  -- the count
-
-  -- they are not more than its entries
-  within : c.runs-1.given.0.0 ≤ c.cell_at-count.result
-  within =
-      let a = c.args in
-      let l = c.loop-k in
-      runs_within_count a.maps.now a.n a.entries.now a.m l.len l.few l.row l.k l.invariant c.loop-k-test.true c.cell_at-map_type.ensures c.cell_at-count.ensures c.count_runs.ensures c.runs-1.given.1
-
 pub returns-then-n-eq0 : goal.returns-then-n-eq0
 returns-then-n-eq0 c =
     let a = c.args in measured_none a.maps.now a.n a.entries.now a.m c.if-n-eq0.true
@@ -63,69 +16,133 @@ loop-k-init c =
     measured_first c.args.maps.now c.args.n c.args.entries.now c.args.m c.requires.1
 
 pub overflow_mul-k : goal.overflow_mul-k
-overflow_mul-k c = let t : goal.In-loop-k = search in omega (arith, row_there t)
+overflow_mul-k c =
+    let row_there : 12 * c.loop-k.k + 12 ≤ length c.args.maps.now = let a = c.args in map_room a.maps.now a.n a.entries.now a.m c.requires.0 c.loop-k.k c.loop-k-test.true in
+    let t : goal.In-loop-k = search in omega (arith, row_there t)
 
 pub overflow_add-k : goal.overflow_add-k
-overflow_add-k c = let t : goal.In-loop-k = search in omega (arith, row_there t)
+overflow_add-k c =
+    let row_there : 12 * c.loop-k.k + 12 ≤ length c.args.maps.now = let a = c.args in map_room a.maps.now a.n a.entries.now a.m c.requires.0 c.loop-k.k c.loop-k-test.true in
+    let t : goal.In-loop-k = search in omega (arith, row_there t)
 
 pub cell_at-map_type-requires : goal.cell_at-map_type-requires
-cell_at-map_type-requires c = let t : goal.In-loop-k = search in omega (arith, row_there t)
+cell_at-map_type-requires c =
+    let row_there : 12 * c.loop-k.k + 12 ≤ length c.args.maps.now = let a = c.args in map_room a.maps.now a.n a.entries.now a.m c.requires.0 c.loop-k.k c.loop-k-test.true in
+    let t : goal.In-loop-k = search in omega (arith, row_there t)
 
 pub overflow_mul-k-in-loop-k : goal.overflow_mul-k-in-loop-k
-overflow_mul-k-in-loop-k c = let t : goal.In-loop-k = search in omega (arith, row_there t)
+overflow_mul-k-in-loop-k c =
+    let row_there : 12 * c.loop-k.k + 12 ≤ length c.args.maps.now = let a = c.args in map_room a.maps.now a.n a.entries.now a.m c.requires.0 c.loop-k.k c.loop-k-test.true in
+    let t : goal.In-loop-k = search in omega (arith, row_there t)
 
 pub overflow_add-k-in-loop-k : goal.overflow_add-k-in-loop-k
-overflow_add-k-in-loop-k c = let t : goal.In-loop-k = search in omega (arith, row_there t)
+overflow_add-k-in-loop-k c =
+    let row_there : 12 * c.loop-k.k + 12 ≤ length c.args.maps.now = let a = c.args in map_room a.maps.now a.n a.entries.now a.m c.requires.0 c.loop-k.k c.loop-k-test.true in
+    let t : goal.In-loop-k = search in omega (arith, row_there t)
 
 pub cell_at-count-requires : goal.cell_at-count-requires
-cell_at-count-requires c = let t : goal.In-loop-k = search in omega (arith, row_there t)
+cell_at-count-requires c =
+    let row_there : 12 * c.loop-k.k + 12 ≤ length c.args.maps.now = let a = c.args in map_room a.maps.now a.n a.entries.now a.m c.requires.0 c.loop-k.k c.loop-k-test.true in
+    let t : goal.In-loop-k = search in omega (arith, row_there t)
 
 pub overflow_mul-row : goal.overflow_mul-row
-overflow_mul-row c = let d : goal.After-cell_at-count = search in omega (arith, entries_there d)
+overflow_mul-row c =
+    let entries_there : entry_size * c.loop-k.row + entry_size * c.cell_at-count.result ≤ length c.args.entries.now = let a = c.args in
+    let l = c.loop-k in
+    omega (arith, entries_room a.maps.now a.n a.entries.now a.m c.requires.0, own_within a.maps.now a.n a.entries.now a.m l.row l.k l.invariant.walk c.loop-k-test.true c.cell_at-count.ensures) in
+    let d : goal.After-cell_at-count = search in omega (arith, entries_there d)
 
 pub count_runs-requires : goal.count_runs-requires
-count_runs-requires c = let d : goal.After-cell_at-count = search in entries_there d
+count_runs-requires c =
+    let entries_there : entry_size * c.loop-k.row + entry_size * c.cell_at-count.result ≤ length c.args.entries.now = let a = c.args in
+    let l = c.loop-k in
+    omega (arith, entries_room a.maps.now a.n a.entries.now a.m c.requires.0, own_within a.maps.now a.n a.entries.now a.m l.row l.k l.invariant.walk c.loop-k-test.true c.cell_at-count.ensures) in
+    let d : goal.After-cell_at-count = search in entries_there d
 
 pub returns-in_default : goal.returns-in_default
 returns-in_default c =
-    let a = c.args in
-    let l = c.loop-k in
-    measured_unfit a.maps.now a.n a.entries.now a.m l.len l.few l.row l.k l.inv c.loop-k-test.true c.cell_at-map_type.ensures c.cell_at-count.ensures c.count_runs.ensures c.enum_told-1.given.1
+    let d : goal.After-cell_at-count = search in
+    let a = (S (T d)).args in
+    let l = (L (T d)).loop in
+    measured_unfit a.maps.now a.n a.entries.now a.m l.len l.few l.row l.k l.invariant c.loop-k-test.true c.cell_at-map_type.ensures d.cell_at-count.ensures c.count_runs.ensures c.enum_told.given.1
 
 pub overflow_mul-len-in-loop-k : goal.overflow_mul-len-in-loop-k
-overflow_mul-len-in-loop-k c = let r : goal.In-Runs-2 = search in omega (arith, within r, few c)
+overflow_mul-len-in-loop-k c =
+    let few : c.cell_at-count.result ≤ 262143 = let a = c.args in
+    let l = c.loop-k in
+    count_few a.maps.now a.n a.entries.now a.m l.row l.k l.invariant.walk c.loop-k-test.true c.cell_at-count.ensures in
+    let within : c.runs.given.0.0 ≤ c.cell_at-count.result = let t = c c in
+    let a = c.args in
+    let l = c.loop-k in
+    runs_within_count a.maps.now a.n a.entries.now a.m l.len l.few l.row l.k l.invariant t.loop-test.taken c.cell_at-map_type.ensures c.cell_at-count.ensures c.count_runs.ensures c.runs.given.1 in
+    let r : goal.In-Runs-2 = search in omega (arith, within r, few (D r))
 
 pub overflow_add-len-in-loop-k : goal.overflow_add-len-in-loop-k
-overflow_add-len-in-loop-k c = let r : goal.In-Runs-2 = search in omega (arith, within r, few c)
+overflow_add-len-in-loop-k c =
+    let few : c.cell_at-count.result ≤ 262143 = let a = c.args in
+    let l = c.loop-k in
+    count_few a.maps.now a.n a.entries.now a.m l.row l.k l.invariant.walk c.loop-k-test.true c.cell_at-count.ensures in
+    let within : c.runs.given.0.0 ≤ c.cell_at-count.result = let t = c c in
+    let a = c.args in
+    let l = c.loop-k in
+    runs_within_count a.maps.now a.n a.entries.now a.m l.len l.few l.row l.k l.invariant t.loop-test.taken c.cell_at-map_type.ensures c.cell_at-count.ensures c.count_runs.ensures c.runs.given.1 in
+    let r : goal.In-Runs-2 = search in omega (arith, within r, few (D r))
 
 pub overflow_mul-len-in-loop-k-2 : goal.overflow_mul-len-in-loop-k-2
-overflow_mul-len-in-loop-k-2 c = omega (arith, few c)
+overflow_mul-len-in-loop-k-2 c =
+    let few : c.cell_at-count.result ≤ 262143 = let a = c.args in
+    let l = c.loop-k in
+    count_few a.maps.now a.n a.entries.now a.m l.row l.k l.invariant.walk c.loop-k-test.true c.cell_at-count.ensures in
+    let r : goal.In-Runs-2 = search in omega (arith, few (D r))
 
 pub overflow_add-len-in-loop-k-2 : goal.overflow_add-len-in-loop-k-2
-overflow_add-len-in-loop-k-2 c = let r : goal.In-Runs-2 = search in omega (arith, within r, few c)
+overflow_add-len-in-loop-k-2 c =
+    let few : c.cell_at-count.result ≤ 262143 = let a = c.args in
+    let l = c.loop-k in
+    count_few a.maps.now a.n a.entries.now a.m l.row l.k l.invariant.walk c.loop-k-test.true c.cell_at-count.ensures in
+    let within : c.runs.given.0.0 ≤ c.cell_at-count.result = let t = c c in
+    let a = c.args in
+    let l = c.loop-k in
+    runs_within_count a.maps.now a.n a.entries.now a.m l.len l.few l.row l.k l.invariant t.loop-test.taken c.cell_at-map_type.ensures c.cell_at-count.ensures c.count_runs.ensures c.runs.given.1 in
+    let r : goal.In-Runs-2 = search in omega (arith, within r, few (D r))
 
 pub overflow_add-len-in-loop-k-3 : goal.overflow_add-len-in-loop-k-3
 overflow_add-len-in-loop-k-3 c =
+    let few : c.cell_at-count.result ≤ 262143 = let a = c.args in
+    let l = c.loop-k in
+    count_few a.maps.now a.n a.entries.now a.m l.row l.k l.invariant.walk c.loop-k-test.true c.cell_at-count.ensures in
+    let few_maps : c.args.n ≤ 255 = let a = c.args in maps_few a.maps.now a.n a.entries.now a.m c.requires.1 in
+    let within : c.runs.given.0.0 ≤ c.cell_at-count.result = let t = c c in
+    let a = c.args in
+    let l = c.loop-k in
+    runs_within_count a.maps.now a.n a.entries.now a.m l.len l.few l.row l.k l.invariant t.loop-test.taken c.cell_at-map_type.ensures c.cell_at-count.ensures c.count_runs.ensures c.runs.given.1 in
     let r : goal.In-Runs-2 = search in
-    omega (arith, within r, few c, few_maps c, c.loop-k.invariant.small, c.loop-k-test.true)
+    let t = T (D r) in
+    omega (arith, within r, few (D r), few_maps (D r), c.loop-k.invariant.small, t.loop-test.taken)
 
 pub overflow_add-row : goal.overflow_add-row
-overflow_add-row c = omega (arith, entries_there c)
+overflow_add-row c =
+    let entries_there : entry_size * c.loop-k.row + entry_size * c.cell_at-count.result ≤ length c.args.entries.now = let a = c.args in
+    let l = c.loop-k in
+    omega (arith, entries_room a.maps.now a.n a.entries.now a.m c.requires.0, own_within a.maps.now a.n a.entries.now a.m l.row l.k l.invariant.walk c.loop-k-test.true c.cell_at-count.ensures) in
+    let r : goal.In-Runs-2 = search in omega (arith, entries_there (D r))
 
 pub loop-k-preserved : goal.loop-k-preserved
 loop-k-preserved c =
-    let a = c.args in
-    let l = c.loop-k in
-    measured_turn a.maps.now a.n a.entries.now a.m l.len l.few l.row l.k l.inv c.loop-k-test.true c.cell_at-map_type.ensures c.cell_at-count.ensures c.count_runs.ensures c.runs-1.given.1 c.still_few-few.ensures
+    let r : goal.In-Runs-2 = search in
+    let d = D r in
+    let a = (S (T d)).args in
+    let l = (L (T d)).loop in
+    measured_turn a.maps.now a.n a.entries.now a.m l.len l.few l.row l.k l.invariant c.loop-k-test.true c.cell_at-map_type.ensures d.cell-at2.ensures c.count_runs.ensures r.runs.given.1 c.still_few-few.ensures
 
 pub returns-then-not-few : goal.returns-then-not-few
 returns-then-not-few c =
     let a = c.args in
     let l = c.loop-k in
-    measured_many a.maps.now a.n a.entries.now a.m l.len l.few l.row l.k l.inv c.loop-k-test.false c.if-not-few.true
+    measured_many a.maps.now a.n a.entries.now a.m l.len l.few l.row l.k l.invariant c.loop-k-test.false c.if-not-few.true
 
 pub returns : goal.returns
 returns c =
     let a = c.args in
     let l = c.loop-k in
-    measured_done a.maps.now a.n a.entries.now a.m l.len l.few l.row l.k l.inv c.loop-k-test.false c.if-not-few.false c.if-n-eq0.false
+    measured_done a.maps.now a.n a.entries.now a.m l.len l.few l.row l.k l.invariant c.loop-k-test.false c.if-not-few.false c.if-n-eq0.false

@@ -8,18 +8,6 @@ use Rattle.encode_cpi.specs.Cpi.{map_rows_of, entry_rows_of}
 use Rattle.encode_cpi.proofs.Section.{none_long, cpi_none, cpi_long, cpi_small, cpi_put}
 use Rattle.encode_cpi.proofs.put_cpi.Goals as goal
 
--- where there are maps
-module _ (c : goal.Else-n-eq0) where
-  -- the call's start
-
-  -- how long the section is
-  long : let a = c.args in a.len ≡ 8 + 12 * a.n + length (bodies (map_rows_of a.maps.now a.n) (entry_rows_of a.entries.now a.m))
-  long = let a = c.args in cpi_long a.maps.now a.n a.entries.now a.m a.out-1.now a.at a.len c.requires c.if-n-eq0.false
-
-  -- 32 bits can tell it
-  small : c.args.len < 2 ^ 32
-  small = let a = c.args in cpi_small a.maps.now a.n a.entries.now a.m a.out-1.now a.at a.len c.requires c.if-n-eq0.false
-
 pub put_u32-requires : goal.put_u32-requires
 put_u32-requires c =
     let a = c.args in
@@ -31,18 +19,24 @@ returns-then-n-eq0 c =
     cpi_none a.maps.now a.n a.entries.now a.m a.out.now a.at a.len c.if-n-eq0.true c.requires.long c.put_u32.ensures
 
 pub overflow_sub-len : goal.overflow_sub-len
-overflow_sub-len c = omega (arith, long c)
+overflow_sub-len c =
+    let long : let a = c.args in a.len ≡ 8 + 12 * a.n + length (bodies (map_rows_of a.maps.now a.n) (entry_rows_of a.entries.now a.m)) = let a = c.args in cpi_long a.maps.now a.n a.entries.now a.m a.out.now a.at a.len c.requires c.if-n-eq0.false in
+    omega (arith, long)
 
 pub overflow_cast-len : goal.overflow_cast-len
-overflow_cast-len c = record { fits = omega (arith, small c) }
+overflow_cast-len c =
+    let small : c.args.len < 2 ^ 32 = let a = c.args in cpi_small a.maps.now a.n a.entries.now a.m a.out.now a.at a.len c.requires c.if-n-eq0.false in
+    record { fits = omega (arith, small) }
 
 pub put_top-requires : goal.put_top-requires
 put_top-requires c =
+    let long : let a = c.args in a.len ≡ 8 + 12 * a.n + length (bodies (map_rows_of a.maps.now a.n) (entry_rows_of a.entries.now a.m)) = let a = c.args in cpi_long a.maps.now a.n a.entries.now a.m a.out.now a.at a.len c.requires c.if-n-eq0.false in
     let e : goal.Else-n-eq0 = search in
     omega (arith, long e, c.requires.room)
 
 pub put_maps-requires : goal.put_maps-requires
 put_maps-requires c =
+    let long : let a = c.args in a.len ≡ 8 + 12 * a.n + length (bodies (map_rows_of a.maps.now a.n) (entry_rows_of a.entries.now a.m)) = let a = c.args in cpi_long a.maps.now a.n a.entries.now a.m a.out.now a.at a.len c.requires c.if-n-eq0.false in
     let e : goal.Else-n-eq0 = search in
     record {
       rows_there = c.requires.rows_there;

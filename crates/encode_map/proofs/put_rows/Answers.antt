@@ -12,19 +12,8 @@ row_there : (c : goal.In-loop-k) → let a = c.args in a.p + entry_size * c.loop
 row_there c = omega (arith, c.requires.there, c.loop-k.invariant.stored.within)
 
 -- so does its fine row inside the output
-fine-there : (c : goal.In-loop-k) → c.args.fine + 4 * c.loop-k.k + 4 ≤ length c.loop-k.out-1
+fine-there : (c : goal.In-loop-k) → c.args.fine + 4 * c.loop-k.k + 4 ≤ length c.loop-k.out
 fine-there c = omega (arith, c.requires.room, c.loop-k.invariant.stored.within, c.loop-k.invariant.stored.long)
-
--- behind the loop the first entry is left, and its rows have room
-module _ (c : goal.After-loop-k) where
-  some : 0 < c.args.n
-  some = omega (arith, c.loop-k.invariant.stored.within)
-
-  last : c.loop-k.k ≡ 0
-  last = omega (arith, c.loop-k-test.false)
-
-  deep : 8 ≤ c.loop-k.to
-  deep = let a = c.args in let l = c.loop-k in first_room a.entries.now a.p a.n a.out-1.now a.fine some l.out-1 l.to l.k l.pair l.invariant last c.requires.below
 
 pub returns-then-n-eq0 : goal.returns-then-n-eq0
 returns-then-n-eq0 c = let a = c.args in stored_empty a.entries.now a.p a.n a.out.now a.fine c.if-n-eq0.true
@@ -100,22 +89,31 @@ loop-k-preserved c =
 
 pub put_fine-requires-2 : goal.put_fine-requires-2
 put_fine-requires-2 c =
+    let some : 0 < c.args.n = omega (arith, c.loop-k.invariant.stored.within) in
+    let last : c.loop-k.k ≡ 0 = omega (arith, c.loop-k-test.false) in
     let a = c.args in
     let l = c.loop-k in
     let first : a.p + entry_size * 0 ≡ a.p = omega arith in
     record {
-      there = omega (arith, c.requires.there, some c);
-      is = first_pair a.entries.now a.p a.n a.out.now a.fine (some c) l.out l.to l.k l.pair l.invariant (last c);
+      there = omega (arith, c.requires.there, some);
+      is = first_pair a.entries.now a.p a.n a.out.now a.fine some l.out l.to l.k l.pair l.invariant last;
       type = c.requires.fit.type;
-      fit = rw first at (row_fits a.entries.now a.p a.n 0 c.requires.fit (some c));
-      room = omega (arith, c.requires.room, l.invariant.stored.long, some c);
+      fit = rw first at (row_fits a.entries.now a.p a.n 0 c.requires.fit some);
+      room = omega (arith, c.requires.room, l.invariant.stored.long, some);
     }
 
 pub overflow_sub-to : goal.overflow_sub-to
-overflow_sub-to c = deep c
+overflow_sub-to c =
+    let some : 0 < c.args.n = omega (arith, c.loop-k.invariant.stored.within) in
+    let last : c.loop-k.k ≡ 0 = omega (arith, c.loop-k-test.false) in
+    let deep : 8 ≤ c.loop-k.to = let a = c.args in let l = c.loop-k in first_room a.entries.now a.p a.n a.out.now a.fine some l.out l.to l.k l.pair l.invariant last c.requires.below in
+    deep
 
 pub put_coarse_row-requires : goal.put_coarse_row-requires
 put_coarse_row-requires c =
+    let some : 0 < c.args.n = omega (arith, c.loop-k.invariant.stored.within) in
+    let last : c.loop-k.k ≡ 0 = omega (arith, c.loop-k-test.false) in
+    let deep : 8 ≤ c.loop-k.to = let a = c.args in let l = c.loop-k in first_room a.entries.now a.p a.n a.out.now a.fine some l.out l.to l.k l.pair l.invariant last c.requires.below in
     let a = c.args in
     let l = c.loop-k in
     let fit = row_fits a.entries.now a.p a.n l.k c.requires.fit l.invariant.stored.within in (
@@ -125,11 +123,17 @@ put_coarse_row-requires c =
     )
 
 pub overflow_sub-result : goal.overflow_sub-result
-overflow_sub-result c = deep c
+overflow_sub-result c =
+    let some : 0 < c.args.n = omega (arith, c.loop-k.invariant.stored.within) in
+    let last : c.loop-k.k ≡ 0 = omega (arith, c.loop-k-test.false) in
+    let deep : 8 ≤ c.loop-k.to = let a = c.args in let l = c.loop-k in first_room a.entries.now a.p a.n a.out.now a.fine some l.out l.to l.k l.pair l.invariant last c.requires.below in
+    deep
 
 pub returns : goal.returns
 returns c =
+    let some : 0 < c.args.n = omega (arith, c.loop-k.invariant.stored.within) in
+    let last : c.loop-k.k ≡ 0 = omega (arith, c.loop-k-test.false) in
     let a = c.args in
     let l = c.loop-k in
-    first_stored a.entries.now a.p a.n a.out.now a.fine (some c) l.out l.to l.k l.pair l.invariant (last c) c.requires.below
+    first_stored a.entries.now a.p a.n a.out.now a.fine some l.out l.to l.k l.pair l.invariant last c.requires.below
     c.put_fine-2.ensures c.put_coarse_row.ensures

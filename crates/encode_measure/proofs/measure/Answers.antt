@@ -36,43 +36,6 @@ fields : (e : goal.Else-not-fields_fit) → fields_of (tables c) ≡ true
 fields e =
     passes_by c.fields_fit.ensures e.if-not-fields_fit.false
 
--- the entries fit
-module _ (c : goal.In-Fit-2) where
-  -- where the letters are right
-  abbrev named : goal.Else-not-is_clip
-  named = lettered-of c
-
-  -- where the counts add up
-  abbrev added : goal.Else-not-counts_add
-  added = counted_of named
-
-  -- the tables
-  abbrev handed : ClipTables
-  handed = tables c
-
-  -- all fit, and the length is told
-  fit : (cells_fit (clip_in handed) ≡ true) × (c.length-1.given.0.0 ≡ length_in handed)
-  fit =
-      entries_fit_lem handed (fields c) (sym c.cpi_length.ensures ∙ c.length-1.given.1)
-
--- no map has too many runs
-module _ (c : goal.In-Bytes-2) where
-  -- the tables, which can be written
-  abbrev writable : ClipTables
-  writable = handed c
-
-  -- their record
-  abbrev clip : Clip
-  clip = clip_in writable
-
-  -- no map has too many runs, and the section's bytes are told
-  few : (runs_fit clip ≡ true) × (c.length-in-Bytes-1.given.0.0 ≡ length (cpi_bytes clip))
-  few = runs_few writable (sym (fit c).1 ∙ c.length-in-Bytes-1.given.1)
-
-  -- nothing is refused
-  none : refusal_in writable ≡ 0
-  none = none_refused writable (record { counted = counted (added c); letters = lettered (named c); fit = (fit c).0; runs_fit_lem = few.0 })
-
 pub returns-then-not-counts_add : goal.returns-then-not-counts_add
 returns-then-not-counts_add c =
     let s : goal.Start = search in
@@ -103,40 +66,86 @@ pub returns-in_default : goal.returns-in_default
 returns-in_default c =
     let e : goal.Else-not-is_clip = search in
     let l = tables c in
-    refused_by (refusal_in l) (clip_in l) 30 refl (entries_refused l (counted c) (lettered e) (sym c.cpi_length.ensures ∙ c.enum_told-1.given.1))
+    refused_by (refusal_in l) (clip_in l) 30 refl (entries_refused l (counted c) (lettered e) (sym c.cpi_length.ensures ∙ c.enum_told.given.1))
 
 pub returns-in_default-length : goal.returns-in_default-length
 returns-in_default-length c =
+    let named : goal.Else-not-is_clip = lettered-of c in
+    let added : goal.Else-not-counts_add = counted_of named in
+    let handed : ClipTables = tables c in
+    let fit : (cells_fit (clip_in handed) ≡ true) × (c.length.given.0.0 ≡ length_in handed) =
+    entries_fit_lem handed (fields c) (sym c.cpi_length.ensures ∙ c.length.given.1) in
     let t : goal.In-Fit-2 = search in
     let l = handed t in
-    refused_by (refusal_in l) (clip_in l) 31 refl (runs_refused l (counted (added t)) (lettered (named t)) (fit t).0 (sym (fit t).1 ∙ c.enum_told-in_default-length-1.given.1))
+    refused_by (refusal_in l) (clip_in l) 31 refl (runs_refused l (counted added) (lettered named) fit.0 (sym fit.1 ∙ c.enum_told-in_default-length-1.given.1))
 
 pub section_length-programs_at-requires : goal.section_length-programs_at-requires
-section_length-programs_at-requires c = let b : goal.In-Bytes-2 = search in sequences_counted (writable b) (counted (added c))
+section_length-programs_at-requires c =
+    let named : goal.Else-not-is_clip = lettered-of c in
+    let added : goal.Else-not-counts_add = counted_of named in
+    let handed : ClipTables = tables c in
+    let writable : ClipTables = handed in sequences_counted writable (counted added)
 
 pub overflow_add-programs_at : goal.overflow_add-programs_at
 overflow_add-programs_at c =
-    let b : goal.In-Bytes-2 = search in
-    record { fits = omega (arith, marks_bound (writable b) (none b), sequences_long (writable b) c.section_length-programs_at.ensures, place_programs (clip b), place_cpi (clip b), place_marks (clip b)) }
+    let handed : ClipTables = tables c in
+    let writable : ClipTables = handed in
+    let clip : Clip = clip_in writable in
+    let named : goal.Else-not-is_clip = lettered-of c in
+    let added : goal.Else-not-counts_add = counted_of named in
+    let fit : (cells_fit (clip_in handed) ≡ true) × (c.length.given.0.0 ≡ length_in handed) =
+    entries_fit_lem handed (fields c) (sym c.cpi_length.ensures ∙ c.length.given.1) in
+    let few : (runs_fit clip ≡ true) × (c.length-in-Bytes-1.given.0.0 ≡ length (cpi_bytes clip)) = runs_few writable (sym fit.1 ∙ c.length-in-Bytes-1.given.1) in
+    let none : refusal_in writable ≡ 0 = none_refused writable (record { counted = counted added; letters = lettered named; fit = fit.0; runs_fit_lem = few.0 }) in
+    record { fits = omega (arith, marks_bound writable none, sequences_long writable c.section_length-programs_at.ensures, place_programs clip, place_cpi clip, place_marks clip) }
 
 pub section_length-requires : goal.section_length-requires
-section_length-requires c = let b : goal.In-Bytes-2 = search in programs_counted (writable b) (counted (added c))
+section_length-requires c =
+    let named : goal.Else-not-is_clip = lettered-of c in
+    let added : goal.Else-not-counts_add = counted_of named in
+    let handed : ClipTables = tables c in
+    let writable : ClipTables = handed in programs_counted writable (counted added)
 
 pub overflow_add-cpi_at : goal.overflow_add-cpi_at
 overflow_add-cpi_at c =
-    let b : goal.In-Bytes-2 = search in
-    record { fits = omega (arith, marks_bound (writable b) (none b), sequences_long (writable b) c.section_length-programs_at.ensures, programs_long (writable b) c.section_length.ensures, place_programs (clip b), place_cpi (clip b), place_marks (clip b)) }
+    let handed : ClipTables = tables c in
+    let writable : ClipTables = handed in
+    let clip : Clip = clip_in writable in
+    let named : goal.Else-not-is_clip = lettered-of c in
+    let added : goal.Else-not-counts_add = counted_of named in
+    let fit : (cells_fit (clip_in handed) ≡ true) × (c.length.given.0.0 ≡ length_in handed) = let p : goal.After-cpi_length = search in
+    entries_fit_lem handed (fields c) (sym p.cpi_length.ensures ∙ c.length.given.1) in
+    let few : (runs_fit clip ≡ true) × (c.length-in-Bytes-1.given.0.0 ≡ length (cpi_bytes clip)) = runs_few writable (sym fit.1 ∙ c.length-in-Bytes-1.given.1) in
+    let none : refusal_in writable ≡ 0 = none_refused writable (record { counted = counted added; letters = lettered named; fit = fit.0; runs_fit_lem = few.0 }) in
+    record { fits = omega (arith, marks_bound writable none, sequences_long writable c.section_length-programs_at.ensures, programs_long writable c.section_length.ensures, place_programs clip, place_cpi clip, place_marks clip) }
 
 pub overflow_add-marks_at : goal.overflow_add-marks_at
 overflow_add-marks_at c =
-    let b : goal.In-Bytes-2 = search in
-    record { fits = omega (arith, marks_bound (writable b) (none b), (few b).1, sequences_long (writable b) c.section_length-programs_at.ensures, programs_long (writable b) c.section_length.ensures, place_programs (clip b), place_cpi (clip b), place_marks (clip b)) }
+    let handed : ClipTables = tables c in
+    let writable : ClipTables = handed in
+    let clip : Clip = clip_in writable in
+    let fit : (cells_fit (clip_in handed) ≡ true) × (c.length.given.0.0 ≡ length_in handed) = let p : goal.After-cpi_length = search in
+    entries_fit_lem handed (fields c) (sym p.cpi_length.ensures ∙ c.length.given.1) in
+    let few : (runs_fit clip ≡ true) × (c.length-in-Bytes-1.given.0.0 ≡ length (cpi_bytes clip)) = runs_few writable (sym fit.1 ∙ c.length-in-Bytes-1.given.1) in
+    let named : goal.Else-not-is_clip = lettered-of c in
+    let added : goal.Else-not-counts_add = counted_of named in
+    let none : refusal_in writable ≡ 0 = none_refused writable (record { counted = counted added; letters = lettered named; fit = fit.0; runs_fit_lem = few.0 }) in
+    record { fits = omega (arith, marks_bound writable none, few.1, sequences_long writable c.section_length-programs_at.ensures, programs_long writable c.section_length.ensures, place_programs clip, place_cpi clip, place_marks clip) }
 
 pub returns : goal.returns
 returns c =
+    let handed : ClipTables = tables c in
+    let writable : ClipTables = handed in
+    let clip : Clip = clip_in writable in
+    let fit : (cells_fit (clip_in handed) ≡ true) × (c.length.given.0.0 ≡ length_in handed) = let p : goal.After-cpi_length = search in
+    entries_fit_lem handed (fields c) (sym p.cpi_length.ensures ∙ c.length.given.1) in
+    let few : (runs_fit clip ≡ true) × (c.length-in-Bytes-1.given.0.0 ≡ length (cpi_bytes clip)) = runs_few writable (sym fit.1 ∙ c.length-in-Bytes-1.given.1) in
+    let named : goal.Else-not-is_clip = lettered-of c in
+    let added : goal.Else-not-counts_add = counted_of named in
+    let none : refusal_in writable ≡ 0 = none_refused writable (record { counted = counted added; letters = lettered named; fit = fit.0; runs_fit_lem = few.0 }) in
     let b : goal.In-Bytes-2 = search in
-    let first = sequences_long (writable b) c.section_length-programs_at.ensures in
-    let second = programs_long (writable b) c.section_length.ensures in
-    let third = (few b).1 in
+    let first = sequences_long writable c.section_length-programs_at.ensures in
+    let second = programs_long writable c.section_length.ensures in
+    let third = few.1 in
     let c₀ = clip b in
-    places_by (refusal_in (writable b)) c₀ (none b) (omega (arith, first, place_programs c₀)) (omega (arith, first, second, place_programs c₀, place_cpi c₀)) (omega (arith, first, second, third, place_programs c₀, place_cpi c₀, place_marks c₀))
+    places_by (refusal_in writable) c₀ none (omega (arith, first, place_programs c₀)) (omega (arith, first, second, place_programs c₀, place_cpi c₀)) (omega (arith, first, second, third, place_programs c₀, place_cpi c₀, place_marks c₀))

@@ -6,15 +6,15 @@ use Rattle.encode_measure.proofs.scalars_fit.Goals as goal
 
 pub returns-then-info-ge256 : goal.returns-then-info-ge256
 returns-then-info-ge256 c =
-    rw (lt-ltb _ _ c.struct_known-1.given.1.0.fits, le-ltb _ _ c.if-info-ge256.true)
+    rw (lt-ltb _ _ c.struct_known.given.1.0.fits, le-ltb _ _ c.if-info-ge256.true)
 
 pub returns-then-info-ge256-2 : goal.returns-then-info-ge256-2
 returns-then-info-ge256-2 c =
-    rw (lt-ltb _ _ c.struct_known-1.given.1.0.fits, lt-ltb _ _ c.if-info-ge256.false, le-ltb _ _ c.if-info-ge256-2.true)
+    rw (lt-ltb _ _ c.struct_known.given.1.0.fits, lt-ltb _ _ c.if-info-ge256.false, le-ltb _ _ c.if-info-ge256-2.true)
 
 pub returns : goal.returns
 returns c =
-    let fit = c.struct_known-1.given in
+    let fit = c.struct_known.given in
     rw (
       lt-ltb _ _ fit.1.0.fits,
       lt-ltb _ _ c.if-info-ge256.false,

@@ -16,15 +16,15 @@ rows-part s = let a = s.args in rows_bytes (row_kind a.section) a.rows.now a.q (
 
 pub put_row-behind-requires : goal.put_row-behind-requires
 put_row-behind-requires c =
-    rw c.head_kind.ensures (first_room c.args.out-1.now (head-part c) (rows-part c) c.args.at c.requires.room)
+    rw c.head_kind.ensures (first_room c.args.out.now (head-part c) (rows-part c) c.args.at c.requires.room)
 
 pub put_rows-requires : goal.put_rows-requires
 put_rows-requires c =
     let put = rw c.head_kind.ensures at c.put_row-behind.ensures in
-    rw (c.row_kind.ensures, c.own_count.ensures) (c.requires.rows_end, second_room c.args.out-1.now (head-part c) (rows-part c) c.args.at c.requires.room put.0 put.1)
+    rw (c.row_kind.ensures, c.own_count.ensures) (c.requires.rows_end, second_room c.args.out.now (head-part c) (rows-part c) c.args.at c.requires.room put.0 put.1)
 
 pub returns : goal.returns
 returns c =
     let put = rw c.head_kind.ensures at c.put_row-behind.ensures in
     let rest = rw (c.row_kind.ensures, c.own_count.ensures) at c.put_rows.ensures in
-    both_stored c.args.out-1.now (head-part c) (rows-part c) c.args.at c.requires.room put.0 put.1 rest
+    both_stored c.args.out.now (head-part c) (rows-part c) c.args.at c.requires.room put.0 put.1 rest

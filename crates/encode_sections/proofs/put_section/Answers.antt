@@ -26,15 +26,15 @@ overflow_sub-len c = omega (arith, items_long c.requires)
 
 pub put_head-requires : goal.put_head-requires
 put_head-requires c =
-    rw (behind-head c) (first_room c.args.out-1.now (head-part c) (items_part c) c.args.at (parts_room c.requires))
+    rw (behind-head c) (first_room c.args.out.now (head-part c) (items_part c) c.args.at (parts_room c.requires))
 
 pub put_groups-requires : goal.put_groups-requires
 put_groups-requires c = record {
   heads_there = c.requires.counted.heads_there;
   rows_there = rw c.requires.counted.adds c.requires.counted.rows_there;
-  room = second_room c.args.out-1.now (head-part c) (items_part c) c.args.at (parts_room c.requires) (behind-head c) c.put_head.ensures;
+  room = second_room c.args.out.now (head-part c) (items_part c) c.args.at (parts_room c.requires) (behind-head c) c.put_head.ensures;
 }
 
 pub returns : goal.returns
 returns c =
-    rw (← section_parts c.requires) (both_stored c.args.out-1.now (head-part c) (items_part c) c.args.at (parts_room c.requires) (behind-head c) c.put_head.ensures c.put_groups.ensures)
+    rw (← section_parts c.requires) (both_stored c.args.out.now (head-part c) (items_part c) c.args.at (parts_room c.requires) (behind-head c) c.put_head.ensures c.put_groups.ensures)

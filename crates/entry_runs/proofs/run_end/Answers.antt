@@ -5,12 +5,6 @@ use Rattle.entry_runs.proofs.Runs.{Compared, first_unfit, first_fit, words_compa
 use Rattle.entry_runs.proofs.Words.{words_fit}
 use Rattle.entry_runs.proofs.run_end.Goals as goal
 
--- row k is compared with the run's first entry
-module _ (c : goal.After-goes_on) where
-  compared : let a = c.args in Compared a.entries.now a.p a.n a.map_type a.from c.loop-k.k c.goes_on.result (words_same c.words_at-first.result c.words_at-words.result)
-  compared =
-      words_compared c.args.entries.now c.args.p c.args.n c.args.map_type c.args.from c.loop-k.k c.loop-k.invariant c.loop-k-test.true c.words_at-first.ensures c.words_at-words.ensures c.row_fits.ensures c.if-not-row_fits.false c.goes_on.ensures
-
 pub returns-then-not-row_fits : goal.returns-then-not-row_fits
 returns-then-not-row_fits c =
     let a = c.args in
@@ -28,15 +22,17 @@ goes_on-requires c =
 
 pub returns-then-not-goes_on : goal.returns-then-not-goes_on
 returns-then-not-goes_on c =
-    let g : goal.After-goes_on = search in
+    let compared : let a = c.args in Compared a.entries.now a.p a.n a.map_type a.from c.loop-k.k c.goes_on.result (words_same c.words_at-first.result c.words_at-words.result) =
+    words_compared c.args.entries.now c.args.p c.args.n c.args.map_type c.args.from c.loop-k.k c.loop-k.invariant c.loop-k-test.true c.words_at-first.ensures c.words_at-words.ensures c.row_fits.ensures c.if-not-row_fits.false c.goes_on.ensures in
     let a = c.args in
-    along_stopped a.entries.now a.p a.n a.map_type a.from c.loop-k.k (compared g) c.if-not-goes_on.true c.stopped.ensures
+    along_stopped a.entries.now a.p a.n a.map_type a.from c.loop-k.k compared c.if-not-goes_on.true c.stopped.ensures
 
 pub loop-k-preserved : goal.loop-k-preserved
 loop-k-preserved c =
-    let g : goal.After-goes_on = search in
+    let compared : let a = c.args in Compared a.entries.now a.p a.n a.map_type a.from c.loop-k.k c.goes_on.result (words_same c.words_at-first.result c.words_at-words.result) =
+    words_compared c.args.entries.now c.args.p c.args.n c.args.map_type c.args.from c.loop-k.k c.loop-k.invariant c.loop-k-test.true c.words_at-first.ensures c.words_at-words.ensures c.row_fits.ensures c.if-not-row_fits.false c.goes_on.ensures in
     let a = c.args in
-    along_turn a.entries.now a.p a.n a.map_type a.from c.loop-k.k (compared g) c.if-not-goes_on.false
+    along_turn a.entries.now a.p a.n a.map_type a.from c.loop-k.k compared c.if-not-goes_on.false
 
 pub returns : goal.returns
 returns c =

@@ -5,7 +5,7 @@ pub returns-then-is_packet : goal.returns-then-is_packet
 returns-then-is_packet c = rw (c.found-in-Number-1.given.1, c.if-is_packet.true)
 
 pub returns-in-Refused : goal.returns-in-Refused
-returns-in-Refused c = rw c.found-1.given.1
+returns-in-Refused c = rw c.found.given.1
 
 pub returns-else-is_packet : goal.returns-else-is_packet
 returns-else-is_packet c = rw (c.found-in-Number-1.given.1, c.if-is_packet.false)

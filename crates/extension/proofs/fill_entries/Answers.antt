@@ -5,7 +5,7 @@ use Rattle.extension.proofs.fill_entries.Goals as goal
 
 pub loop-k-init : goal.loop-k-init
 loop-k-init c =
-    none_stored c.args.file.now c.args.start c.args.n c.args.table-1.now c.requires.1
+    none_stored c.args.file.now c.args.start c.args.n c.args.table.now c.requires.1
 
 pub put_entry-at-requires : goal.put_entry-at-requires
 put_entry-at-requires c =

@@ -15,7 +15,7 @@ pub loop-k-preserved : goal.loop-k-preserved
 loop-k-preserved c =
     let a = c.args in
     let l = c.loop-k in
-    one_counted a.file.now a.start a.n c.entry_at-entry.result c.loop-k-test.true c.entry_at-entry.ensures c.rows_of-rows.ensures c.listed-list.ensures l.inv
+    one_counted a.file.now a.start a.n c.entry_at-entry.result c.loop-k-test.true c.entry_at-entry.ensures c.rows_of-rows.ensures c.listed-list.ensures l.invariant
 
 pub returns : goal.returns
 returns c =

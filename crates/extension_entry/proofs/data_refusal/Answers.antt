@@ -7,7 +7,7 @@ use Rattle.extension_entry.proofs.data_refusal.Goals as goal
 pub returns-in-Refused : goal.returns-in-Refused
 returns-in-Refused c =
     let a = c.args in
-    (not_given a.file.now (stated a.table.now a.rows) a.row (sym c.enum_told-1.given.1 ∙ c.data_place.ensures.same)).0
+    (not_given a.file.now (stated a.table.now a.rows) a.row (sym c.enum_told.given.1 ∙ c.data_place.ensures.same)).0
 
 pub returns : goal.returns
 returns c =

@@ -10,20 +10,6 @@ use Rattle.info_sections.proofs.fill.Goals as goal
 head : (s : goal.Start) → s.args.start + 6 ≤ length s.args.file.now
 head s = ends_within s.args.section s.args.file.now s.args.start s.requires.ends
 
--- the count of the header row's own rows is read
-module _ (c : goal.After-own_count-n) where
-  -- the call's start
-
-  -- the section's count
-
-  -- the size of its own rows
-
-  -- the turn's values, and its test
-
-  -- the header row says so many rows, and there is room for it and them
-  there : let a = c.args in let l = c.loop-k in GroupThere a.section a.file.now l.p c.own_count-n.result l.heads-1 l.at l.rows-1 l.to
-  there = group_there c.requires c.u8_at-count.ensures.same c.loop-k.invariant c.loop-k-test.true c.own_count-n.ensures.same
-
 pub overflow_add-start : goal.overflow_add-start
 overflow_add-start c = let s : goal.Start = search in omega (arith, head s)
 
@@ -42,21 +28,28 @@ own_count-n-requires c =
     count_in_lem c.requires c.u8_at-count.ensures.same c.loop-k.invariant c.loop-k-test.true
 
 pub put_group-p-requires : goal.put_group-p-requires
-put_group-p-requires c = let own_count : goal.After-own_count-n = search in there own_count
+put_group-p-requires c =
+    let there : let a = c.args in let l = c.loop-k in GroupThere a.section a.file.now l.p c.own_count-n.result l.heads l.at l.rows l.to = group_there c.requires c.u8_at-count.ensures.same c.loop-k.invariant c.loop-k-test.true c.own_count-n.ensures.same in
+    let own_count : goal.After-own_count-n = search in there own_count
 
 pub overflow_add-at : goal.overflow_add-at
-overflow_add-at c = let own_count : goal.After-own_count-n = search in omega (arith, (there own_count).head_room)
+overflow_add-at c =
+    let there : let a = c.args in let l = c.loop-k in GroupThere a.section a.file.now l.p c.own_count-n.result l.heads l.at l.rows l.to = group_there c.requires c.u8_at-count.ensures.same c.loop-k.invariant c.loop-k-test.true c.own_count-n.ensures.same in omega (arith, there.head_room)
 
 pub overflow_mul-to : goal.overflow_mul-to
 overflow_mul-to c =
+    let there : let a = c.args in let l = c.loop-k in GroupThere a.section a.file.now l.p c.own_count-n.result l.heads l.at l.rows l.to = group_there c.requires c.u8_at-count.ensures.same c.loop-k.invariant c.loop-k-test.true c.own_count-n.ensures.same in
     let o : goal.After-own_count-n = search in
-    let room = (there o).rows_room in
+    let s = S o in
+    let room = there.rows_room in
     rw c.row_size-step.ensures (omega (arith, room))
 
 pub overflow_add-to : goal.overflow_add-to
 overflow_add-to c =
+    let there : let a = c.args in let l = c.loop-k in GroupThere a.section a.file.now l.p c.own_count-n.result l.heads l.at l.rows l.to = group_there c.requires c.u8_at-count.ensures.same c.loop-k.invariant c.loop-k-test.true c.own_count-n.ensures.same in
     let o : goal.After-own_count-n = search in
-    let room = (there o).rows_room in
+    let s = S o in
+    let room = there.rows_room in
     rw c.row_size-step.ensures (omega (arith, room))
 
 pub loop-k-preserved : goal.loop-k-preserved

@@ -13,99 +13,76 @@ use Rattle.info_sections.specs.declared.SectionCounts.{SectionCounts}
 use Rattle.info_sections.proofs.Sections.{own_length, count_before, up_head, measured_as}
 use Rattle.info_sections.proofs.measure.Goals as goal
 
--- the count of header rows is told
-module _ (c : goal.In-Read-2) where
-  -- the call's start
-
-  -- the count as it is read
-
-  -- the section, and the file
-  abbrev kind : Section
-  kind = c.args.section
-
-  abbrev bytes : List ℕ
-  bytes = c.args.file.now
-
-  -- the count, and the first header row behind it
-  front : Got bytes (c.args.start + 5) 1 c.count-1.given.0.0 c.count-1.given.0.1.0
-  front = got bytes (c.args.start + 5) 1 (sym c.count-1.given.1 ∙ c.read_count.ensures.same)
-
-  -- the count is a byte
-  small : c.count-1.given.0.0 < 256
-  small = rw c.count-1.given.1 at c.read_count.ensures.below
-
--- the next header row is told
-module _ (c : goal.In-At-2) where
-  -- the count
-
-  -- the turn's values
-
-  -- the header row that was passed
-
-  -- the section, the file, and the place of that header row
-  abbrev own : Section
-  own = kind K
-
-  abbrev file : List ℕ
-  file = bytes K
-
-  abbrev place : ℕ
-  place = c.loop-k.pos
-
-  -- it ends with its own rows within the file, and the next one stands behind them
-  passed : (next_head own file place ≤ length file) × (c.next-1.given.0.0.pos ≡ next_head own file place)
-  passed = went file (next_head own file place) (sym c.next-1.given.1 ∙ c.skip_group.ensures)
-
 pub returns-in_default : goal.returns-in_default
 returns-in_default c =
     let a = c.args in
     let s = a.section in
     let f = a.file.now in
-    let cut = not_got f (a.start + 5) 1 (sym c.enum_told-1.given.1 ∙ c.read_count.ensures.same) in
+    let cut = not_got f (a.start + 5) 1 (sym c.enum_told.given.1 ∙ c.read_count.ensures.same) in
     section_short SectionCounts.Counts SectionCounts.PastEnd (head_at s f) (group_rows s f) (next_head s f) f a.start (up_head s f) (omega arith) ∙ measured_as s f a.start
 
 pub loop-k-init : goal.loop-k-init
 loop-k-init c =
-    let k : goal.In-Read-2 = search in
-    let g = front k in
-    (along_first (next_head (kind k) (bytes k)) (omega (arith, g.inside, g.behind)), counted_first (group_rows (kind k) (bytes k)) (next_head (kind k) (bytes k)))
+    let kind : Section = c.args.section in
+    let bytes : List ℕ = c.args.file.now in
+    let front : Got bytes (c.args.start + 5) 1 c.count.given.0.0 c.count.given.0.1.0 = got bytes (c.args.start + 5) 1 (sym c.count.given.1 ∙ c.read_count.ensures.same) in
+    let g = front in
+    (along_first (next_head kind bytes) (omega (arith, g.inside, g.behind)), counted_first (group_rows kind bytes) (next_head kind bytes))
 
 pub returns-in_default-skip_group : goal.returns-in_default-skip_group
 returns-in_default-skip_group c =
-    let k : goal.In-Read-2 = search in
+    let kind : Section = c.args.section in
+    let bytes : List ℕ = c.args.file.now in
+    let front : Got bytes (c.args.start + 5) 1 c.count.given.0.0 c.count.given.0.1.0 = got bytes (c.args.start + 5) 1 (sym c.count.given.1 ∙ c.read_count.ensures.same) in
     let l = c.loop-k in
-    let s = kind k in
-    let f = bytes k in
+    let s = kind in
+    let f = bytes in
     let at = c.args.start in
-    let g = front k in
-    section_past SectionCounts.Counts SectionCounts.PastEnd (head_at s f) (group_rows s f) (next_head s f) f at g.value (omega (arith, g.behind)) l.inv.0 (up_head s f)
+    let g = front in
+    section_past SectionCounts.Counts SectionCounts.PastEnd (head_at s f) (group_rows s f) (next_head s f) f at g.value (omega (arith, g.behind)) l.invariant.0 (up_head s f)
     c.loop-k-test.true (stayed f (next_head s f l.pos) (sym c.enum_told-in_default-skip_group-1.given.1 ∙ c.skip_group.ensures))
     ∙ measured_as s f at
 
 pub own_count-requires : goal.own_count-requires
-own_count-requires c = let n : goal.In-At-2 = search in le_trans (count_before (own n) (file n) (place n)) (passed n).0
+own_count-requires c =
+    let kind : Section = c.args.section in
+    let own : Section = kind in
+    let bytes : List ℕ = c.args.file.now in
+    let file : List ℕ = bytes in
+    let place : ℕ = c.loop-k.pos in
+    let passed : (next_head own file place ≤ length file) × (c.next.given.0.0.pos ≡ next_head own file place) = went file (next_head own file place) (sym c.next.given.1 ∙ c.skip_group.ensures) in le_trans (count_before own file place) passed.0
 
 pub overflow_add-rows : goal.overflow_add-rows
 overflow_add-rows c =
-    omega (arith, c.loop-k.invariant.1.small, small c)
+    let small : c.count.given.0.0 < 256 = rw c.count.given.1 at c.read_count.ensures.below in
+    let n : goal.In-At-2 = search in
+    omega (arith, c.loop-k.invariant.1.small, small (K n))
 
 pub loop-k-preserved : goal.loop-k-preserved
 loop-k-preserved c =
+    let kind : Section = c.args.section in
+    let own : Section = kind in
+    let bytes : List ℕ = c.args.file.now in
+    let file : List ℕ = bytes in
+    let place : ℕ = c.loop-k.pos in
+    let passed : (next_head own file place ≤ length file) × (c.next.given.0.0.pos ≡ next_head own file place) = went file (next_head own file place) (sym c.next.given.1 ∙ c.skip_group.ensures) in
     let n : goal.In-At-2 = search in
     let l = c.loop-k in
     let more = c.loop-k-test.true in
     let next = passed n in (
-      along_turn l.inv.0 more next.1 (omega (arith, next.0, next.1)),
-      counted_turn l.inv.1 more next.1 (c.own_count.ensures.same ∙ sym (own_length (own n) (file n) l.pos)) c.own_count.ensures.below,
+      along_turn l.invariant.0 more next.1 (omega (arith, next.0, next.1)),
+      counted_turn l.invariant.1 more next.1 (c.own_count.ensures.same ∙ sym (own_length own file l.pos)) c.own_count.ensures.below,
     )
 
 pub returns : goal.returns
 returns c =
-    let k : goal.In-Read-2 = search in
+    let kind : Section = c.args.section in
+    let bytes : List ℕ = c.args.file.now in
+    let front : Got bytes (c.args.start + 5) 1 c.count.given.0.0 c.count.given.0.1.0 = got bytes (c.args.start + 5) 1 (sym c.count.given.1 ∙ c.read_count.ensures.same) in
     let l = c.loop-k in
-    let s = kind k in
-    let f = bytes k in
+    let s = kind in
+    let f = bytes in
     let at = c.args.start in
-    let g = front k in
-    section_done SectionCounts.Counts SectionCounts.PastEnd (head_at s f) (group_rows s f) (next_head s f) f at g.value (omega (arith, g.behind)) l.inv.0 l.inv.1 c.loop-k-test.false
+    let g = front in
+    section_done SectionCounts.Counts SectionCounts.PastEnd (head_at s f) (group_rows s f) (next_head s f) f at g.value (omega (arith, g.behind)) l.invariant.0 l.invariant.1 c.loop-k-test.false
     ∙ measured_as s f at

@@ -33,7 +33,7 @@ put_entries-p-requires c =
     let l = c.loop-i in
     let x = c.cell_at-count.result in
     let count = row_cell ms map_cells l.q 2 (lit< tt) refl c.cell_at-count.ensures.same in
-    let enough = counts_turn ms l.q a.n l.i l.k a.m x (omega arith) count l.inv.2 in
+    let enough = counts_turn ms l.q a.n l.i l.k a.m x (omega arith) count l.invariant.2 in
     (omega arith, omega arith, times_turn a.entries.now a.m l.k x (omega arith) c.requires.4)
 
 pub loop-i-preserved : goal.loop-i-preserved
@@ -43,9 +43,9 @@ loop-i-preserved c =
     let l = c.loop-i in
     let x = c.cell_at-count.result in
     let count = row_cell ms map_cells l.q 2 (lit< tt) refl c.cell_at-count.ensures.same in
-    let enough = counts_turn ms l.q a.n l.i l.k a.m x (omega arith) count l.inv.2 in
+    let enough = counts_turn ms l.q a.n l.i l.k a.m x (omega arith) count l.invariant.2 in
     let es = a.entries.now in
-    let left = still_as (maps_turn ms l.q a.n l.i l.k a.m x (omega arith) count l.inv.2 es) l.inv.4 in
+    let left = still_as (maps_turn ms l.q a.n l.i l.k a.m x (omega arith) count l.invariant.2 es) l.invariant.4 in
     let later = map_lines (maps_from ms (l.q + 12) (a.n - (l.i + 1))) (entries_from es (entry_size * (l.k + x)) (a.m - (l.k + x))) in
     let lines = in_then c.put_map-behind.ensures c.put_entries-p.ensures in
     (search rules, search rules, enough, omega (arith, lines.short), still_turn later lines.text left)
@@ -55,4 +55,4 @@ returns c =
     let a = c.args in
     let l = c.loop-i in
     let none = maps_done a.maps.now a.entries.now l.q a.n l.i l.k a.m (omega arith) in
-    record { text = still_none (still_as none l.inv.4); short = omega arith }
+    record { text = still_none (still_as none l.invariant.4); short = omega arith }

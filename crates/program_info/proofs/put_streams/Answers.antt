@@ -16,7 +16,7 @@ bytes c = c.args.file.now
 
 -- within the loop the next stream ends within the file, and its row within the table
 room : (c : goal.In-loop-k)
-    → (next_stream (bytes c) c.loop-k.q ≤ length (bytes c)) × (c.loop-k.cell + 20 ≤ length c.loop-k.table-1)
+    → (next_stream (bytes c) c.loop-k.q ≤ length (bytes c)) × (c.loop-k.cell + 20 ≤ length c.loop-k.table)
 room c =
     let l = c.loop-k in
     let f = bytes c in

@@ -18,60 +18,55 @@ use Rattle.replay_case.proofs.is_same.Goals as goal
 small : (s : goal.Start) → length s.args.answer.now < no_place
 small s = search rules
 
--- what was read
-module _ (c : goal.After-clpi_read-r) where
-  -- the file
-  abbrev F : List ℕ
-  F = c.args.file.now
-
-  -- the stored answer
-  abbrev A : List ℕ
-  A = c.args.answer.now
-
-  -- the file is bytes
-  bytes : IsBytes F
-  bytes i = (c.shared_slice_known-1.given i).fits
-
-  -- the answer of reading
-  abbrev R : ClpiReading
-  R = c.clpi_read-r.result
-
-  -- the tables afterwards
-  abbrev T : Nine (List ℕ)
-  T =
-      let l = c.clpi_read-r.last in
-      record {
-        atcs = l.1.0;
-        stcs = l.1.1.0;
-        programs = l.1.1.1.0;
-        streams = l.1.1.1.1.0;
-        maps = l.1.1.1.1.1.0;
-        entries = l.1.1.1.1.1.1.0;
-        extensions = l.1.1.1.1.1.1.1.0;
-        list_programs = l.1.1.1.1.1.1.1.1.0;
-        list_streams = l.1.1.1.1.1.1.1.1.1.0;
-      }
-
-  -- its numbers are the definition's
-  numbers : reading_numbers R ≡ read_numbers (read_answer F sample_tables)
-  unfolding sample_tables
-  numbers = c.clpi_read-r.ensures.result_value
-
-  -- and so are the tables
-  after : T ≡ tables_after F sample_tables
-  unfolding sample_tables
-  after = c.clpi_read-r.ensures.streams2_after
-
 pub returns-then-r-ne0 : goal.returns-then-r-ne0
 returns-then-r-ne0 c =
-    let alone = refused_alone (F c) (read_answer (F c) sample_tables) refl (λ e. c.if-r-ne0.true (ap (λ (l : List ℕ). get_or l 0 0) (numbers c) ∙ e)) in
-    rw (c.pass_numbers.ensures, alone) (ends_same (A c) (row_bytes_of (1 ∷ [])) (small c))
+    let F : List ℕ = c.args.file.now in
+    let A : List ℕ = c.args.answer.now in
+    let R : ClpiReading = c.clpi_read-r.result in
+    let numbers : reading_numbers R ≡ read_numbers (read_answer F sample_tables) = c.clpi_read-r.ensures.result_value in
+    let alone = refused_alone F (read_answer F sample_tables) refl (λ e. c.if-r-ne0.true (ap (λ (l : List ℕ). get_or l 0 0) numbers ∙ e)) in
+    rw (c.pass_numbers.ensures, alone) (ends_same A (row_bytes_of (1 ∷ [])) (small c))
 
 pub pass_extensions-requires : goal.pass_extensions-requires
 pass_extensions-requires c =
-    extensions_held (F c) (bytes c) (R c) (T c) (numbers c) (after c) c.if-r-ne0.false
+    let F : List ℕ = c.args.file.now in
+    let bytes : IsBytes F = (λ i. (c.shared_slice_known-1.given i).fits) in
+    let R : ClpiReading = c.clpi_read-r.result in
+    let T : Nine (List ℕ) = let l = c.clpi_read-r.last in
+    record {
+      atcs = l.1.0;
+      stcs = l.1.1.0;
+      programs = l.1.1.1.0;
+      streams = l.1.1.1.1.0;
+      maps = l.1.1.1.1.1.0;
+      entries = l.1.1.1.1.1.1.0;
+      extensions = l.1.1.1.1.1.1.1.0;
+      list_programs = l.1.1.1.1.1.1.1.1.0;
+      list_streams = l.1.1.1.1.1.1.1.1.1.0;
+    } in
+    let numbers : reading_numbers R ≡ read_numbers (read_answer F sample_tables) = c.clpi_read-r.ensures.result_value in
+    let after : T ≡ tables_after F sample_tables = c.clpi_read-r.ensures.streams2_after in
+    extensions_held F (bytes) R T numbers after c.if-r-ne0.false
 
 pub returns : goal.returns
 returns c =
-    file_same (F c) (bytes c) (R c) (T c) (numbers c) (after c) c.if-r-ne0.false (A c) (small c)
+    let F : List ℕ = c.args.file.now in
+    let A : List ℕ = c.args.answer.now in
+    let bytes : IsBytes F = (λ i. (c.shared_slice_known-1.given i).fits) in
+    let R : ClpiReading = c.clpi_read-r.result in
+    let T : Nine (List ℕ) = let l = c.clpi_read-r.last in
+    record {
+      atcs = l.1.0;
+      stcs = l.1.1.0;
+      programs = l.1.1.1.0;
+      streams = l.1.1.1.1.0;
+      maps = l.1.1.1.1.1.0;
+      entries = l.1.1.1.1.1.1.0;
+      extensions = l.1.1.1.1.1.1.1.0;
+      list_programs = l.1.1.1.1.1.1.1.1.0;
+      list_streams = l.1.1.1.1.1.1.1.1.1.0;
+    } in
+    let numbers : reading_numbers R ≡ read_numbers (read_answer F sample_tables) = c.clpi_read-r.ensures.result_value in
+    let after : T ≡ tables_after F sample_tables = c.clpi_read-r.ensures.streams2_after in
+    file_same F (bytes) R T numbers after c.if-r-ne0.false A (small c)
     c.pass_streams-p.ensures c.pass_lists-q.ensures c.pass_extensions.ensures

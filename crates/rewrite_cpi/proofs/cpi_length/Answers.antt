@@ -11,18 +11,6 @@ bound : (e : goal.Else-count-eq0) → c.args.start + 8 + 12 * c.args.count ≤ 5
 bound e =
     omega (arith, (there c.args.file.now c.args.start c.args.count c.requires (omega (arith, e.if-count-eq0.false))).headers, c.requires.small)
 
--- a map's body
-module _ (c : goal.After-map_body-m) where
-  -- the call's start
-
-  -- its rows are in the file
-  rows : RowsIn c.args.file.now c.map_body-m.result
-  rows =
-      let a = c.args in
-      let l = c.loop-k in
-      rows_in_lem a.file.now a.start (a.start + 8 + 12 * l.k) c.map_body-m.result c.map_body-m.ensures
-      (left_map a.file.now a.start a.count l.k c.loop-k-test.true c.requires l.invariant.left)
-
 pub returns-then-count-eq0 : goal.returns-then-count-eq0
 returns-then-count-eq0 c =
     measured_none c.args.file.now c.args.start c.args.count c.requires c.if-count-eq0.true
@@ -48,16 +36,22 @@ overflow_add-start-in-loop-k c = let e : goal.Else-count-eq0 = search in omega (
 pub map_body-m-requires : goal.map_body-m-requires
 map_body-m-requires c =
     let l = c.loop-k in
-    left_map c.args.file.now c.args.start c.args.count l.k c.loop-k-test.true c.requires l.inv.left
+    left_map c.args.file.now c.args.start c.args.count l.k c.loop-k-test.true c.requires l.invariant.left
 
 pub count_runs-runs-requires : goal.count_runs-runs-requires
-count_runs-runs-requires c = rows c
+count_runs-runs-requires c =
+    let rows : RowsIn c.args.file.now c.map_body-m.result =
+    let a = c.args in
+    let l = c.loop-k in
+    rows_in_lem a.file.now a.start (a.start + 8 + 12 * l.k) c.map_body-m.result c.map_body-m.ensures
+    (left_map a.file.now a.start a.count l.k c.loop-k-test.true c.requires l.invariant.left) in
+    rows
 
 pub returns-then-runs-gt-MOST_RUNS : goal.returns-then-runs-gt-MOST_RUNS
 returns-then-runs-gt-MOST_RUNS c =
     let a = c.args in
     let l = c.loop-k in
-    measured_refused a.file.now a.start a.count l.len l.k l.inv c.loop-k-test.true c.map_body-m.result c.map_body-m.ensures c.count_runs-runs.ensures c.if-runs-gt-MOST_RUNS.true
+    measured_refused a.file.now a.start a.count l.len l.k l.invariant c.loop-k-test.true c.map_body-m.result c.map_body-m.ensures c.count_runs-runs.ensures c.if-runs-gt-MOST_RUNS.true
 
 pub overflow_mul-len-in-loop-k : goal.overflow_mul-len-in-loop-k
 overflow_mul-len-in-loop-k c = omega (arith, c.if-runs-gt-MOST_RUNS.false)
@@ -66,18 +60,32 @@ pub overflow_add-len-in-loop-k : goal.overflow_add-len-in-loop-k
 overflow_add-len-in-loop-k c = omega (arith, c.if-runs-gt-MOST_RUNS.false)
 
 pub overflow_mul-len-in-loop-k-2 : goal.overflow_mul-len-in-loop-k-2
-overflow_mul-len-in-loop-k-2 c = let map-body : goal.After-map_body-m = search in omega (arith, (rows map-body).few)
+overflow_mul-len-in-loop-k-2 c =
+    let rows : RowsIn c.args.file.now c.map_body-m.result =
+    let a = c.args in
+    let l = c.loop-k in
+    rows_in_lem a.file.now a.start (a.start + 8 + 12 * l.k) c.map_body-m.result c.map_body-m.ensures
+    (left_map a.file.now a.start a.count l.k c.loop-k-test.true c.requires l.invariant.left) in omega (arith, rows.few)
 
 pub overflow_add-len-in-loop-k-2 : goal.overflow_add-len-in-loop-k-2
 overflow_add-len-in-loop-k-2 c =
-    let map-body : goal.After-map_body-m = search in
-    omega (arith, (rows map-body).few, c.if-runs-gt-MOST_RUNS.false)
+    let rows : RowsIn c.args.file.now c.map_body-m.result =
+    let a = c.args in
+    let l = c.loop-k in
+    rows_in_lem a.file.now a.start (a.start + 8 + 12 * l.k) c.map_body-m.result c.map_body-m.ensures
+    (left_map a.file.now a.start a.count l.k c.loop-k-test.true c.requires l.invariant.left) in
+    omega (arith, rows.few, c.if-runs-gt-MOST_RUNS.false)
 
 pub overflow_add-len-in-loop-k-3 : goal.overflow_add-len-in-loop-k-3
 overflow_add-len-in-loop-k-3 c =
+    let rows : RowsIn c.args.file.now c.map_body-m.result = let turn : goal.At-loop-k = search in
+    let t : goal.In-loop-k = search in
+    let a = c.args in
+    let l = turn.loop-k in
+    rows_in_lem a.file.now a.start (a.start + 8 + 12 * l.k) c.map_body-m.result c.map_body-m.ensures
+    (left_map a.file.now a.start a.count l.k t.loop-k-test.true c.requires l.invariant.left) in
     let e : goal.Else-count-eq0 = search in
-    let map-body : goal.After-map_body-m = search in
-    omega (arith, (rows map-body).few, c.if-runs-gt-MOST_RUNS.false, c.loop-k.invariant.small, bound e, c.loop-k-test.true)
+    omega (arith, rows.few, c.if-runs-gt-MOST_RUNS.false, c.loop-k.invariant.small, bound e, c.loop-k-test.true)
 
 pub overflow_add-k : goal.overflow_add-k
 overflow_add-k c =
@@ -91,9 +99,9 @@ pub loop-k-preserved : goal.loop-k-preserved
 loop-k-preserved c =
     let a = c.args in
     let l = c.loop-k in
-    measured_turn a.file.now a.start a.count l.len l.k l.inv c.loop-k-test.true c.map_body-m.result c.map_body-m.ensures c.count_runs-runs.ensures c.if-runs-gt-MOST_RUNS.false
+    measured_turn a.file.now a.start a.count l.len l.k l.invariant c.loop-k-test.true c.map_body-m.result c.map_body-m.ensures c.count_runs-runs.ensures c.if-runs-gt-MOST_RUNS.false
 
 pub returns : goal.returns
 returns c =
     let l = c.loop-k in
-    measured_done c.args.file.now c.args.start c.args.count l.len l.k c.requires l.inv c.loop-k-test.false c.if-count-eq0.false
+    measured_done c.args.file.now c.args.start c.args.count l.len l.k c.requires l.invariant c.loop-k-test.false c.if-count-eq0.false

@@ -7,32 +7,6 @@ use Rattle.rewrite_cpi.specs.Cpi.{CpiRoom}
 use Rattle.rewrite_cpi.proofs.Sections.{none_long, cpi_none, byte_in, byte_is, cpi_long, maps_room, cpi_small, cpi_put, room_by}
 use Rattle.rewrite_cpi.proofs.put_cpi.Goals as goal
 
--- the byte that was read
-module _ (c : goal.After-u8_at-n) where
-  -- the call's start
-
-  -- where there are maps
-
-  -- it says how many there are
-  is : c.u8_at-n.result ≡ c.args.count
-  is =
-      let a = c.args in
-      byte_is a.file.now a.start a.count a.len a.out-1.now a.at c.requires c.if-count-eq0.false c.u8_at-n.ensures.same
-
-  -- there are some
-  some : c.u8_at-n.result ≡ 0 → ⊥
-  some z = c.if-count-eq0.false (sym is ∙ z)
-
-  -- not more than a byte can say
-  few : c.u8_at-n.result ≤ 255
-  few = omega (arith, c.u8_at-n.ensures.below)
-
-  -- what is wanted, by that number
-  room : CpiRoom c.args.file.now c.args.start c.u8_at-n.result c.args.len (length c.args.out-1.now) c.args.at
-  room =
-      let a = c.args in
-      room_by a.file.now a.start a.count a.len (length a.out-1.now) a.at is c.requires
-
 pub put_u32-requires : goal.put_u32-requires
 put_u32-requires c =
     let a = c.args in
@@ -55,28 +29,55 @@ u8_at-n-requires c =
 
 pub overflow_sub-len : goal.overflow_sub-len
 overflow_sub-len c =
+    let is : c.u8_at-n.result ≡ c.args.count = let a = c.args in
+    byte_is a.file.now a.start a.count a.len a.out.now a.at c.requires c.if-count-eq0.false c.u8_at-n.ensures.same in
+    let some : c.u8_at-n.result ≡ 0 → ⊥ = (λ z. c.if-count-eq0.false (sym is ∙ z)) in
+    let room : CpiRoom c.args.file.now c.args.start c.u8_at-n.result c.args.len (length c.args.out.now) c.args.at = let a = c.args in
+    room_by a.file.now a.start a.count a.len (length a.out.now) a.at is c.requires in
     let a = c.args in
-    omega (arith, cpi_long a.file.now a.start c.u8_at-n.result a.len a.out.now a.at (room c) (some c))
+    omega (arith, cpi_long a.file.now a.start c.u8_at-n.result a.len a.out.now a.at room (some))
 
 pub overflow_cast-len : goal.overflow_cast-len
 overflow_cast-len c =
+    let is : c.u8_at-n.result ≡ c.args.count = let a = c.args in
+    byte_is a.file.now a.start a.count a.len a.out.now a.at c.requires c.if-count-eq0.false c.u8_at-n.ensures.same in
+    let some : c.u8_at-n.result ≡ 0 → ⊥ = (λ z. c.if-count-eq0.false (sym is ∙ z)) in
+    let few : c.u8_at-n.result ≤ 255 = omega (arith, c.u8_at-n.ensures.below) in
+    let room : CpiRoom c.args.file.now c.args.start c.u8_at-n.result c.args.len (length c.args.out.now) c.args.at = let a = c.args in
+    room_by a.file.now a.start a.count a.len (length a.out.now) a.at is c.requires in
     let a = c.args in
-    omega (arith, cpi_small a.file.now a.start c.u8_at-n.result a.len a.out.now a.at (room c) (some c) (few c))
+    omega (arith, cpi_small a.file.now a.start c.u8_at-n.result a.len a.out.now a.at room (some) few)
 
 pub put_top-requires : goal.put_top-requires
 put_top-requires c =
+    let is : c.u8_at-n.result ≡ c.args.count = let a = c.args in
+    byte_is a.file.now a.start a.count a.len a.out.now a.at c.requires c.if-count-eq0.false c.u8_at-n.ensures.same in
+    let some : c.u8_at-n.result ≡ 0 → ⊥ = (λ z. c.if-count-eq0.false (sym is ∙ z)) in
+    let room : CpiRoom c.args.file.now c.args.start c.u8_at-n.result c.args.len (length c.args.out.now) c.args.at = let a = c.args in
+    room_by a.file.now a.start a.count a.len (length a.out.now) a.at is c.requires in
     let u : goal.After-u8_at-n = search in
     let a = c.args in
-    omega (arith, c.requires.room, cpi_long a.file.now a.start u.u8_at-n.result a.len a.out.now a.at (room u) (some u))
+    omega (arith, c.requires.room, cpi_long a.file.now a.start u.u8_at-n.result a.len a.out.now a.at room (some u))
 
 pub put_maps-requires : goal.put_maps-requires
 put_maps-requires c =
+    let is : c.u8_at-n.result ≡ c.args.count = let a = c.args in
+    byte_is a.file.now a.start a.count a.len a.out.now a.at c.requires c.if-count-eq0.false c.u8_at-n.ensures.same in
+    let some : c.u8_at-n.result ≡ 0 → ⊥ = (λ z. c.if-count-eq0.false (sym is ∙ z)) in
+    let few : c.u8_at-n.result ≤ 255 = omega (arith, c.u8_at-n.ensures.below) in
+    let room : CpiRoom c.args.file.now c.args.start c.u8_at-n.result c.args.len (length c.args.out.now) c.args.at = let a = c.args in
+    room_by a.file.now a.start a.count a.len (length a.out.now) a.at is c.requires in
     let u : goal.After-u8_at-n = search in
     let a = c.args in
-    maps_room a.file.now a.start u.u8_at-n.result a.len a.out.now a.at (room u) (some u) (few u) c.put_top.kept.1.1.0
+    maps_room a.file.now a.start u.u8_at-n.result a.len a.out.now a.at room (some u) few c.put_top.kept.1.1.0
 
 pub returns : goal.returns
 returns c =
+    let is : c.u8_at-n.result ≡ c.args.count = let a = c.args in
+    byte_is a.file.now a.start a.count a.len a.out.now a.at c.requires c.if-count-eq0.false c.u8_at-n.ensures.same in
+    let some : c.u8_at-n.result ≡ 0 → ⊥ = (λ z. c.if-count-eq0.false (sym is ∙ z)) in
+    let room : CpiRoom c.args.file.now c.args.start c.u8_at-n.result c.args.len (length c.args.out.now) c.args.at = let a = c.args in
+    room_by a.file.now a.start a.count a.len (length a.out.now) a.at is c.requires in
     let u : goal.After-u8_at-n = search in
     let a = c.args in
-    cpi_put a.file.now a.start u.u8_at-n.result a.len a.out.now a.at (room u) (some u) c.put_top.ensures c.put_maps.ensures.value c.put_maps.ensures.out_after
+    cpi_put a.file.now a.start u.u8_at-n.result a.len a.out.now a.at room (some u) c.put_top.ensures c.put_maps.ensures.value c.put_maps.ensures.out_after

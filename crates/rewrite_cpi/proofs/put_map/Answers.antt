@@ -10,69 +10,73 @@ use Rattle.rewrite_cpi.proofs.Lengths.{own_runs}
 use Rattle.rewrite_cpi.proofs.Sections.{body_room, kind_fits, count_fits, place_is, map_put}
 use Rattle.rewrite_cpi.proofs.put_map.Goals as goal
 
--- the map's body is stored
-module _ (c : goal.After-put_body-runs) where
-  -- the call's start
-
-  -- where the map's rows stand, as it is read
-
-  -- the map's type, its rows and how many
-  abbrev m : MapBody
-  m = c.map_body-m.result
-
-  -- the place of the old header
-  abbrev q : ℕ
-  q = c.args.start + 8 + 12 * c.args.k
-
-  -- the type fits its field
-  kind-small : m.kind < 2 ^ 4
-  kind-small = kind_fits c.args.file.now c.args.start q m c.map_body-m.ensures c.put_body-runs.ensures.value
-
-  -- so do the runs
-  runs-small : c.put_body-runs.result ≤ 65535
-  runs-small = omega (arith, own_runs c.args.file.now c.args.start q m c.map_body-m.ensures c.put_body-runs.ensures.value, c.requires.runs_fit_lem)
-
-  -- and the fine rows
-  fine-small : m.num_fine < 2 ^ 18
-  fine-small = count_fits c.args.file.now c.args.start q m c.map_body-m.ensures c.put_body-runs.ensures.value
-
-  -- the place behind the body
-  behind : c.args.body + 4 + 8 * c.put_body-runs.result + 4 * m.num_fine ≡ c.args.body + length (body_bytes (entries_of c.args.file.now c.args.start q))
-  behind = place_is c.args.file.now c.args.start q m c.map_body-m.ensures c.put_body-runs.ensures.value c.args.body
-
 pub put_body-runs-requires : goal.put_body-runs-requires
 put_body-runs-requires c =
+    let m : MapBody = c.map_body-m.result in
     let a = c.args in
     body_room a.file.now a.start (a.start + 8 + 12 * a.k) _ a.body c.map_body-m.result c.map_body-m.ensures c.requires.map_in_lem c.requires.room
 
 pub overflow_cast-runs : goal.overflow_cast-runs
-overflow_cast-runs c = let b : goal.After-put_body-runs = search in omega (arith, runs-small b)
+overflow_cast-runs c =
+    let m : MapBody = c.map_body-m.result in
+    let q : ℕ = c.args.start + 8 + 12 * c.args.k in
+    let runs-small : c.put_body-runs.result ≤ 65535 = omega (arith, own_runs c.args.file.now c.args.start q m c.map_body-m.ensures c.put_body-runs.ensures.value, c.requires.runs_fit_lem) in
+    let b : goal.After-put_body-runs = search in omega (arith, runs-small b)
 
 pub overflow_cast-m : goal.overflow_cast-m
-overflow_cast-m c = let b : goal.After-put_body-runs = search in omega (arith, fine-small b)
+overflow_cast-m c =
+    let m : MapBody = c.map_body-m.result in
+    let q : ℕ = c.args.start + 8 + 12 * c.args.k in
+    let fine-small : m.num_fine < 2 ^ 18 = count_fits c.args.file.now c.args.start q m c.map_body-m.ensures c.put_body-runs.ensures.value in
+    let b : goal.After-put_body-runs = search in omega (arith, fine-small b)
 
 pub put_header-requires : goal.put_header-requires
 put_header-requires c =
+    let m : MapBody = c.map_body-m.result in
+    let q : ℕ = c.args.start + 8 + 12 * c.args.k in
+    let kind-small : m.kind < 2 ^ 4 = kind_fits c.args.file.now c.args.start q m c.map_body-m.ensures c.put_body-runs.ensures.value in
+    let runs-small : c.put_body-runs.result ≤ 65535 = omega (arith, own_runs c.args.file.now c.args.start q m c.map_body-m.ensures c.put_body-runs.ensures.value, c.requires.runs_fit_lem) in
+    let fine-small : m.num_fine < 2 ^ 18 = count_fits c.args.file.now c.args.start q m c.map_body-m.ensures c.put_body-runs.ensures.value in
     let b : goal.After-put_body-runs = search in
-    (kind-small b, omega (arith, runs-small b), fine-small b, omega (arith, c.requires.header_room, c.requires.room, b.put_body-runs.kept))
+    let s = S b in
+    (kind-small b, omega (arith, runs-small b), fine-small b, omega (arith, s.pre.header_room, s.pre.room, b.put_body-runs.kept))
 
 pub overflow_mul-result : goal.overflow_mul-result
-overflow_mul-result c = let b : goal.After-put_body-runs = search in omega (arith, runs-small b)
+overflow_mul-result c =
+    let m : MapBody = c.map_body-m.result in
+    let q : ℕ = c.args.start + 8 + 12 * c.args.k in
+    let runs-small : c.put_body-runs.result ≤ 65535 = omega (arith, own_runs c.args.file.now c.args.start q m c.map_body-m.ensures c.put_body-runs.ensures.value, c.requires.runs_fit_lem) in
+    let b : goal.After-put_body-runs = search in omega (arith, runs-small b)
 
 pub overflow_add-result-2 : goal.overflow_add-result-2
-overflow_add-result-2 c = let b : goal.After-put_body-runs = search in omega (arith, behind b, c.requires.room)
+overflow_add-result-2 c =
+    let m : MapBody = c.map_body-m.result in
+    let q : ℕ = c.args.start + 8 + 12 * c.args.k in
+    let behind : c.args.body + 4 + 8 * c.put_body-runs.result + 4 * m.num_fine ≡ c.args.body + length (body_bytes (entries_of c.args.file.now c.args.start q)) = place_is c.args.file.now c.args.start q m c.map_body-m.ensures c.put_body-runs.ensures.value c.args.body in
+    let b : goal.After-put_body-runs = search in let s = S b in omega (arith, behind b, s.pre.room)
 
 pub overflow_mul-result-2 : goal.overflow_mul-result-2
-overflow_mul-result-2 c = let b : goal.After-put_body-runs = search in omega (arith, fine-small b)
+overflow_mul-result-2 c =
+    let m : MapBody = c.map_body-m.result in
+    let q : ℕ = c.args.start + 8 + 12 * c.args.k in
+    let fine-small : m.num_fine < 2 ^ 18 = count_fits c.args.file.now c.args.start q m c.map_body-m.ensures c.put_body-runs.ensures.value in
+    let b : goal.After-put_body-runs = search in omega (arith, fine-small b)
 
 pub overflow_add-result-3 : goal.overflow_add-result-3
-overflow_add-result-3 c = let b : goal.After-put_body-runs = search in omega (arith, behind b, c.requires.room)
+overflow_add-result-3 c =
+    let m : MapBody = c.map_body-m.result in
+    let q : ℕ = c.args.start + 8 + 12 * c.args.k in
+    let behind : c.args.body + 4 + 8 * c.put_body-runs.result + 4 * m.num_fine ≡ c.args.body + length (body_bytes (entries_of c.args.file.now c.args.start q)) = place_is c.args.file.now c.args.start q m c.map_body-m.ensures c.put_body-runs.ensures.value c.args.body in
+    let b : goal.After-put_body-runs = search in let s = S b in omega (arith, behind b, s.pre.room)
 
 pub returns : goal.returns
 returns c =
+    let m : MapBody = c.map_body-m.result in
+    let q : ℕ = c.args.start + 8 + 12 * c.args.k in
+    let behind : c.args.body + 4 + 8 * c.put_body-runs.result + 4 * m.num_fine ≡ c.args.body + length (body_bytes (entries_of c.args.file.now c.args.start q)) = place_is c.args.file.now c.args.start q m c.map_body-m.ensures c.put_body-runs.ensures.value c.args.body in
     let b : goal.After-put_body-runs = search in
     let a = c.args in record {
       value = behind b;
-      out_after = map_put a.file.now a.start (q b) (m b) c.map_body-m.ensures b.put_body-runs.ensures.value a.out.now a.body (a.at + 8 + 12 * a.k) (a.body - (a.at + 6)) c.u16_at-pid.result
+      out_after = map_put a.file.now a.start q m c.map_body-m.ensures b.put_body-runs.ensures.value a.out.now a.body (a.at + 8 + 12 * a.k) (a.body - (a.at + 6)) c.u16_at-pid.result
           c.u16_at-pid.ensures.same b.put_body-runs.ensures.out_after c.put_header.ensures;
     }

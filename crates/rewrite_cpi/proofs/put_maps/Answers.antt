@@ -22,7 +22,7 @@ pub put_map-body-requires : goal.put_map-body-requires
 put_map-body-requires c =
     let a = c.args in
     let l = c.loop-k in
-    putting_room a.file.now a.start a.count a.out.now a.at c.requires l.out l.body l.k l.inv c.loop-k-test.true
+    putting_room a.file.now a.start a.count a.out.now a.at c.requires l.out l.body l.k l.invariant c.loop-k-test.true
 
 pub overflow_add-k : goal.overflow_add-k
 overflow_add-k c =
@@ -35,7 +35,7 @@ pub loop-k-preserved : goal.loop-k-preserved
 loop-k-preserved c =
     let a = c.args in
     let l = c.loop-k in
-    putting_turn a.file.now a.start a.count a.out.now a.at c.requires l.out l.body l.k l.inv c.loop-k-test.true c.put_map-body.ensures.value c.put_map-body.ensures.out_after
+    putting_turn a.file.now a.start a.count a.out.now a.at c.requires l.out l.body l.k l.invariant c.loop-k-test.true c.put_map-body.ensures.value c.put_map-body.ensures.out_after
 
 pub shape_of-out : goal.shape_of-out
 shape_of-out c = c.loop-k.invariant.long
@@ -44,4 +44,4 @@ pub returns : goal.returns
 returns c =
     let a = c.args in
     let l = c.loop-k in
-    putting_done a.file.now a.start a.count a.out.now a.at c.requires l.out l.body l.k l.inv c.loop-k-test.false
+    putting_done a.file.now a.start a.count a.out.now a.at c.requires l.out l.body l.k l.invariant c.loop-k-test.false

@@ -28,7 +28,7 @@ within c = along_within c.loop-k.invariant.0 (up_stream (bytes c)) c.loop-k-test
 
 -- its new bytes have room
 room : (c : goal.In-loop-k) {row : Row} → row ≡ stream_at (bytes c) c.loop-k.q
-    → c.loop-k.to + length (stream_bytes row) ≤ length c.loop-k.out-1
+    → c.loop-k.to + length (stream_bytes row) ≤ length c.loop-k.out
 room c e =
     let l = c.loop-k in
     let f = bytes c in

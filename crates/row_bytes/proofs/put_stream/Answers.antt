@@ -31,10 +31,10 @@ tagged-long c =
     tagged_length r.cell0 r.cell1 r.cell2 r.cell3 r.cell4 c.is_video.ensures c.if-is_video.false c.if-row-eq0.false
 
 -- so much room there is
-video-room : (c : goal.Then-is_video) → c.args.at + 6 ≤ length c.args.out-1.now
+video-room : (c : goal.Then-is_video) → c.args.at + 6 ≤ length c.args.out.now
 video-room c = omega (arith, video-long c, c.requires)
 
-tagged-room : (c : goal.Else-row-eq0) → c.args.at + 8 ≤ length c.args.out-1.now
+tagged-room : (c : goal.Else-row-eq0) → c.args.at + 8 ≤ length c.args.out.now
 tagged-room c = omega (arith, tagged-long c, c.requires)
 
 pub put_stream_head-requires : goal.put_stream_head-requires

@@ -13,22 +13,6 @@ use Rattle.format.proofs.Tests.{both_true}
 use Rattle.row_limits.proofs.Fits.{type_wide, angle_fails, time_fails, type_decides}
 use Rattle.row_limits.proofs.entry_fits.Goals as goal
 
--- angle and I-end fit
-module _ (c : goal.Else-not-angle_fits) where
-  narrow : let a = c.args in (ltb a.angle 2 ≡ true) × (ltb a.i_end 8 ≡ true)
-  narrow =
-      let test = c.angle_fits in
-      both_true (sym test.ensures ∙ not-false test.result c.if-not-angle_fits.false)
-
--- what is left to test once angle and I-end fit: any time's lower cell has 32 bits, and so has any packet
-module _ (c : goal.Else-not-angle_fits) where
-  left :
-      entry_fits c.args.map_type (entry_row c.args.angle c.args.i_end c.args.time c.args.packet c.args.entry_type)
-      ≡ both (both (ltb (c.args.time / 4294967296) 1) (both (ltb c.args.entry_type 16) true)) (both (eqb (c.args.time % 512) 0) (eqb c.args.entry_type c.args.map_type))
-  left =
-      let t = c.args.time in
-      rw ((narrow f).0, (narrow f).1, lt-ltb (t % 2 ^ 32) (2 ^ 32) (omega arith), lt-ltb _ _ c.ranges.packet.fits, time_cells t)
-
 pub returns-then-map_type-ge16 : goal.returns-then-map_type-ge16
 returns-then-map_type-ge16 c =
     let a = c.args in
@@ -42,12 +26,26 @@ returns-then-not-angle_fits c =
 
 pub returns-then-not-time_fits : goal.returns-then-not-time_fits
 returns-then-not-time_fits c =
+    let narrow : let a = c.args in (ltb a.angle 2 ≡ true) × (ltb a.i_end 8 ≡ true) = let test = c.angle_fits in
+    both_true (sym test.ensures ∙ not-false test.result c.if-not-angle_fits.false) in
+    let left :
+    entry_fits c.args.map_type (entry_row c.args.angle c.args.i_end c.args.time c.args.packet c.args.entry_type)
+    ≡ both (both (ltb (c.args.time / 4294967296) 1) (both (ltb c.args.entry_type 16) true)) (both (eqb (c.args.time % 512) 0) (eqb c.args.entry_type c.args.map_type)) =
+    let t = c.args.time in
+    rw (narrow.0, narrow.1, lt-ltb (t % 2 ^ 32) (2 ^ 32) (omega arith), lt-ltb _ _ c.ranges.packet.fits, time_cells t) in
     let a = c.args in
     let test = c.time_fits in
-    time_fails (ltb (a.time / 4294967296) 1) (eqb (a.time % 512) 0) (both (ltb a.entry_type 16) true) (eqb a.entry_type a.map_type) (sym test.ensures ∙ not-true test.result c.if-not-time_fits.true) ∙ sym (left c)
+    time_fails (ltb (a.time / 4294967296) 1) (eqb (a.time % 512) 0) (both (ltb a.entry_type 16) true) (eqb a.entry_type a.map_type) (sym test.ensures ∙ not-true test.result c.if-not-time_fits.true) ∙ sym left
 
 pub returns : goal.returns
 returns c =
+    let narrow : let a = c.args in (ltb a.angle 2 ≡ true) × (ltb a.i_end 8 ≡ true) = let test = c.angle_fits in
+    both_true (sym test.ensures ∙ not-false test.result c.if-not-angle_fits.false) in
+    let left :
+    entry_fits c.args.map_type (entry_row c.args.angle c.args.i_end c.args.time c.args.packet c.args.entry_type)
+    ≡ both (both (ltb (c.args.time / 4294967296) 1) (both (ltb c.args.entry_type 16) true)) (both (eqb (c.args.time % 512) 0) (eqb c.args.entry_type c.args.map_type)) =
+    let t = c.args.time in
+    rw (narrow.0, narrow.1, lt-ltb (t % 2 ^ 32) (2 ^ 32) (omega arith), lt-ltb _ _ c.ranges.packet.fits, time_cells t) in
     let a = c.args in
     let test = c.time_fits in
     let fits = both_true {a = ltb (a.time / 4294967296) 1} (sym test.ensures ∙ not-false test.result c.if-not-time_fits.false) in

@@ -5,7 +5,7 @@ use Rattle.row_limits.specs.Kinds.{table_cells}
 use Rattle.row_limits.proofs.row_bytes.Goals as goal
 
 pub returns-in-Atc : goal.returns-in-Atc
-returns-in-Atc c = sym (ap (λ x. 4 * table_cells x) c.enum_told-1.given.1)
+returns-in-Atc c = sym (ap (λ x. 4 * table_cells x) c.enum_told.given.1)
 
 pub returns-in-Stc : goal.returns-in-Stc
 returns-in-Stc c = sym (ap (λ x. 4 * table_cells x) c.enum_told-in-Stc-1.given.1)

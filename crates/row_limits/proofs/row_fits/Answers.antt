@@ -2,7 +2,7 @@
 use Rattle.row_limits.proofs.row_fits.Goals as goal
 
 pub atc_fits-requires : goal.atc_fits-requires
-atc_fits-requires c = rw c.enum_told-1.given.1 at c.requires
+atc_fits-requires c = rw c.enum_told.given.1 at c.requires
 
 pub stc_fits-requires : goal.stc_fits-requires
 stc_fits-requires c = rw c.enum_told-in-Stc-1.given.1 at c.requires
@@ -17,10 +17,10 @@ pub map_fits-requires : goal.map_fits-requires
 map_fits-requires c = rw c.enum_told-in-Map-1.given.1 at c.requires
 
 pub entry_row_fits-requires : goal.entry_row_fits-requires
-entry_row_fits-requires c = rw c.kind-1.given.1 at c.requires
+entry_row_fits-requires c = rw c.kind.given.1 at c.requires
 
 pub returns-in-Atc : goal.returns-in-Atc
-returns-in-Atc c = rw c.enum_told-1.given.1 c.atc_fits.ensures
+returns-in-Atc c = rw c.enum_told.given.1 c.atc_fits.ensures
 
 pub returns-in-Stc : goal.returns-in-Stc
 returns-in-Stc c = rw c.enum_told-in-Stc-1.given.1 c.stc_fits.ensures
@@ -35,4 +35,4 @@ pub returns-in-Map : goal.returns-in-Map
 returns-in-Map c = rw c.enum_told-in-Map-1.given.1 c.map_fits.ensures
 
 pub returns-in-Entry : goal.returns-in-Entry
-returns-in-Entry c = rw c.kind-1.given.1 c.entry_row_fits.ensures
+returns-in-Entry c = rw c.kind.given.1 c.entry_row_fits.ensures

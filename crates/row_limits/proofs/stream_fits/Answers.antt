@@ -7,13 +7,6 @@ use borrow.Author.Tests.{lt-ltb, le-ltb}
 use Rattle.format.specs.Bytes.{fits}
 use Rattle.row_limits.proofs.stream_fits.Goals as goal
 
--- the cells fit their fields
-module _ (c : goal.Else-language-ge16777216) where
-  fields : let a = c.args in fits (16 ∷ 8 ∷ 8 ∷ 4 ∷ 24 ∷ []) (a.pid ∷ a.coding_type ∷ a.format ∷ a.aspect ∷ a.language ∷ []) ≡ true
-  fields =
-      let a = c.args in
-      rw (lt-ltb a.pid 65536 c.if-pid-ge65536.false, lt-ltb a.coding_type 256 c.if-coding_type-ge256.false, lt-ltb a.format 256 c.if-format-ge256.false, lt-ltb a.aspect 16 c.if-aspect-ge16.false, lt-ltb a.language 16777216 c.if-language-ge16777216.false)
-
 pub returns-then-pid-ge65536 : goal.returns-then-pid-ge65536
 returns-then-pid-ge65536 c = rw (le-ltb c.args.pid 65536 (omega arith))
 
@@ -36,7 +29,15 @@ returns-then-language-ge16777216 c =
     rw (lt-ltb a.pid 65536 c.if-pid-ge65536.false, lt-ltb a.coding_type 256 c.if-coding_type-ge256.false, lt-ltb a.format 256 c.if-format-ge256.false, lt-ltb a.aspect 16 c.if-aspect-ge16.false, le-ltb a.language 16777216 (omega arith))
 
 pub returns-then-is_video : goal.returns-then-is_video
-returns-then-is_video c = rw (fields c, ← c.is_video.ensures, c.if-is_video.true)
+returns-then-is_video c =
+    let fields : let a = c.args in fits (16 ∷ 8 ∷ 8 ∷ 4 ∷ 24 ∷ []) (a.pid ∷ a.coding_type ∷ a.format ∷ a.aspect ∷ a.language ∷ []) ≡ true =
+    let a = c.args in
+    rw (lt-ltb a.pid 65536 c.if-pid-ge65536.false, lt-ltb a.coding_type 256 c.if-coding_type-ge256.false, lt-ltb a.format 256 c.if-format-ge256.false, lt-ltb a.aspect 16 c.if-aspect-ge16.false, lt-ltb a.language 16777216 c.if-language-ge16777216.false) in
+    rw (fields, ← c.is_video.ensures, c.if-is_video.true)
 
 pub returns : goal.returns
-returns c = rw (fields c, ← c.is_video.ensures, c.if-is_video.false)
+returns c =
+    let fields : let a = c.args in fits (16 ∷ 8 ∷ 8 ∷ 4 ∷ 24 ∷ []) (a.pid ∷ a.coding_type ∷ a.format ∷ a.aspect ∷ a.language ∷ []) ≡ true =
+    let a = c.args in
+    rw (lt-ltb a.pid 65536 c.if-pid-ge65536.false, lt-ltb a.coding_type 256 c.if-coding_type-ge256.false, lt-ltb a.format 256 c.if-format-ge256.false, lt-ltb a.aspect 16 c.if-aspect-ge16.false, lt-ltb a.language 16777216 c.if-language-ge16777216.false) in
+    rw (fields, ← c.is_video.ensures, c.if-is_video.false)

@@ -12,14 +12,6 @@ use Rattle.table_rows.proofs.Scans.{first_all}
 use Rattle.row_search.proofs.FirstRow.{not_stated, no_row, row_is, row_fails}
 use Rattle.row_search.proofs.first_row.Goals as goal
 
--- the rows are there, and so is the cell of row k
-module _ (c : goal.Else-not-is_stated) where
-  rows_fit : let a = c.args in a.rows ≤ row_room a.cells a.table.now
-  rows_fit = let a = c.args in room a.cells (stated a.table.now a.rows) c.is_stated.ensures c.if-not-is_stated.false
-
-  cell-fits : let a = c.args in (k : ℕ) → k < a.rows → 4 * (a.cells * k + a.cell) + 4 ≤ length a.table.now
-  cell-fits k h = let a = c.args in cell_room a.cells a.table.now a.rows k a.cell h c.requires.0 rows_fit
-
 pub returns-then-not-is_stated : goal.returns-then-not-is_stated
 returns-then-not-is_stated c =
     let a = c.args in
@@ -40,7 +32,10 @@ pub overflow_mul-cells-in-loop-k : goal.overflow_mul-cells-in-loop-k
 overflow_mul-cells-in-loop-k c = record { fits = omega (arith, mul-le-mul_right c.loop-k.k c.requires.1) }
 
 pub cell_at-requires : goal.cell_at-requires
-cell_at-requires c = cell-fits c c.loop-k.k c.loop-k-test.true
+cell_at-requires c =
+    let rows_fit : let a = c.args in a.rows ≤ row_room a.cells a.table.now = let a = c.args in room a.cells (stated a.table.now a.rows) c.is_stated.ensures c.if-not-is_stated.false in
+    let cell-fits : let a = c.args in (k : ℕ) → k < a.rows → 4 * (a.cells * k + a.cell) + 4 ≤ length a.table.now = (λ k h. let a = c.args in cell_room a.cells a.table.now a.rows k a.cell h c.requires.0 rows_fit) in
+    cell-fits c.loop-k.k c.loop-k-test.true
 
 pub returns-then-passes : goal.returns-then-passes
 returns-then-passes c =

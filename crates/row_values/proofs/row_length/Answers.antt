@@ -8,7 +8,7 @@ use Rattle.row_values.proofs.row_length.Goals as goal
 pub returns-in-Atc : goal.returns-in-Atc
 returns-in-Atc c =
     let r = c.args.row in
-    sym (ap (λ k. length (bytes_by k (row_of k r))) c.enum_told-1.given.1 ∙ atc_length r.cell0 r.cell1 r.cell2)
+    sym (ap (λ k. length (bytes_by k (row_of k r))) c.enum_told.given.1 ∙ atc_length r.cell0 r.cell1 r.cell2)
 
 pub returns-in-Stc : goal.returns-in-Stc
 returns-in-Stc c =

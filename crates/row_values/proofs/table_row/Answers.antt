@@ -2,7 +2,7 @@
 use Rattle.row_values.proofs.table_row.Goals as goal
 
 pub row_of_3-requires : goal.row_of_3-requires
-row_of_3-requires c = rw c.enum_told-1.given.1 at c.requires
+row_of_3-requires c = rw c.enum_told.given.1 at c.requires
 
 pub row_of_4-requires : goal.row_of_4-requires
 row_of_4-requires c = rw c.enum_told-in-Stc-1.given.1 at c.requires
@@ -14,7 +14,7 @@ pub row_of_5-requires : goal.row_of_5-requires
 row_of_5-requires c = rw c.enum_told-in-Stream-1.given.1 at c.requires
 
 pub returns-in-Atc : goal.returns-in-Atc
-returns-in-Atc c = rw c.enum_told-1.given.1 c.row_of_3.ensures
+returns-in-Atc c = rw c.enum_told.given.1 c.row_of_3.ensures
 
 pub returns-in-Stc : goal.returns-in-Stc
 returns-in-Stc c = rw c.enum_told-in-Stc-1.given.1 c.row_of_4.ensures

@@ -11,7 +11,7 @@ use Rattle.sequence_info.proofs.put_stcs.Goals as goal
 
 -- within the loop the next STC ends within the file, and its row within the table
 room : (c : goal.In-loop-k)
-    → (c.loop-k.q + 14 ≤ length c.args.file.now) × (c.loop-k.cell + 16 ≤ length c.loop-k.table-1)
+    → (c.loop-k.q + 14 ≤ length c.args.file.now) × (c.loop-k.cell + 16 ≤ length c.loop-k.table)
 room c =
     let l = c.loop-k in
     let a = c.args in

@@ -17,7 +17,7 @@ fill-requires c =
 
 pub fill-requires-2 : goal.fill-requires-2
 fill-requires-2 c =
-    programs_fillable c.args.file.now c.requires c.read-starts.ensures.programs-1
+    programs_fillable c.args.file.now c.requires c.read-starts.ensures.programs
 
 pub fill-requires-3 : goal.fill-requires-3
 fill-requires-3 c =

@@ -17,102 +17,88 @@ use Rattle.clip_sections.specs.Clips.{front_of}
 use Rattle.clip_sections.proofs.Laws.{front_facts, front_refused, sequences_refused, programs_refused, index_refused, marks_refused, all_counted, cpi_refused, cpi_counts}
 use Rattle.clip_sections.proofs.sections.measure.Goals as goal
 
--- the front passed
-module _ (c : goal.Else-refusal-ne0) where
-  abbrev F : List ℕ
-  F = c.args.file.now
-
-  front : front_of F ≡ 0
-  front = sym c.front-refusal.ensures ∙ c.if-refusal-ne0.false
-
-  bounds : (length F ≤ 536870912) × (194 ≤ length F)
-  bounds = front_facts F front
-
--- the sequences were measured where they start
-module _ (c : goal.After-measure) where
-  sequences : section_measured Section.Sequences (F K1) (sequences_start (F K1)) ≡ c.measure.result
-  sequences = sym (ap (section_measured Section.Sequences (F K1)) c.read-starts.ensures.sequences) ∙ sym c.measure.ensures
-
--- they are in the file
-module _ (c : goal.In-Counts-2) where
-  sequences_are : CountsAre Section.Sequences (F K2) (sequences_start (F K2)) c.atcs-1.given.0.0 c.atcs-1.given.0.1.0
-  sequences_are = let m : goal.After-measure = search in counts_are Section.Sequences (F K2) (sequences_start (F K2)) (sequences m ∙ c.atcs-1.given.1)
-
-  sequences_in : leb (sequences_end (F K2) (sequences_start (F K2))) (length (F K2)) ≡ true
-  sequences_in = le-leb (sequences_end (F K2) (sequences_start (F K2))) (length (F K2)) sequences_are.ends
-
--- the programs were measured where they start
-module _ (c : goal.After-measure-2) where
-  programs : section_measured Section.Programs (F K3) (programs_start (F K3)) ≡ c.measure-2.result
-  programs = sym (ap (section_measured Section.Programs (F K3)) c.read-starts.ensures.programs-1) ∙ sym c.measure-2.ensures
-
--- they are in the file
-module _ (c : goal.In-Counts-measure-3) where
-  programs_are : CountsAre Section.Programs (F K4) (programs_start (F K4)) c.programs-1.given.0.0 c.programs-1.given.0.1.0
-  programs_are = let m : goal.After-measure-2 = search in counts_are Section.Programs (F K4) (programs_start (F K4)) (programs m ∙ c.programs-1.given.1)
-
-  programs_in : leb (programs_end (F K4) (programs_start (F K4))) (length (F K4)) ≡ true
-  programs_in = le-leb (programs_end (F K4) (programs_start (F K4))) (length (F K4)) programs_are.ends
-
--- the CPI was measured where it starts
-module _ (c : goal.After-measure-3) where
-  index : cpi_measured (F K5) (cpi_start (F K5)) ≡ c.measure-3.result
-  index = sym (ap (cpi_measured (F K5)) c.read-starts.ensures.cpi) ∙ sym c.measure-3.ensures
-
--- the marks were looked for where they start
-module _ (c : goal.After-marks_in) where
-  marks : marks_in (F K6) (marks_start (F K6)) ≡ c.marks_in.result
-  marks = sym (ap (marks_in (F K6)) c.read-starts.ensures.marks) ∙ sym c.marks_in.ensures
-
 pub returns-then-refusal-ne0 : goal.returns-then-refusal-ne0
 returns-then-refusal-ne0 c =
     front_refused c.args.file.now c.front-refusal.result c.front-refusal.ensures c.if-refusal-ne0.true
 
 pub read-starts-requires : goal.read-starts-requires
-read-starts-requires c = omega (arith, bounds c)
+read-starts-requires c =
+    let F : List ℕ = c.args.file.now in
+    let front : front_of F ≡ 0 = sym c.front-refusal.ensures ∙ c.if-refusal-ne0.false in
+    let bounds : (length F ≤ 536870912) × (194 ≤ length F) = front_facts F front in
+    omega (arith, bounds)
 
 pub returns-in_default : goal.returns-in_default
 returns-in_default c =
-    let k : goal.Else-refusal-ne0 = search in
+    let F : List ℕ = c.args.file.now in
+    let front : front_of F ≡ 0 = sym c.front-refusal.ensures ∙ c.if-refusal-ne0.false in
+    let sequences : section_measured Section.Sequences F (sequences_start F) ≡ c.measure.result = sym (ap (section_measured Section.Sequences F) c.read-starts.ensures.sequences) ∙ sym c.measure.ensures in
     let m : goal.After-measure = search in
-    sequences_refused (F k) (front k) (past_end Section.Sequences (F k) (sequences_start (F k)) (sequences m ∙ c.enum_told-1.given.1))
+    sequences_refused F front (past_end Section.Sequences F (sequences_start F) (sequences m ∙ c.enum_told.given.1))
 
 pub returns-in_default-measure : goal.returns-in_default-measure
 returns-in_default-measure c =
-    let k : goal.Else-refusal-ne0 = search in
-    let s : goal.In-Counts-2 = search in
+    let F : List ℕ = c.args.file.now in
+    let front : front_of F ≡ 0 = sym c.front-refusal.ensures ∙ c.if-refusal-ne0.false in
+    let sequences : section_measured Section.Sequences F (sequences_start F) ≡ c.measure.result = let r : goal.After-read-starts = search in sym (ap (section_measured Section.Sequences F) r.read-starts.ensures.sequences) ∙ sym c.measure.ensures in
+    let sequences_are : CountsAre Section.Sequences F (sequences_start F) c.atcs.given.0.0 c.atcs.given.0.1.0 = let m : goal.After-measure = search in counts_are Section.Sequences F (sequences_start F) (sequences m ∙ c.atcs.given.1) in
+    let sequences_in : leb (sequences_end F (sequences_start F)) (length F) ≡ true = le-leb (sequences_end F (sequences_start F)) (length F) sequences_are.ends in
+    let programs : section_measured Section.Programs F (programs_start F) ≡ c.measure-2.result = sym (ap (section_measured Section.Programs F) c.read-starts.ensures.programs) ∙ sym c.measure-2.ensures in
     let m : goal.After-measure-2 = search in
-    programs_refused (F k) (front k) (sequences_in s) (past_end Section.Programs (F k) (programs_start (F k)) (programs m ∙ c.enum_told-in_default-measure-1.given.1))
+    programs_refused F front sequences_in (past_end Section.Programs F (programs_start F) (programs m ∙ c.enum_told-in_default-measure-1.given.1))
 
 pub measure-requires-3 : goal.measure-requires-3
-measure-requires-3 c = let k : goal.Else-refusal-ne0 = search in (bounds k).0
+measure-requires-3 c =
+    let F : List ℕ = c.args.file.now in
+    let front : front_of F ≡ 0 = sym c.front-refusal.ensures ∙ c.if-refusal-ne0.false in
+    let bounds : (length F ≤ 536870912) × (194 ≤ length F) = front_facts F front in bounds.0
 
 pub returns-in-Refused : goal.returns-in-Refused
 returns-in-Refused c =
-    let k : goal.Else-refusal-ne0 = search in
-    let s : goal.In-Counts-2 = search in
-    let p : goal.In-Counts-measure-3 = search in
+    let F : List ℕ = c.args.file.now in
+    let front : front_of F ≡ 0 = sym c.front-refusal.ensures ∙ c.if-refusal-ne0.false in
+    let sequences : section_measured Section.Sequences F (sequences_start F) ≡ c.measure.result = let r : goal.After-read-starts = search in sym (ap (section_measured Section.Sequences F) r.read-starts.ensures.sequences) ∙ sym c.measure.ensures in
+    let sequences_are : CountsAre Section.Sequences F (sequences_start F) c.atcs.given.0.0 c.atcs.given.0.1.0 = let m : goal.After-measure = search in counts_are Section.Sequences F (sequences_start F) (sequences m ∙ c.atcs.given.1) in
+    let sequences_in : leb (sequences_end F (sequences_start F)) (length F) ≡ true = le-leb (sequences_end F (sequences_start F)) (length F) sequences_are.ends in
+    let programs : section_measured Section.Programs F (programs_start F) ≡ c.measure-2.result = let r : goal.After-read-starts = search in sym (ap (section_measured Section.Programs F) r.read-starts.ensures.programs) ∙ sym c.measure-2.ensures in
+    let programs_are : CountsAre Section.Programs F (programs_start F) c.programs.given.0.0 c.programs.given.0.1.0 = let m : goal.After-measure-2 = search in counts_are Section.Programs F (programs_start F) (programs m ∙ c.programs.given.1) in
+    let programs_in : leb (programs_end F (programs_start F)) (length F) ≡ true = le-leb (programs_end F (programs_start F)) (length F) programs_are.ends in
+    let index : cpi_measured F (cpi_start F) ≡ c.measure-3.result = sym (ap (cpi_measured F) c.read-starts.ensures.cpi) ∙ sym c.measure-3.ensures in
     let m : goal.After-measure-3 = search in
-    let i = cpi_refused (F k) (cpi_start (F k)) (index m ∙ c.number-1.given.1) in
-    index_refused (F k) (front k) (sequences_in s) (programs_in p) c.number-1.given.0.0 i.0 i.1
+    let i = cpi_refused F (cpi_start F) (index m ∙ c.number.given.1) in
+    index_refused F front sequences_in programs_in c.number.given.0.0 i.0 i.1
 
 pub returns-then-marks_in : goal.returns-then-marks_in
 returns-then-marks_in c =
-    let k : goal.Else-refusal-ne0 = search in
-    let s : goal.In-Counts-2 = search in
-    let p : goal.In-Counts-measure-3 = search in
+    let F : List ℕ = c.args.file.now in
+    let front : front_of F ≡ 0 = sym c.front-refusal.ensures ∙ c.if-refusal-ne0.false in
+    let sequences : section_measured Section.Sequences F (sequences_start F) ≡ c.measure.result = let r : goal.After-read-starts = search in sym (ap (section_measured Section.Sequences F) r.read-starts.ensures.sequences) ∙ sym c.measure.ensures in
+    let sequences_are : CountsAre Section.Sequences F (sequences_start F) c.atcs.given.0.0 c.atcs.given.0.1.0 = let m : goal.After-measure = search in counts_are Section.Sequences F (sequences_start F) (sequences m ∙ c.atcs.given.1) in
+    let sequences_in : leb (sequences_end F (sequences_start F)) (length F) ≡ true = le-leb (sequences_end F (sequences_start F)) (length F) sequences_are.ends in
+    let programs : section_measured Section.Programs F (programs_start F) ≡ c.measure-2.result = let r : goal.After-read-starts = search in sym (ap (section_measured Section.Programs F) r.read-starts.ensures.programs) ∙ sym c.measure-2.ensures in
+    let programs_are : CountsAre Section.Programs F (programs_start F) c.programs.given.0.0 c.programs.given.0.1.0 = let m : goal.After-measure-2 = search in counts_are Section.Programs F (programs_start F) (programs m ∙ c.programs.given.1) in
+    let programs_in : leb (programs_end F (programs_start F)) (length F) ≡ true = le-leb (programs_end F (programs_start F)) (length F) programs_are.ends in
+    let index : cpi_measured F (cpi_start F) ≡ c.measure-3.result = let r : goal.After-read-starts = search in sym (ap (cpi_measured F) r.read-starts.ensures.cpi) ∙ sym c.measure-3.ensures in
+    let marks : marks_in F (marks_start F) ≡ c.marks_in.result = sym (ap (marks_in F) c.read-starts.ensures.marks) ∙ sym c.marks_in.ensures in
     let m : goal.After-measure-3 = search in
     let h : goal.After-marks_in = search in
-    let i = cpi_counts (F k) (cpi_start (F k)) _ _ (index m ∙ c.maps-1.given.1) in
-    all_counted (F k) (front k) (sequences_in s) (programs_in p) i.0 (marks h ∙ c.if-marks_in.true)
-    (sequences_are s).heads_are (sequences_are s).rows_are (programs_are p).heads_are (programs_are p).rows_are i.1 i.2
+    let i = cpi_counts F (cpi_start F) _ _ (index m ∙ c.maps.given.1) in
+    all_counted F front sequences_in programs_in i.0 (marks h ∙ c.if-marks_in.true)
+    sequences_are.heads_are sequences_are.rows_are programs_are.heads_are programs_are.rows_are i.1 i.2
 
 pub returns-else-marks_in : goal.returns-else-marks_in
 returns-else-marks_in c =
-    let k : goal.Else-refusal-ne0 = search in
-    let s : goal.In-Counts-2 = search in
-    let p : goal.In-Counts-measure-3 = search in
+    let F : List ℕ = c.args.file.now in
+    let front : front_of F ≡ 0 = sym c.front-refusal.ensures ∙ c.if-refusal-ne0.false in
+    let sequences : section_measured Section.Sequences F (sequences_start F) ≡ c.measure.result = let r : goal.After-read-starts = search in sym (ap (section_measured Section.Sequences F) r.read-starts.ensures.sequences) ∙ sym c.measure.ensures in
+    let sequences_are : CountsAre Section.Sequences F (sequences_start F) c.atcs.given.0.0 c.atcs.given.0.1.0 = let m : goal.After-measure = search in counts_are Section.Sequences F (sequences_start F) (sequences m ∙ c.atcs.given.1) in
+    let sequences_in : leb (sequences_end F (sequences_start F)) (length F) ≡ true = le-leb (sequences_end F (sequences_start F)) (length F) sequences_are.ends in
+    let programs : section_measured Section.Programs F (programs_start F) ≡ c.measure-2.result = let r : goal.After-read-starts = search in sym (ap (section_measured Section.Programs F) r.read-starts.ensures.programs) ∙ sym c.measure-2.ensures in
+    let programs_are : CountsAre Section.Programs F (programs_start F) c.programs.given.0.0 c.programs.given.0.1.0 = let m : goal.After-measure-2 = search in counts_are Section.Programs F (programs_start F) (programs m ∙ c.programs.given.1) in
+    let programs_in : leb (programs_end F (programs_start F)) (length F) ≡ true = le-leb (programs_end F (programs_start F)) (length F) programs_are.ends in
+    let index : cpi_measured F (cpi_start F) ≡ c.measure-3.result = let r : goal.After-read-starts = search in sym (ap (cpi_measured F) r.read-starts.ensures.cpi) ∙ sym c.measure-3.ensures in
+    let marks : marks_in F (marks_start F) ≡ c.marks_in.result = sym (ap (marks_in F) c.read-starts.ensures.marks) ∙ sym c.marks_in.ensures in
     let m : goal.After-measure-3 = search in
     let h : goal.After-marks_in = search in
-    let i = cpi_counts (F k) (cpi_start (F k)) _ _ (index m ∙ c.maps-1.given.1) in
-    marks_refused (F k) (front k) (sequences_in s) (programs_in p) i.0 (marks h ∙ c.if-marks_in.false)
+    let i = cpi_counts F (cpi_start F) _ _ (index m ∙ c.maps.given.1) in
+    marks_refused F front sequences_in programs_in i.0 (marks h ∙ c.if-marks_in.false)

@@ -9,30 +9,23 @@ use Rattle.clip_information.specs.Read.{nine_tables_of}
 use Rattle.clpi_reading.proofs.Laws.{counts_fit, tables_are}
 use Rattle.clpi.proofs.read.clpi_read.Goals as goal
 
--- the tables before and after
-module _ (c : goal.After-read) where
-  abbrev F : List ℕ
-  F = c.args.file.now
-
-  abbrev T : Nine (List ℕ)
-  T =
-      let a = c.args in
-      nine_tables_of a.atcs-1.now a.stcs-1.now a.programs-1.now a.streams-1.now a.maps-1.now a.entries-1.now a.extensions-1.now a.programs2-1.now a.streams2-1.now
-
-  bytes : IsBytes F
-  bytes i = (c.shared_slice_known-1.given i).fits
-
 pub reading_of-requires : goal.reading_of-requires
 reading_of-requires c =
+    let F : List ℕ = c.args.file.now in
+    let T : Nine (List ℕ) = let a = c.args in
+    nine_tables_of a.atcs.now a.stcs.now a.programs.now a.streams.now a.maps.now a.entries.now a.extensions.now a.programs2.now a.streams2.now in
+    let bytes : IsBytes F = (λ i. (c.shared_slice_known-1.given i).fits) in
     let r : goal.After-read = search in
-    counts_fit (F r) (bytes r) (T r) r.read.result r.read.ensures.result_value
+    counts_fit F (bytes r) T r.read.result r.read.ensures.result_value
 
 pub returns : goal.returns
 returns c =
-    let r : goal.After-read = search in
-    let e = r.read.ensures in
-    let l = r.read.last in record {
+    let F : List ℕ = c.args.file.now in
+    let T : Nine (List ℕ) = let a = c.args in
+    nine_tables_of a.atcs.now a.stcs.now a.programs.now a.streams.now a.maps.now a.entries.now a.extensions.now a.programs2.now a.streams2.now in
+    let e = c.read.ensures in
+    let l = c.read.last in record {
       result_value = c.reading_of.ensures ∙ ap read_numbers e.0;
-      streams2_after = tables_are (F r) (T r) (nine_tables_of l.1.0 l.1.1.0 l.1.1.1.0 l.1.1.1.1.0 l.1.1.1.1.1.0 l.1.1.1.1.1.1.0 l.1.1.1.1.1.1.1.0 l.1.1.1.1.1.1.1.1.0 l.1.1.1.1.1.1.1.1.1.0) r.read.result e.0
+      streams2_after = tables_are F T (nine_tables_of l.1.0 l.1.1.0 l.1.1.1.0 l.1.1.1.1.0 l.1.1.1.1.1.0 l.1.1.1.1.1.1.0 l.1.1.1.1.1.1.1.0 l.1.1.1.1.1.1.1.1.0 l.1.1.1.1.1.1.1.1.1.0) c.read.result e.0
           e.1.0 e.1.1.0 e.1.1.1.0 e.1.1.1.1.0 e.1.1.1.1.1.0 e.1.1.1.1.1.1.0 e.1.1.1.1.1.1.1.0 e.1.1.1.1.1.1.1.1.0 e.1.1.1.1.1.1.1.1.1;
     }

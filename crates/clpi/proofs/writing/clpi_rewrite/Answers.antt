@@ -8,9 +8,9 @@ use Rattle.clpi.proofs.writing.clpi_rewrite.Goals as goal
 
 pub writing_of-requires : goal.writing_of-requires
 writing_of-requires c =
-    answer_narrow c.args.file.now (λ i. (c.shared_slice_known-1.given i).fits) c.args.output-1.now c.rewrite.ensures.result_value
+    answer_narrow c.args.file.now (λ i. (c.shared_slice_known-1.given i).fits) c.args.output.now c.rewrite.ensures.result_value
 
 pub returns : goal.returns
 returns c =
     let e = c.rewrite.ensures in
-    record { result_value = c.writing_of.ensures ∙ ap write_numbers e.0; output_after = e.1 ∙ ap (λ x. output_by x (encode (clip_of c.args.file.now)) c.args.output-1.now) e.0 }
+    record { result_value = c.writing_of.ensures ∙ ap write_numbers e.0; output_after = e.1 ∙ ap (λ x. output_by x (encode (clip_of c.args.file.now)) c.args.output.now) e.0 }

@@ -17,11 +17,11 @@ tables s =
 pub writing_of-requires : goal.writing_of-requires
 writing_of-requires c =
     let s : goal.Start = search in
-    narrow_by_answer (tables s) s.args.output-1.now c.write.ensures.result_value
+    narrow_by_answer (tables s) s.args.output.now c.write.ensures.result_value
 
 pub returns : goal.returns
 unfolding output_after
 returns c =
     let s : goal.Start = search in
     let e = c.write.ensures in
-    record { result_value = c.writing_of.ensures ∙ ap write_numbers e.0; output_after = e.1 ∙ ap (λ x. output_by x (encode (clip_in (tables s))) s.args.output-1.now) e.0 }
+    record { result_value = c.writing_of.ensures ∙ ap write_numbers e.0; output_after = e.1 ∙ ap (λ x. output_by x (encode (clip_in (tables s))) s.args.output.now) e.0 }

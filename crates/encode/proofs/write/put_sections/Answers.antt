@@ -11,63 +11,82 @@ use Rattle.encode_measure.proofs.Parts.{InOrder, placed_stored, stored_as}
 use Rattle.encode_measure.proofs.Tables.{in_order, ready_kept, sequences_storable, programs_storable, cpi_storable, sequences_in, programs_in, cpi_in_lem}
 use Rattle.encode.proofs.write.put_sections.Goals as goal
 
--- the call's start
-module _ (c : goal.Start) where
-  -- the tables that are handed over
-  abbrev tables : ClipTables
-  tables =
-      let a = c.args in
-      stated_tables (scalars_by a.info) a.rows a.atcs.now a.stcs.now a.programs.now a.streams.now a.maps.now a.entries.now
-
-  -- the places are in order
-  order : let at = c.args.places in InOrder at.programs at.cpi at.marks (length c.args.out-1.now)
-  order = in_order tables c.requires
-
-  -- an output of the same length is as ready
-  ready : {bytes : ℕ} → bytes ≡ length c.args.out-1.now → Ready tables c.args.places bytes
-  ready same = ready_kept tables same c.requires
-
 pub overflow_cast-places : goal.overflow_cast-places
-overflow_cast-places c = let s : goal.Start = search in let o = order s in record { fits = omega arith }
+overflow_cast-places c =
+    let tables : ClipTables = let a = c.args in
+    stated_tables (scalars_by a.info) a.rows a.atcs.now a.stcs.now a.programs.now a.streams.now a.maps.now a.entries.now in
+    let order : let at = c.args.places in InOrder at.programs at.cpi at.marks (length c.args.out.now) = in_order tables c.requires in let o = order in record { fits = omega arith }
 
 pub overflow_cast-places-2 : goal.overflow_cast-places-2
-overflow_cast-places-2 c = let s : goal.Start = search in let o = order s in record { fits = omega arith }
+overflow_cast-places-2 c =
+    let tables : ClipTables = let a = c.args in
+    stated_tables (scalars_by a.info) a.rows a.atcs.now a.stcs.now a.programs.now a.streams.now a.maps.now a.entries.now in
+    let order : let at = c.args.places in InOrder at.programs at.cpi at.marks (length c.args.out.now) = in_order tables c.requires in let o = order in record { fits = omega arith }
 
 pub overflow_cast-places-3 : goal.overflow_cast-places-3
-overflow_cast-places-3 c = let s : goal.Start = search in let o = order s in record { fits = omega arith }
+overflow_cast-places-3 c =
+    let tables : ClipTables = let a = c.args in
+    stated_tables (scalars_by a.info) a.rows a.atcs.now a.stcs.now a.programs.now a.streams.now a.maps.now a.entries.now in
+    let order : let at = c.args.places in InOrder at.programs at.cpi at.marks (length c.args.out.now) = in_order tables c.requires in let o = order in record { fits = omega arith }
 
 pub put_head-requires : goal.put_head-requires
-put_head-requires c = let s : goal.Start = search in let o = order s in omega arith
+put_head-requires c =
+    let tables : ClipTables = let a = c.args in
+    stated_tables (scalars_by a.info) a.rows a.atcs.now a.stcs.now a.programs.now a.streams.now a.maps.now a.entries.now in
+    let order : let at = c.args.places in InOrder at.programs at.cpi at.marks (length c.args.out.now) = in_order tables c.requires in let o = order in omega arith
 
 pub overflow_sub-places : goal.overflow_sub-places
-overflow_sub-places c = (order c).head
+overflow_sub-places c =
+    let tables : ClipTables = let a = c.args in
+    stated_tables (scalars_by a.info) a.rows a.atcs.now a.stcs.now a.programs.now a.streams.now a.maps.now a.entries.now in
+    let order : let at = c.args.places in InOrder at.programs at.cpi at.marks (length c.args.out.now) = in_order tables c.requires in order.head
 
 pub put_sequences-requires : goal.put_sequences-requires
 put_sequences-requires c =
-    sequences_storable (tables s) c.args.places _ (ready s c.put_head.kept.1.1.1.1.0)
+    let tables : ClipTables = let a = c.args in
+    stated_tables (scalars_by a.info) a.rows a.atcs.now a.stcs.now a.programs.now a.streams.now a.maps.now a.entries.now in
+    let ready : {bytes : ℕ} → bytes ≡ length c.args.out.now → Ready tables c.args.places bytes = (λ same. ready_kept tables same c.requires) in
+    sequences_storable tables c.args.places _ (ready c.put_head.kept.1.1.1.1.0)
 
 pub overflow_sub-len : goal.overflow_sub-len
-overflow_sub-len c = (order c).sequences
+overflow_sub-len c =
+    let tables : ClipTables = let a = c.args in
+    stated_tables (scalars_by a.info) a.rows a.atcs.now a.stcs.now a.programs.now a.streams.now a.maps.now a.entries.now in
+    let order : let at = c.args.places in InOrder at.programs at.cpi at.marks (length c.args.out.now) = in_order tables c.requires in order.sequences
 
 pub put_programs-requires : goal.put_programs-requires
 put_programs-requires c =
-    programs_storable (tables s) c.args.places _ (ready s (c.put_sequences.kept.1.1.1.1.0 ∙ c.put_head.kept.1.1.1.1.0))
+    let tables : ClipTables = let a = c.args in
+    stated_tables (scalars_by a.info) a.rows a.atcs.now a.stcs.now a.programs.now a.streams.now a.maps.now a.entries.now in
+    let ready : {bytes : ℕ} → bytes ≡ length c.args.out.now → Ready tables c.args.places bytes = (λ same. ready_kept tables same c.requires) in
+    programs_storable tables c.args.places _ (ready (c.put_sequences.kept.1.1.1.1.0 ∙ c.put_head.kept.1.1.1.1.0))
 
 pub overflow_sub-len-2 : goal.overflow_sub-len-2
-overflow_sub-len-2 c = (order c).programs_end_lem
+overflow_sub-len-2 c =
+    let tables : ClipTables = let a = c.args in
+    stated_tables (scalars_by a.info) a.rows a.atcs.now a.stcs.now a.programs.now a.streams.now a.maps.now a.entries.now in
+    let order : let at = c.args.places in InOrder at.programs at.cpi at.marks (length c.args.out.now) = in_order tables c.requires in order.programs_end_lem
 
 pub put_cpi-requires : goal.put_cpi-requires
 put_cpi-requires c =
-    cpi_storable (tables s) c.args.places _ (ready s (c.put_programs.kept.1.1.1.1.0 ∙ c.put_sequences.kept.1.1.1.1.0 ∙ c.put_head.kept.1.1.1.1.0))
+    let tables : ClipTables = let a = c.args in
+    stated_tables (scalars_by a.info) a.rows a.atcs.now a.stcs.now a.programs.now a.streams.now a.maps.now a.entries.now in
+    let ready : {bytes : ℕ} → bytes ≡ length c.args.out.now → Ready tables c.args.places bytes = (λ same. ready_kept tables same c.requires) in
+    cpi_storable tables c.args.places _ (ready (c.put_programs.kept.1.1.1.1.0 ∙ c.put_sequences.kept.1.1.1.1.0 ∙ c.put_head.kept.1.1.1.1.0))
 
 pub put_marks-requires : goal.put_marks-requires
 put_marks-requires c =
-    (in_order (tables s) (ready s (c.put_cpi.kept.1.1.1.1.1.0 ∙ c.put_programs.kept.1.1.1.1.0 ∙ c.put_sequences.kept.1.1.1.1.0 ∙ c.put_head.kept.1.1.1.1.0))).room
+    let tables : ClipTables = let a = c.args in
+    stated_tables (scalars_by a.info) a.rows a.atcs.now a.stcs.now a.programs.now a.streams.now a.maps.now a.entries.now in
+    let ready : {bytes : ℕ} → bytes ≡ length c.args.out.now → Ready tables c.args.places bytes = (λ same. ready_kept tables same c.requires) in
+    (in_order tables (ready (c.put_cpi.kept.1.1.1.1.1.0 ∙ c.put_programs.kept.1.1.1.1.0 ∙ c.put_sequences.kept.1.1.1.1.0 ∙ c.put_head.kept.1.1.1.1.0))).room
 
 pub returns : goal.returns
 unfolding clip_in
 returns c =
-    let l = tables s in
+    let tables : ClipTables = let a = c.args in
+    stated_tables (scalars_by a.info) a.rows a.atcs.now a.stcs.now a.programs.now a.streams.now a.maps.now a.entries.now in
+    let l = tables in
     let at = c.args.places in
-    placed_stored (clip_in l) c.requires.placed c.args.out-1.now c.put_head.ensures (stored_as _ 220 c.put_sequences.ensures (sequences_in l))
+    placed_stored (clip_in l) c.requires.placed c.args.out.now c.put_head.ensures (stored_as _ 220 c.put_sequences.ensures (sequences_in l))
     (stored_as _ at.programs c.put_programs.ensures (programs_in l)) (stored_as _ at.cpi c.put_cpi.ensures.out_after (cpi_in_lem l)) c.put_marks.ensures

@@ -8,7 +8,7 @@ use Rattle.ep_entries.proofs.entries.put_entries.Goals as goal
 
 pub loop-w-init : goal.loop-w-init
 loop-w-init c =
-    filled_first c.args.file.now c.args.m c.args.table-1.now c.args.at c.start-w.result c.start-w.ensures
+    filled_first c.args.file.now c.args.m c.args.table.now c.args.at c.start-w.result c.start-w.ensures
 
 pub put_stretch-requires : goal.put_stretch-requires
 put_stretch-requires c =
@@ -36,13 +36,13 @@ loop-w-preserved c =
     let t₀ = a.table.now in
     let l = c.loop-w in
     let e = l.w.next in
-    let met : Filled f a.m t₀ a.at c.if-k-end.table-1 l.w c.if-k-end.k × (e ≤ c.if-k-end.k) =
+    let met : Filled f a.m t₀ a.at c.if-k-end.table l.w c.if-k-end.k × (e ≤ c.if-k-end.k) =
     ⊎_elim
-    (λ x. (rw (x.5, x.6) (filled_stretch f a.m t₀ a.at l.table l.w l.k l.inv e (omega arith) (omega arith) (omega arith) x.2.kept.1.1.1.1.1.0 x.2.ensures), omega arith))
-    (λ x. (rw (x.1, x.2) l.inv, omega arith))
+    (λ x. (rw (x.5, x.6) (filled_stretch f a.m t₀ a.at l.table l.w l.k l.invariant e (omega arith) (omega arith) (omega arith) x.2.kept.1.1.1.1.1.0 x.2.ensures), omega arith))
+    (λ x. (rw (x.1, x.2) l.invariant, omega arith))
     c.if-k-end.came
     in
-    filled_step f a.m t₀ a.at c.if-k-end.table-1 l.w c.if-k-end.k met.0 c.requires.rows.few met.1 c.at_row-w.ensures
+    filled_step f a.m t₀ a.at c.if-k-end.table l.w c.if-k-end.k met.0 c.requires.rows.few met.1 c.at_row-w.ensures
 
 pub put_stretch-requires-2 : goal.put_stretch-requires-2
 put_stretch-requires-2 c =
@@ -61,4 +61,4 @@ returns c =
     let n = a.m.num_fine in
     let p = c.put_stretch-2 in
     filled_done f a.m t₀ a.at p.last.1.1.1.1.1.0 l.w
-    (filled_stretch f a.m t₀ a.at l.table l.w l.k l.inv n l.inv.within c.loop-w-test.false (omega arith) p.kept.1.1.1.1.1.0 p.ensures)
+    (filled_stretch f a.m t₀ a.at l.table l.w l.k l.invariant n l.invariant.within c.loop-w-test.false (omega arith) p.kept.1.1.1.1.1.0 p.ensures)

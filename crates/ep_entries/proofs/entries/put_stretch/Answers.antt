@@ -14,12 +14,12 @@ loop-k-preserved c =
     let put = c.put_entry in (
       omega arith,
       omega arith,
-      put.kept.1.1.1.0 ∙ l.inv.2,
-      stretch_turn a.file.now a.m.kind a.w.time a.w.packet a.m.fine a.end l.k l.table a.at word.result (omega arith) word.ensures.same put.ensures l.inv.3,
+      put.kept.1.1.1.0 ∙ l.invariant.2,
+      stretch_turn a.file.now a.m.kind a.w.time a.w.packet a.m.fine a.end l.k l.table a.at word.result (omega arith) word.ensures.same put.ensures l.invariant.3,
     )
 
 pub returns : goal.returns
 returns c =
     let a = c.args in
     let l = c.loop-k in
-    stretch_done a.file.now a.m.kind a.w.time a.w.packet a.m.fine a.end l.k l.table (a.at + entry_size * l.k) c.loop-k-test.false l.inv.3
+    stretch_done a.file.now a.m.kind a.w.time a.w.packet a.m.fine a.end l.k l.table (a.at + entry_size * l.k) c.loop-k-test.false l.invariant.3

@@ -6,19 +6,6 @@ use Rattle.map_runs.proofs.Turns.{end_past}
 use Rattle.map_runs.proofs.Bodies.{met_below, coarse_first, coarse_room, coarse_turn, coarse_done}
 use Rattle.map_runs.proofs.body.put_coarse.Goals as goal
 
--- a turn of the loop
-module _ (c : goal.In-loop-k) where
-  -- the call's start
-
-  -- the turn's values
-
-  -- there is room for the row
-  room : c.loop-k.to + 8 ≤ length c.loop-k.out-1
-  room =
-      let a = c.args in
-      let l = c.loop-k in
-      coarse_room a.file.now a.m a.out-1.now a.at l.out-1 l.walk-1 l.to l.k l.invariant c.loop-k-test.true c.requires.room
-
 pub start-walk-requires : goal.start-walk-requires
 start-walk-requires c = c.requires.rows.coarse_in_lem
 
@@ -41,13 +28,21 @@ overflow_cast-k c =
 
 pub put_coarse_row-requires : goal.put_coarse_row-requires
 put_coarse_row-requires c =
+    let room : c.loop-k.to + 8 ≤ length c.loop-k.out = let a = c.args in
+    let l = c.loop-k in
+    coarse_room a.file.now a.m a.out.now a.at l.out l.walk l.to l.k l.invariant c.loop-k-test.true c.requires.room in
     let t : goal.In-loop-k = search in
-    (omega (arith, c.requires.rows.few, t.loop-k-test.true), met_below c.args.file.now c.args.m c.loop-k.k c.meet-first.result c.meet-first.ensures, room t)
+    let s = S t in
+    (omega (arith, s.pre.rows.few, t.loop-k-test.true), met_below s.args.file.now s.args.m c.loop-k.k c.meet-first.result c.meet-first.ensures, room t)
 
 pub overflow_add-to : goal.overflow_add-to
 overflow_add-to c =
+    let room : c.loop-k.to + 8 ≤ length c.loop-k.out = let a = c.args in
+    let l = c.loop-k in
+    coarse_room a.file.now a.m a.out.now a.at l.out l.walk l.to l.k l.invariant c.loop-k-test.true c.requires.room in
     let t : goal.In-loop-k = search in
-    let inside : c.loop-k.to + 8 ≤ length c.args.out-1.now = omega (arith, room t, c.loop-k.invariant.long) in
+    let s = S t in
+    let inside : c.loop-k.to + 8 ≤ length s.args.out.now = omega (arith, room t, c.loop-k.invariant.long) in
     omega (arith, inside)
 
 pub loop-k-smaller : goal.loop-k-smaller
@@ -59,7 +54,7 @@ pub loop-k-preserved : goal.loop-k-preserved
 loop-k-preserved c =
     let a = c.args in
     let l = c.loop-k in
-    coarse_turn a.file.now a.m a.out.now a.at l.out l.walk l.to l.k l.inv c.loop-k-test.true c.meet-first.result c.run_end-end.result
+    coarse_turn a.file.now a.m a.out.now a.at l.out l.walk l.to l.k l.invariant c.loop-k-test.true c.meet-first.result c.run_end-end.result
     c.meet-first.ensures c.run_end-end.ensures c.put_coarse_row.ensures
 
 pub shape_of-out : goal.shape_of-out
@@ -69,4 +64,4 @@ pub returns : goal.returns
 returns c =
     let a = c.args in
     let l = c.loop-k in
-    coarse_done a.file.now a.m a.out.now a.at l.out l.walk l.to l.k l.inv c.loop-k-test.false
+    coarse_done a.file.now a.m a.out.now a.at l.out l.walk l.to l.k l.invariant c.loop-k-test.false

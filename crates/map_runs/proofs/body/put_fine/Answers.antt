@@ -30,7 +30,7 @@ put_fine_row-requires c =
     let l = c.loop-k in
     let met = c.meet-met in
     let fits = met_narrow c.args.file.now c.args.m l.k met.result met.ensures in
-    (fits.angle_fits, fits.end_fits, omega (arith, c.requires.room, l.inv.long, c.loop-k-test.true))
+    (fits.angle_fits, fits.end_fits, omega (arith, c.requires.room, l.invariant.long, c.loop-k-test.true))
 
 pub overflow_add-k : goal.overflow_add-k
 overflow_add-k c =
@@ -44,7 +44,7 @@ loop-k-preserved c =
     let a = c.args in
     let l = c.loop-k in
     let met = c.meet-met in
-    fine_turn a.file.now a.m a.out.now a.at l.out l.walk l.k met.result l.inv c.loop-k-test.true met.ensures c.put_fine_row.ensures
+    fine_turn a.file.now a.m a.out.now a.at l.out l.walk l.k met.result l.invariant c.loop-k-test.true met.ensures c.put_fine_row.ensures
 
 pub shape_of-out : goal.shape_of-out
 shape_of-out c = c.loop-k.invariant.long
@@ -53,4 +53,4 @@ pub returns : goal.returns
 returns c =
     let a = c.args in
     let l = c.loop-k in
-    record { value = refl; out_after = fine_done a.file.now a.m a.out.now a.at l.out l.walk l.k l.inv c.loop-k-test.false }
+    record { value = refl; out_after = fine_done a.file.now a.m a.out.now a.at l.out l.walk l.k l.invariant c.loop-k-test.false }

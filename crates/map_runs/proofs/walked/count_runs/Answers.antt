@@ -29,9 +29,9 @@ loop-k-smaller c =
 pub loop-k-preserved : goal.loop-k-preserved
 loop-k-preserved c =
     let l = c.loop-k in
-    counted_turn c.args.file.now c.args.m l.walk l.count l.k c.run_end-end.result l.inv c.loop-k-test.true c.run_end-end.ensures
+    counted_turn c.args.file.now c.args.m l.walk l.count l.k c.run_end-end.result l.invariant c.loop-k-test.true c.run_end-end.ensures
 
 pub returns : goal.returns
 returns c =
     let l = c.loop-k in
-    counted_done c.args.file.now c.args.m l.walk l.count l.k l.inv c.loop-k-test.false
+    counted_done c.args.file.now c.args.m l.walk l.count l.k l.invariant c.loop-k-test.false

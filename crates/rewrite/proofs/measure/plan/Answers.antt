@@ -19,58 +19,26 @@ use Rattle.rewrite.proofs.Refusals.{reading_refuses, runs_refuse, runs_pass, non
 use Rattle.rewrite.proofs.Rooms.{sequences_size, programs_size}
 use Rattle.rewrite.proofs.measure.plan.Goals as goal
 
--- the sections were counted
-module _ (c : goal.In-Counts-2) where
-  abbrev F : List ℕ
-  F = c.args.file.now
-
-  abbrev C : Clip
-  C = clip_of F
-
-  is-bytes : IsBytes F
-  is-bytes i = (c.shared_slice_known-1.given i).fits
-
-  sections : SectionsAre F c.atcs-1.given.0.0 c.atcs-1.given.0.1.0 c.atcs-1.given.0.1.1.0 c.atcs-1.given.0.1.1.1.0 c.atcs-1.given.0.1.1.1.1.0 c.atcs-1.given.0.1.1.1.1.1.0
-  sections = sections_are F _ _ _ _ _ _ (sym c.measure.ensures ∙ c.atcs-1.given.1)
-
-  -- the programs stand behind the sequences
-  programs_at : 226 + 6 * c.atcs-1.given.0.0 + 14 * c.atcs-1.given.0.1.0 ≡ programs_place C
-  programs_at = omega (arith, sequences_size F is-bytes sections.accepts sections.atcs_are sections.stcs_are, place_programs C)
-
--- no map has too many runs
-module _ (c : goal.In-Bytes-2) where
-  few : (runs_fit (C K) ≡ true) × (c.len-1.given.0.0 ≡ length (cpi_bytes (C K)))
-  few =
-      runs_pass (F K) c.read-starts.ensures.cpi c.cpi_length.ensures c.len-1.given.1
-
-  none_here : rewrite_refusal (F K) ≡ 0
-  none_here = none (F K) (sections K).accepts few.0
-
-  -- the new file is short, so every place in it is
-  short : programs_place (C K) + length (programs_bytes (C K)) + c.len-1.given.0.0 + 6 ≤ 402515706
-  short = omega (arith, few.1, marks_short (F K) (is-bytes K) none_here, place_cpi (C K), place_marks (C K))
-
 -- what stands before the CPI fits
-sums : (m : goal.In-Bytes-2) → 226 + 6 * c.atcs-1.given.0.0 + 14 * c.atcs-1.given.0.1.0 ≤ 402515706
-sums m = omega (arith, short m, programs_at c)
-
--- the new programs were measured
-module _ (c : goal.After-programs_length) where
-  own : c.programs_length.result ≡ length (programs_bytes (C c))
-  own = programs_size (F c) c.read-starts.ensures.programs c.programs_length.ensures
+sums : (m : goal.In-Bytes-2) → 226 + 6 * (K m).atcs.given.0.0 + 14 * (K m).atcs.given.0.1.0 ≤ 402515706
+sums m = omega (arith, short m, programs_at (K m))
 
 pub read-starts-requires : goal.read-starts-requires
-read-starts-requires c = let k : goal.In-Counts-2 = search in omega (arith, accepted_bounds (F k) (sections k).accepts)
+read-starts-requires c =
+    let F : List ℕ = c.args.file.now in
+    let sections : SectionsAre F c.atcs.given.0.0 c.atcs.given.0.1.0 c.atcs.given.0.1.1.0 c.atcs.given.0.1.1.1.0 c.atcs.given.0.1.1.1.1.0 c.atcs.given.0.1.1.1.1.1.0 = sections_are F _ _ _ _ _ _ (sym c.measure.ensures ∙ c.atcs.given.1) in omega (arith, accepted_bounds F sections.accepts)
 
 pub cpi_length-requires : goal.cpi_length-requires
 cpi_length-requires c =
-    let k : goal.In-Counts-2 = search in
-    cpi_section (F k) (sections k).accepts c.read-starts.ensures.cpi (sections k).maps_are
+    let F : List ℕ = c.args.file.now in
+    let sections : SectionsAre F c.atcs.given.0.0 c.atcs.given.0.1.0 c.atcs.given.0.1.1.0 c.atcs.given.0.1.1.1.0 c.atcs.given.0.1.1.1.1.0 c.atcs.given.0.1.1.1.1.1.0 = sections_are F _ _ _ _ _ _ (sym c.measure.ensures ∙ c.atcs.given.1) in
+    cpi_section F sections.accepts c.read-starts.ensures.cpi sections.maps_are
 
 pub returns-in_default : goal.returns-in_default
 returns-in_default c =
-    let k : goal.In-Counts-2 = search in
-    runs_refuse (F k) (sections k).accepts c.read-starts.ensures.cpi c.cpi_length.ensures c.enum_told-1.given.1
+    let F : List ℕ = c.args.file.now in
+    let sections : SectionsAre F c.atcs.given.0.0 c.atcs.given.0.1.0 c.atcs.given.0.1.1.0 c.atcs.given.0.1.1.1.0 c.atcs.given.0.1.1.1.1.0 c.atcs.given.0.1.1.1.1.1.0 = sections_are F _ _ _ _ _ _ (sym c.measure.ensures ∙ c.atcs.given.1) in
+    runs_refuse F sections.accepts c.read-starts.ensures.cpi c.cpi_length.ensures c.enum_told.given.1
 
 pub overflow_mul-programs_at : goal.overflow_mul-programs_at
 overflow_mul-programs_at c = let m : goal.In-Bytes-2 = search in record { fits = omega (arith, sums m) }
@@ -86,21 +54,55 @@ overflow_add-programs_at-in-Counts c = let m : goal.In-Bytes-2 = search in recor
 
 pub programs_length-requires : goal.programs_length-requires
 programs_length-requires c =
-    let k : goal.In-Counts-2 = search in
-    rw c.read-starts.ensures.programs (sound (F k) (sections k).accepts).programs_in
+    let F : List ℕ = c.args.file.now in
+    let sections : SectionsAre F c.atcs.given.0.0 c.atcs.given.0.1.0 c.atcs.given.0.1.1.0 c.atcs.given.0.1.1.1.0 c.atcs.given.0.1.1.1.1.0 c.atcs.given.0.1.1.1.1.1.0 = sections_are F _ _ _ _ _ _ (sym c.measure.ensures ∙ c.atcs.given.1) in
+    rw c.read-starts.ensures.programs (sound F sections.accepts).programs_in
 
 pub overflow_add-cpi_at : goal.overflow_add-cpi_at
-overflow_add-cpi_at c = let p : goal.After-programs_length = search in record { fits = omega (arith, short c, programs_at c, own p) }
+overflow_add-cpi_at c =
+    let F : List ℕ = c.args.file.now in
+    let C : Clip = clip_of F in
+    let is-bytes : IsBytes F = (λ i. (c.shared_slice_known-1.given i).fits) in
+    let sections : SectionsAre F c.atcs.given.0.0 c.atcs.given.0.1.0 c.atcs.given.0.1.1.0 c.atcs.given.0.1.1.1.0 c.atcs.given.0.1.1.1.1.0 c.atcs.given.0.1.1.1.1.1.0 = sections_are F _ _ _ _ _ _ (sym c.measure.ensures ∙ c.atcs.given.1) in
+    let programs_at : 226 + 6 * c.atcs.given.0.0 + 14 * c.atcs.given.0.1.0 ≡ programs_place C = omega (arith, sequences_size F is-bytes sections.accepts sections.atcs_are sections.stcs_are, place_programs C) in
+    let few : (runs_fit C ≡ true) × (c.len.given.0.0 ≡ length (cpi_bytes C)) = let r : goal.After-read-starts = search in
+    runs_pass F r.read-starts.ensures.cpi c.cpi_length.ensures c.len.given.1 in
+    let none_here : rewrite_refusal F ≡ 0 = none F sections.accepts few.0 in
+    let short : programs_place C + length (programs_bytes C) + c.len.given.0.0 + 6 ≤ 402515706 = omega (arith, few.1, marks_short F (is-bytes) none_here, place_cpi C, place_marks C) in
+    let own : c.programs_length.result ≡ length (programs_bytes C) = programs_size F c.read-starts.ensures.programs c.programs_length.ensures in
+    let p : goal.After-programs_length = search in record { fits = omega (arith, short (M p), programs_at (K (M p)), own p) }
 
 pub overflow_add-marks_at : goal.overflow_add-marks_at
-overflow_add-marks_at c = let p : goal.After-programs_length = search in record { fits = omega (arith, short c, programs_at c, own p) }
+overflow_add-marks_at c =
+    let F : List ℕ = c.args.file.now in
+    let C : Clip = clip_of F in
+    let is-bytes : IsBytes F = (λ i. (c.shared_slice_known-1.given i).fits) in
+    let sections : SectionsAre F c.atcs.given.0.0 c.atcs.given.0.1.0 c.atcs.given.0.1.1.0 c.atcs.given.0.1.1.1.0 c.atcs.given.0.1.1.1.1.0 c.atcs.given.0.1.1.1.1.1.0 = sections_are F _ _ _ _ _ _ (sym c.measure.ensures ∙ c.atcs.given.1) in
+    let programs_at : 226 + 6 * c.atcs.given.0.0 + 14 * c.atcs.given.0.1.0 ≡ programs_place C = omega (arith, sequences_size F is-bytes sections.accepts sections.atcs_are sections.stcs_are, place_programs C) in
+    let few : (runs_fit C ≡ true) × (c.len.given.0.0 ≡ length (cpi_bytes C)) = let r : goal.After-read-starts = search in
+    runs_pass F r.read-starts.ensures.cpi c.cpi_length.ensures c.len.given.1 in
+    let none_here : rewrite_refusal F ≡ 0 = none F sections.accepts few.0 in
+    let short : programs_place C + length (programs_bytes C) + c.len.given.0.0 + 6 ≤ 402515706 = omega (arith, few.1, marks_short F (is-bytes) none_here, place_cpi C, place_marks C) in
+    let own : c.programs_length.result ≡ length (programs_bytes C) = programs_size F c.read-starts.ensures.programs c.programs_length.ensures in
+    let p : goal.After-programs_length = search in record { fits = omega (arith, short (M p), programs_at (K (M p)), own p) }
 
 pub returns-in-Refused : goal.returns-in-Refused
 returns-in-Refused c =
-    reading_refuses c.args.file.now (sym c.measure.ensures ∙ c.n-1.given.1)
+    reading_refuses c.args.file.now (sym c.measure.ensures ∙ c.n.given.1)
 
 pub returns-in-Bytes : goal.returns-in-Bytes
 returns-in-Bytes c =
+    let F : List ℕ = c.args.file.now in
+    let C : Clip = clip_of F in
+    let sections : SectionsAre F c.atcs.given.0.0 c.atcs.given.0.1.0 c.atcs.given.0.1.1.0 c.atcs.given.0.1.1.1.0 c.atcs.given.0.1.1.1.1.0 c.atcs.given.0.1.1.1.1.1.0 = let m : goal.After-measure = search in sections_are F _ _ _ _ _ _ (sym m.measure.ensures ∙ c.atcs.given.1) in
+    let is-bytes : IsBytes F = (λ i. (c.shared_slice_known-1.given i).fits) in
+    let programs_at : 226 + 6 * c.atcs.given.0.0 + 14 * c.atcs.given.0.1.0 ≡ programs_place C = omega (arith, sequences_size F is-bytes sections.accepts sections.atcs_are sections.stcs_are, place_programs C) in
+    let few : (runs_fit C ≡ true) × (c.len.given.0.0 ≡ length (cpi_bytes C)) = let r : goal.After-read-starts = search in
+    runs_pass F r.read-starts.ensures.cpi c.cpi_length.ensures c.len.given.1 in
+    let none_here : rewrite_refusal F ≡ 0 = none F sections.accepts few.0 in
+    let own : c.programs_length.result ≡ length (programs_bytes C) = programs_size F c.read-starts.ensures.programs c.programs_length.ensures in
     let p : goal.After-programs_length = search in
-    let at = sections k in
-    planned_by (F k) (none_here m) at.atcs_are at.stcs_are at.maps_are (programs_at k) (omega (arith, programs_at k, own p, place_cpi (C k))) (omega (arith, programs_at k, own p, (few m).1, place_cpi (C k), place_marks (C k)))
+    let m = M p in
+    let k = K m in
+    let at = sections in
+    planned_by F none_here at.atcs_are at.stcs_are at.maps_are programs_at (omega (arith, programs_at, own p, place_cpi C)) (omega (arith, programs_at, own p, few.1, place_cpi C, place_marks C))
