@@ -70,53 +70,43 @@ returns-in_default c =
 
 pub returns-in_default-length : goal.returns-in_default-length
 returns-in_default-length c =
-    let named : goal.Else-not-is_clip = lettered-of c in
-    let added : goal.Else-not-counts_add = counted_of named in
     let handed : ClipTables = tables c in
     let fit : (cells_fit (clip_in handed) ≡ true) × (c.length.given.0.0 ≡ length_in handed) =
     entries_fit_lem handed (fields c) (sym c.cpi_length.ensures ∙ c.length.given.1) in
     let t : goal.In-Fit-2 = search in
     let l = handed t in
-    refused_by (refusal_in l) (clip_in l) 31 refl (runs_refused l (counted added) (lettered named) fit.0 (sym fit.1 ∙ c.enum_told-in_default-length-1.given.1))
+    refused_by (refusal_in l) (clip_in l) 31 refl (runs_refused l (counted (added t)) (lettered (named t)) fit.0 (sym fit.1 ∙ c.enum_told-in_default-length-1.given.1))
 
 pub section_length-programs_at-requires : goal.section_length-programs_at-requires
 section_length-programs_at-requires c =
-    let named : goal.Else-not-is_clip = lettered-of c in
-    let added : goal.Else-not-counts_add = counted_of named in
     let handed : ClipTables = tables c in
-    let writable : ClipTables = handed in sequences_counted writable (counted added)
+    let writable : ClipTables = handed in sequences_counted writable (counted (added c))
 
 pub overflow_add-programs_at : goal.overflow_add-programs_at
 overflow_add-programs_at c =
     let handed : ClipTables = tables c in
     let writable : ClipTables = handed in
     let clip : Clip = clip_in writable in
-    let named : goal.Else-not-is_clip = lettered-of c in
-    let added : goal.Else-not-counts_add = counted_of named in
     let fit : (cells_fit (clip_in handed) ≡ true) × (c.length.given.0.0 ≡ length_in handed) =
     entries_fit_lem handed (fields c) (sym c.cpi_length.ensures ∙ c.length.given.1) in
     let few : (runs_fit clip ≡ true) × (c.length-in-Bytes-1.given.0.0 ≡ length (cpi_bytes clip)) = runs_few writable (sym fit.1 ∙ c.length-in-Bytes-1.given.1) in
-    let none : refusal_in writable ≡ 0 = none_refused writable (record { counted = counted added; letters = lettered named; fit = fit.0; runs_fit_lem = few.0 }) in
+    let none : refusal_in writable ≡ 0 = none_refused writable (record { counted = counted c; letters = lettered c; fit = fit.0; runs_fit_lem = few.0 }) in
     record { fits = omega (arith, marks_bound writable none, sequences_long writable c.section_length-programs_at.ensures, place_programs clip, place_cpi clip, place_marks clip) }
 
 pub section_length-requires : goal.section_length-requires
 section_length-requires c =
-    let named : goal.Else-not-is_clip = lettered-of c in
-    let added : goal.Else-not-counts_add = counted_of named in
     let handed : ClipTables = tables c in
-    let writable : ClipTables = handed in programs_counted writable (counted added)
+    let writable : ClipTables = handed in programs_counted writable (counted (added c))
 
 pub overflow_add-cpi_at : goal.overflow_add-cpi_at
 overflow_add-cpi_at c =
     let handed : ClipTables = tables c in
     let writable : ClipTables = handed in
     let clip : Clip = clip_in writable in
-    let named : goal.Else-not-is_clip = lettered-of c in
-    let added : goal.Else-not-counts_add = counted_of named in
     let fit : (cells_fit (clip_in handed) ≡ true) × (c.length.given.0.0 ≡ length_in handed) = let p : goal.After-cpi_length = search in
     entries_fit_lem handed (fields c) (sym p.cpi_length.ensures ∙ c.length.given.1) in
     let few : (runs_fit clip ≡ true) × (c.length-in-Bytes-1.given.0.0 ≡ length (cpi_bytes clip)) = runs_few writable (sym fit.1 ∙ c.length-in-Bytes-1.given.1) in
-    let none : refusal_in writable ≡ 0 = none_refused writable (record { counted = counted added; letters = lettered named; fit = fit.0; runs_fit_lem = few.0 }) in
+    let none : refusal_in writable ≡ 0 = none_refused writable (record { counted = counted c; letters = lettered c; fit = fit.0; runs_fit_lem = few.0 }) in
     record { fits = omega (arith, marks_bound writable none, sequences_long writable c.section_length-programs_at.ensures, programs_long writable c.section_length.ensures, place_programs clip, place_cpi clip, place_marks clip) }
 
 pub overflow_add-marks_at : goal.overflow_add-marks_at
@@ -127,9 +117,7 @@ overflow_add-marks_at c =
     let fit : (cells_fit (clip_in handed) ≡ true) × (c.length.given.0.0 ≡ length_in handed) = let p : goal.After-cpi_length = search in
     entries_fit_lem handed (fields c) (sym p.cpi_length.ensures ∙ c.length.given.1) in
     let few : (runs_fit clip ≡ true) × (c.length-in-Bytes-1.given.0.0 ≡ length (cpi_bytes clip)) = runs_few writable (sym fit.1 ∙ c.length-in-Bytes-1.given.1) in
-    let named : goal.Else-not-is_clip = lettered-of c in
-    let added : goal.Else-not-counts_add = counted_of named in
-    let none : refusal_in writable ≡ 0 = none_refused writable (record { counted = counted added; letters = lettered named; fit = fit.0; runs_fit_lem = few.0 }) in
+    let none : refusal_in writable ≡ 0 = none_refused writable (record { counted = counted c; letters = lettered c; fit = fit.0; runs_fit_lem = few.0 }) in
     record { fits = omega (arith, marks_bound writable none, few.1, sequences_long writable c.section_length-programs_at.ensures, programs_long writable c.section_length.ensures, place_programs clip, place_cpi clip, place_marks clip) }
 
 pub returns : goal.returns
@@ -140,9 +128,7 @@ returns c =
     let fit : (cells_fit (clip_in handed) ≡ true) × (c.length.given.0.0 ≡ length_in handed) = let p : goal.After-cpi_length = search in
     entries_fit_lem handed (fields c) (sym p.cpi_length.ensures ∙ c.length.given.1) in
     let few : (runs_fit clip ≡ true) × (c.length-in-Bytes-1.given.0.0 ≡ length (cpi_bytes clip)) = runs_few writable (sym fit.1 ∙ c.length-in-Bytes-1.given.1) in
-    let named : goal.Else-not-is_clip = lettered-of c in
-    let added : goal.Else-not-counts_add = counted_of named in
-    let none : refusal_in writable ≡ 0 = none_refused writable (record { counted = counted added; letters = lettered named; fit = fit.0; runs_fit_lem = few.0 }) in
+    let none : refusal_in writable ≡ 0 = none_refused writable (record { counted = counted c; letters = lettered c; fit = fit.0; runs_fit_lem = few.0 }) in
     let b : goal.In-Bytes-2 = search in
     let first = sequences_long writable c.section_length-programs_at.ensures in
     let second = programs_long writable c.section_length.ensures in
