@@ -1,5 +1,5 @@
 -- Each turn stores a map's row and its entries; what is left goes behind them.
-use Prim.Native.Nat.{ℕ, ◌+◌, ◌*◌, ◌-◌, ◌≤◌, ◌<◌}
+use Prim.Native.Nat.{ℕ, ◌+◌, ◌*◌, ◌≤◌, ◌<◌}
 use mathlib.Core.List.{List}
 use lib.ListN.{length}
 use Rattle.format.specs.EntryPoints.{fine_count_at}
@@ -21,7 +21,8 @@ overflow_add-q c =
     let C : ℕ = c.args.start in
     let N : ℕ = c.args.count in
     let S : CpiSection F C N = c.requires.section in
-    let bounds : (C + 8 + 12 * N ≤ length F) × (length F ≤ 536870912) × (c.loop-k.k < N) = ((there F C N S (omega (arith, c.loop-k-test.true))).headers, S.small, c.loop-k-test.true) in omega (arith, bounds)
+    let bounds : (C + 8 + 12 * N ≤ length F) × (length F ≤ 536870912) × (c.loop-k.k < N) = ((there F C N S (omega (arith, c.loop-k-test.true))).headers, S.small, c.loop-k-test.true) in
+    omega (arith, bounds)
 
 pub overflow_mul-q : goal.overflow_mul-q
 overflow_mul-q c =
@@ -29,7 +30,8 @@ overflow_mul-q c =
     let C : ℕ = c.args.start in
     let N : ℕ = c.args.count in
     let S : CpiSection F C N = c.requires.section in
-    let bounds : (C + 8 + 12 * N ≤ length F) × (length F ≤ 536870912) × (c.loop-k.k < N) = ((there F C N S (omega (arith, c.loop-k-test.true))).headers, S.small, c.loop-k-test.true) in omega (arith, bounds)
+    let bounds : (C + 8 + 12 * N ≤ length F) × (length F ≤ 536870912) × (c.loop-k.k < N) = ((there F C N S (omega (arith, c.loop-k-test.true))).headers, S.small, c.loop-k-test.true) in
+    omega (arith, bounds)
 
 pub overflow_add-q-in-loop-k : goal.overflow_add-q-in-loop-k
 overflow_add-q-in-loop-k c =
@@ -37,7 +39,8 @@ overflow_add-q-in-loop-k c =
     let C : ℕ = c.args.start in
     let N : ℕ = c.args.count in
     let S : CpiSection F C N = c.requires.section in
-    let bounds : (C + 8 + 12 * N ≤ length F) × (length F ≤ 536870912) × (c.loop-k.k < N) = ((there F C N S (omega (arith, c.loop-k-test.true))).headers, S.small, c.loop-k-test.true) in omega (arith, bounds)
+    let bounds : (C + 8 + 12 * N ≤ length F) × (length F ≤ 536870912) × (c.loop-k.k < N) = ((there F C N S (omega (arith, c.loop-k-test.true))).headers, S.small, c.loop-k-test.true) in
+    omega (arith, bounds)
 
 pub overflow_mul-k : goal.overflow_mul-k
 overflow_mul-k c =
@@ -45,7 +48,8 @@ overflow_mul-k c =
     let C : ℕ = c.args.start in
     let N : ℕ = c.args.count in
     let S : CpiSection F C N = c.requires.section in
-    let bounds : (C + 8 + 12 * N ≤ length F) × (length F ≤ 536870912) × (c.loop-k.k < N) = ((there F C N S (omega (arith, c.loop-k-test.true))).headers, S.small, c.loop-k-test.true) in omega (arith, bounds)
+    let bounds : (C + 8 + 12 * N ≤ length F) × (length F ≤ 536870912) × (c.loop-k.k < N) = ((there F C N S (omega (arith, c.loop-k-test.true))).headers, S.small, c.loop-k-test.true) in
+    omega (arith, bounds)
 
 pub put_map-requires : goal.put_map-requires
 put_map-requires c =
@@ -83,9 +87,6 @@ overflow_add-at c =
     let S : CpiSection F C N = c.requires.section in
     let bounds : (C + 8 + 12 * N ≤ length F) × (length F ≤ 536870912) × (c.loop-k.k < N) = ((there F C N S (omega (arith, c.loop-k-test.true))).headers, S.small, c.loop-k-test.true) in
     let room : c.loop-k.at + entry_size * fine_count_at F (C + 8 + 12 * c.loop-k.k) ≤ length c.loop-k.entries = entries_room c.loop-k.invariant c.loop-k-test.true in
-    let t : goal.In-loop-k = search in
-    let s = B t in
-    let l = c.loop-k in
     omega (arith, bounds, room, c.put_map_entries-n.ensures.value)
 
 pub loop-k-preserved : goal.loop-k-preserved
@@ -100,4 +101,6 @@ pub shape_of-entries : goal.shape_of-entries
 shape_of-entries c = c.loop-k.invariant.entries_left_lem.long
 
 pub returns : goal.returns
-returns c = filling_done c.loop-k.invariant c.loop-k-test.false
+returns c =
+    let r = filling_done c.loop-k.invariant c.loop-k-test.false in
+    record { maps_after = r.0; entries_after = r.1 }

@@ -1,6 +1,6 @@
 -- In the run of the entry before it an entry has no coarse row, else one.
 use Rattle.format.specs.Rewriting.{coarse_by}
-use Prim.Native.Nat.{◌-◌, ◌≤◌}
+use Prim.Native.Nat.{◌≤◌}
 use mathlib.Core.Path.{◌≡◌}
 use mathlib.Core.List.{[], ◌∷◌}
 use native.Mathlib.Omega.{arith}
@@ -11,7 +11,7 @@ use Rattle.encode_map.proofs.put_coarse.Goals as goal
 pub returns-then-same_run : goal.returns-then-same_run
 returns-then-same_run c =
     let a = c.args in
-    own_kept (own_by a.k a.before a.pair) a.out.now a.to (own_none a.k a.before a.pair c.same_run.ensures c.if-same_run.true)
+    let r = own_kept (own_by a.k a.before a.pair) a.out.now a.to (own_none a.k a.before a.pair c.same_run.ensures c.if-same_run.true) in record { pair_value = r.0; out_after = r.1 }
 
 pub overflow_sub-to : goal.overflow_sub-to
 overflow_sub-to c =
@@ -36,4 +36,4 @@ returns c =
     let one : own_by c.args.k c.args.before c.args.pair ≡ coarse_by c.args.k c.args.pair.time c.args.pair.packet ∷ [] = let a = c.args in own_one a.k a.before a.pair c.same_run.ensures c.if-same_run.false in
     let deep : 8 ≤ c.args.to = let below = rw one at c.requires.below in omega arith in
     let a = c.args in
-    own_stored (own_by a.k a.before a.pair) (coarse_by a.k a.pair.time a.pair.packet) a.out.now a.to one deep c.put_coarse_row.ensures
+    let r = own_stored (own_by a.k a.before a.pair) (coarse_by a.k a.pair.time a.pair.packet) a.out.now a.to one deep c.put_coarse_row.ensures in record { pair_value = r.0; out_after = r.1 }
