@@ -7,12 +7,12 @@ use Rattle.clpi_reading.proofs.Laws.{numbers_of_lem, flag_is}
 use Rattle.clpi_reading.proofs.reading_of.Goals as goal
 
 -- an accepted file's counts fit
-fits : (k : goal.In-Accepted-2) → RowsFit k.answer-in-Accepted-1.given.0.1.1.0
-fits k = rw k.answer-in-Accepted-1.given.1 at c.requires
+fits : (k : goal.In-Accepted-2) → RowsFit k.in-Accepted.rows
+fits k = rw k.in-Accepted.is at c.requires
 
 pub overflow_cast-rows : goal.overflow_cast-rows
 overflow_cast-rows c =
-    let few : c.answer-in-TooShort-1.given.0.1.0 ≤ 66846465 = rw c.answer-in-TooShort-1.given.1 at c.requires in
+    let few : c.in-TooShort.rows ≤ 66846465 = rw c.in-TooShort.is at c.requires in
     record { fits = omega arith }
 
 pub overflow_cast-result : goal.overflow_cast-result
@@ -44,12 +44,12 @@ overflow_cast-result-in-Accepted-8 c = let k : goal.In-Accepted-2 = search in re
 
 pub returns-in-Refused : goal.returns-in-Refused
 returns-in-Refused c =
-    c.refused.ensures ∙ numbers_of_lem c.answer.given.1
+    c.refused.ensures ∙ numbers_of_lem c.in-Refused.is
 
 pub returns-in-TooShort : goal.returns-in-TooShort
 returns-in-TooShort c =
-    c.refused-in-TooShort.ensures ∙ numbers_of_lem c.answer-in-TooShort-1.given.1
+    c.refused-in-TooShort.ensures ∙ numbers_of_lem c.in-TooShort.is
 
 pub returns-in-Accepted : goal.returns-in-Accepted
 returns-in-Accepted c =
-    rw (flag_is c.answer-in-Accepted-1.given.0.1.1.1.0) (numbers_of_lem c.answer-in-Accepted-1.given.1)
+    rw (flag_is c.in-Accepted.has_list) (numbers_of_lem c.in-Accepted.is)

@@ -64,17 +64,17 @@ returns-in_default c =
     let d : goal.After-cell_at-count = search in
     let a = (S (T d)).args in
     let l = (L (T d)).loop in
-    measured_unfit a.maps.now a.n a.entries.now a.m l.len l.few l.row l.k l.invariant c.loop-k-test.true c.cell_at-map_type.ensures d.cell_at-count.ensures c.count_runs.ensures c.enum_told.given.1
+    measured_unfit a.maps.now a.n a.entries.now a.m l.len l.few l.row l.k l.invariant c.loop-k-test.true c.cell_at-map_type.ensures d.cell_at-count.ensures c.count_runs.ensures c.in_default.is
 
 pub overflow_mul-len-in-loop-k : goal.overflow_mul-len-in-loop-k
 overflow_mul-len-in-loop-k c =
     let few : c.cell_at-count.result ≤ 262143 = let a = c.args in
     let l = c.loop-k in
     count_few a.maps.now a.n a.entries.now a.m l.row l.k l.invariant.walk c.loop-k-test.true c.cell_at-count.ensures in
-    let within : c.runs.given.0.0 ≤ c.cell_at-count.result = let t = c c in
+    let within : c.in-Runs.runs ≤ c.cell_at-count.result = let t = c c in
     let a = c.args in
     let l = c.loop-k in
-    runs_within_count a.maps.now a.n a.entries.now a.m l.len l.few l.row l.k l.invariant t.loop-test.taken c.cell_at-map_type.ensures c.cell_at-count.ensures c.count_runs.ensures c.runs.given.1 in
+    runs_within_count a.maps.now a.n a.entries.now a.m l.len l.few l.row l.k l.invariant t.loop-test.taken c.cell_at-map_type.ensures c.cell_at-count.ensures c.count_runs.ensures c.in-Runs.is in
     let r : goal.In-Runs-2 = search in omega (arith, within r, few (D r))
 
 pub overflow_add-len-in-loop-k : goal.overflow_add-len-in-loop-k
@@ -82,10 +82,10 @@ overflow_add-len-in-loop-k c =
     let few : c.cell_at-count.result ≤ 262143 = let a = c.args in
     let l = c.loop-k in
     count_few a.maps.now a.n a.entries.now a.m l.row l.k l.invariant.walk c.loop-k-test.true c.cell_at-count.ensures in
-    let within : c.runs.given.0.0 ≤ c.cell_at-count.result = let t = c c in
+    let within : c.in-Runs.runs ≤ c.cell_at-count.result = let t = c c in
     let a = c.args in
     let l = c.loop-k in
-    runs_within_count a.maps.now a.n a.entries.now a.m l.len l.few l.row l.k l.invariant t.loop-test.taken c.cell_at-map_type.ensures c.cell_at-count.ensures c.count_runs.ensures c.runs.given.1 in
+    runs_within_count a.maps.now a.n a.entries.now a.m l.len l.few l.row l.k l.invariant t.loop-test.taken c.cell_at-map_type.ensures c.cell_at-count.ensures c.count_runs.ensures c.in-Runs.is in
     let r : goal.In-Runs-2 = search in omega (arith, within r, few (D r))
 
 pub overflow_mul-len-in-loop-k-2 : goal.overflow_mul-len-in-loop-k-2
@@ -100,10 +100,10 @@ overflow_add-len-in-loop-k-2 c =
     let few : c.cell_at-count.result ≤ 262143 = let a = c.args in
     let l = c.loop-k in
     count_few a.maps.now a.n a.entries.now a.m l.row l.k l.invariant.walk c.loop-k-test.true c.cell_at-count.ensures in
-    let within : c.runs.given.0.0 ≤ c.cell_at-count.result = let t = c c in
+    let within : c.in-Runs.runs ≤ c.cell_at-count.result = let t = c c in
     let a = c.args in
     let l = c.loop-k in
-    runs_within_count a.maps.now a.n a.entries.now a.m l.len l.few l.row l.k l.invariant t.loop-test.taken c.cell_at-map_type.ensures c.cell_at-count.ensures c.count_runs.ensures c.runs.given.1 in
+    runs_within_count a.maps.now a.n a.entries.now a.m l.len l.few l.row l.k l.invariant t.loop-test.taken c.cell_at-map_type.ensures c.cell_at-count.ensures c.count_runs.ensures c.in-Runs.is in
     let r : goal.In-Runs-2 = search in omega (arith, within r, few (D r))
 
 pub overflow_add-len-in-loop-k-3 : goal.overflow_add-len-in-loop-k-3
@@ -112,10 +112,10 @@ overflow_add-len-in-loop-k-3 c =
     let l = c.loop-k in
     count_few a.maps.now a.n a.entries.now a.m l.row l.k l.invariant.walk c.loop-k-test.true c.cell_at-count.ensures in
     let few_maps : c.args.n ≤ 255 = let a = c.args in maps_few a.maps.now a.n a.entries.now a.m c.requires.1 in
-    let within : c.runs.given.0.0 ≤ c.cell_at-count.result = let t = c c in
+    let within : c.in-Runs.runs ≤ c.cell_at-count.result = let t = c c in
     let a = c.args in
     let l = c.loop-k in
-    runs_within_count a.maps.now a.n a.entries.now a.m l.len l.few l.row l.k l.invariant t.loop-test.taken c.cell_at-map_type.ensures c.cell_at-count.ensures c.count_runs.ensures c.runs.given.1 in
+    runs_within_count a.maps.now a.n a.entries.now a.m l.len l.few l.row l.k l.invariant t.loop-test.taken c.cell_at-map_type.ensures c.cell_at-count.ensures c.count_runs.ensures c.in-Runs.is in
     let r : goal.In-Runs-2 = search in
     let t = T (D r) in
     omega (arith, within r, few (D r), few_maps (D r), c.loop-k.invariant.small, t.loop-test.taken)
@@ -133,7 +133,7 @@ loop-k-preserved c =
     let d = D r in
     let a = (S (T d)).args in
     let l = (L (T d)).loop in
-    measured_turn a.maps.now a.n a.entries.now a.m l.len l.few l.row l.k l.invariant c.loop-k-test.true c.cell_at-map_type.ensures d.cell-at2.ensures c.count_runs.ensures r.runs.given.1 c.still_few-few.ensures
+    measured_turn a.maps.now a.n a.entries.now a.m l.len l.few l.row l.k l.invariant c.loop-k-test.true c.cell_at-map_type.ensures d.cell-at2.ensures c.count_runs.ensures r.in-Runs.is c.still_few-few.ensures
 
 pub returns-then-not-few : goal.returns-then-not-few
 returns-then-not-few c =

@@ -66,16 +66,16 @@ pub returns-in_default : goal.returns-in_default
 returns-in_default c =
     let e : goal.Else-not-is_clip = search in
     let l = tables c in
-    refused_by (refusal_in l) (clip_in l) 30 refl (entries_refused l (counted c) (lettered e) (sym c.cpi_length.ensures ∙ c.enum_told.given.1))
+    refused_by (refusal_in l) (clip_in l) 30 refl (entries_refused l (counted c) (lettered e) (sym c.cpi_length.ensures ∙ c.in_default.is))
 
 pub returns-in_default-length : goal.returns-in_default-length
 returns-in_default-length c =
     let handed : ClipTables = tables c in
-    let fit : (cells_fit (clip_in handed) ≡ true) × (c.length.given.0.0 ≡ length_in handed) =
-    entries_fit_lem handed (fields c) (sym c.cpi_length.ensures ∙ c.length.given.1) in
+    let fit : (cells_fit (clip_in handed) ≡ true) × (c.in-Fit.length ≡ length_in handed) =
+    entries_fit_lem handed (fields c) (sym c.cpi_length.ensures ∙ c.in-Fit.is) in
     let t : goal.In-Fit-2 = search in
     let l = handed t in
-    refused_by (refusal_in l) (clip_in l) 31 refl (runs_refused l (counted (added t)) (lettered (named t)) fit.0 (sym fit.1 ∙ c.enum_told-in_default-length-1.given.1))
+    refused_by (refusal_in l) (clip_in l) 31 refl (runs_refused l (counted (added t)) (lettered (named t)) fit.0 (sym fit.1 ∙ c.in_default-length.is))
 
 pub section_length-programs_at-requires : goal.section_length-programs_at-requires
 section_length-programs_at-requires c =
@@ -87,9 +87,9 @@ overflow_add-programs_at c =
     let handed : ClipTables = tables c in
     let writable : ClipTables = handed in
     let clip : Clip = clip_in writable in
-    let fit : (cells_fit (clip_in handed) ≡ true) × (c.length.given.0.0 ≡ length_in handed) =
-    entries_fit_lem handed (fields c) (sym c.cpi_length.ensures ∙ c.length.given.1) in
-    let few : (runs_fit clip ≡ true) × (c.length-in-Bytes-1.given.0.0 ≡ length (cpi_bytes clip)) = runs_few writable (sym fit.1 ∙ c.length-in-Bytes-1.given.1) in
+    let fit : (cells_fit (clip_in handed) ≡ true) × (c.in-Fit.length ≡ length_in handed) =
+    entries_fit_lem handed (fields c) (sym c.cpi_length.ensures ∙ c.in-Fit.is) in
+    let few : (runs_fit clip ≡ true) × (c.in-Bytes.len ≡ length (cpi_bytes clip)) = runs_few writable (sym fit.1 ∙ c.in-Bytes.is) in
     let none : refusal_in writable ≡ 0 = none_refused writable (record { counted = counted c; letters = lettered c; fit = fit.0; runs_fit_lem = few.0 }) in
     record { fits = omega (arith, marks_bound writable none, sequences_long writable c.section_length-programs_at.ensures, place_programs clip, place_cpi clip, place_marks clip) }
 
@@ -103,9 +103,9 @@ overflow_add-cpi_at c =
     let handed : ClipTables = tables c in
     let writable : ClipTables = handed in
     let clip : Clip = clip_in writable in
-    let fit : (cells_fit (clip_in handed) ≡ true) × (c.length.given.0.0 ≡ length_in handed) = let p : goal.After-cpi_length = search in
-    entries_fit_lem handed (fields c) (sym p.cpi_length.ensures ∙ c.length.given.1) in
-    let few : (runs_fit clip ≡ true) × (c.length-in-Bytes-1.given.0.0 ≡ length (cpi_bytes clip)) = runs_few writable (sym fit.1 ∙ c.length-in-Bytes-1.given.1) in
+    let fit : (cells_fit (clip_in handed) ≡ true) × (c.in-Fit.length ≡ length_in handed) = let p : goal.After-cpi_length = search in
+    entries_fit_lem handed (fields c) (sym p.cpi_length.ensures ∙ c.in-Fit.is) in
+    let few : (runs_fit clip ≡ true) × (c.in-Bytes.len ≡ length (cpi_bytes clip)) = runs_few writable (sym fit.1 ∙ c.in-Bytes.is) in
     let none : refusal_in writable ≡ 0 = none_refused writable (record { counted = counted c; letters = lettered c; fit = fit.0; runs_fit_lem = few.0 }) in
     record { fits = omega (arith, marks_bound writable none, sequences_long writable c.section_length-programs_at.ensures, programs_long writable c.section_length.ensures, place_programs clip, place_cpi clip, place_marks clip) }
 
@@ -114,9 +114,9 @@ overflow_add-marks_at c =
     let handed : ClipTables = tables c in
     let writable : ClipTables = handed in
     let clip : Clip = clip_in writable in
-    let fit : (cells_fit (clip_in handed) ≡ true) × (c.length.given.0.0 ≡ length_in handed) = let p : goal.After-cpi_length = search in
-    entries_fit_lem handed (fields c) (sym p.cpi_length.ensures ∙ c.length.given.1) in
-    let few : (runs_fit clip ≡ true) × (c.length-in-Bytes-1.given.0.0 ≡ length (cpi_bytes clip)) = runs_few writable (sym fit.1 ∙ c.length-in-Bytes-1.given.1) in
+    let fit : (cells_fit (clip_in handed) ≡ true) × (c.in-Fit.length ≡ length_in handed) = let p : goal.After-cpi_length = search in
+    entries_fit_lem handed (fields c) (sym p.cpi_length.ensures ∙ c.in-Fit.is) in
+    let few : (runs_fit clip ≡ true) × (c.in-Bytes.len ≡ length (cpi_bytes clip)) = runs_few writable (sym fit.1 ∙ c.in-Bytes.is) in
     let none : refusal_in writable ≡ 0 = none_refused writable (record { counted = counted c; letters = lettered c; fit = fit.0; runs_fit_lem = few.0 }) in
     record { fits = omega (arith, marks_bound writable none, few.1, sequences_long writable c.section_length-programs_at.ensures, programs_long writable c.section_length.ensures, place_programs clip, place_cpi clip, place_marks clip) }
 
@@ -125,9 +125,9 @@ returns c =
     let handed : ClipTables = tables c in
     let writable : ClipTables = handed in
     let clip : Clip = clip_in writable in
-    let fit : (cells_fit (clip_in handed) ≡ true) × (c.length.given.0.0 ≡ length_in handed) = let p : goal.After-cpi_length = search in
-    entries_fit_lem handed (fields c) (sym p.cpi_length.ensures ∙ c.length.given.1) in
-    let few : (runs_fit clip ≡ true) × (c.length-in-Bytes-1.given.0.0 ≡ length (cpi_bytes clip)) = runs_few writable (sym fit.1 ∙ c.length-in-Bytes-1.given.1) in
+    let fit : (cells_fit (clip_in handed) ≡ true) × (c.in-Fit.length ≡ length_in handed) = let p : goal.After-cpi_length = search in
+    entries_fit_lem handed (fields c) (sym p.cpi_length.ensures ∙ c.in-Fit.is) in
+    let few : (runs_fit clip ≡ true) × (c.in-Bytes.len ≡ length (cpi_bytes clip)) = runs_few writable (sym fit.1 ∙ c.in-Bytes.is) in
     let none : refusal_in writable ≡ 0 = none_refused writable (record { counted = counted c; letters = lettered c; fit = fit.0; runs_fit_lem = few.0 }) in
     let b : goal.In-Bytes-2 = search in
     let first = sequences_long writable c.section_length-programs_at.ensures in

@@ -5,10 +5,10 @@ use Rattle.entry_runs.proofs.Runs.{NextRun, next_run, run_unfit, counted_first, 
 use Rattle.entry_runs.proofs.count_runs.Goals as goal
 
 -- the next run begins where this one ends
-next : (c : goal.In-At-2) → let a = c.args in NextRun a.entries.now a.p a.n a.map_type c.loop-k.k c.end.given.0.0
+next : (c : goal.In-At-2) → let a = c.args in NextRun a.entries.now a.p a.n a.map_type c.loop-k.k c.in-At.end
 next c =
     let a = c.args in
-    next_run a.entries.now a.p a.n a.map_type c.loop-k.k c.loop-k-test.true c.run_end.ensures c.end.given.1
+    next_run a.entries.now a.p a.n a.map_type c.loop-k.k c.loop-k-test.true c.run_end.ensures c.in-At.is
 
 pub loop-k-init : goal.loop-k-init
 loop-k-init c = let a = c.args in counted_first a.entries.now a.p a.n a.map_type
@@ -16,7 +16,7 @@ loop-k-init c = let a = c.args in counted_first a.entries.now a.p a.n a.map_type
 pub returns-in_default : goal.returns-in_default
 returns-in_default c =
     let a = c.args in
-    counted_unfit a.entries.now a.p a.n a.map_type c.loop-k.count c.loop-k.k c.loop-k.invariant (run_unfit a.entries.now a.p a.n a.map_type c.loop-k.k c.loop-k-test.true c.run_end.ensures c.enum_told.given.1)
+    counted_unfit a.entries.now a.p a.n a.map_type c.loop-k.count c.loop-k.k c.loop-k.invariant (run_unfit a.entries.now a.p a.n a.map_type c.loop-k.k c.loop-k-test.true c.run_end.ensures c.in_default.is)
 
 pub loop-k-smaller : goal.loop-k-smaller
 loop-k-smaller c = omega (arith, (next c).past)

@@ -9,8 +9,8 @@ use Rattle.ep_map_times.proofs.Lasts.{span_asks}
 use Rattle.ep_map_times.proofs.indexed_span_90k.Goals as goal
 
 -- the map's own entries
-own : (k : goal.In-Rows) → let a = k.args in owns k.first.given.0.0 k.first.given.0.1.0 ≡ owned_entries (stated a.maps.now a.map_rows) (stated a.entries.now a.entry_rows) a.map
-own k = sym (ap owned_of k.first.given.1) ∙ k.entries_of_map.ensures
+own : (k : goal.In-Rows) → let a = k.args in owns k.in-Rows.first k.in-Rows.count ≡ owned_entries (stated a.maps.now a.map_rows) (stated a.entries.now a.entry_rows) a.map
+own k = sym (ap owned_of k.in-Rows.is) ∙ k.entries_of_map.ensures
 
 pub span-requires : goal.span-requires
 span-requires c = let a = c.args in inside (stated a.maps.now a.map_rows) (stated a.entries.now a.entry_rows) a.map (own c)
@@ -18,7 +18,7 @@ span-requires c = let a = c.args in inside (stated a.maps.now a.map_rows) (state
 pub returns-in-Refused : goal.returns-in-Refused
 returns-in-Refused c =
     let a = c.args in
-    not_asked (span_asks (stated a.maps.now a.map_rows) (stated a.entries.now a.entry_rows) a.map) (sym (ap owned_of c.enum_told.given.1) ∙ c.entries_of_map.ensures)
+    not_asked (span_asks (stated a.maps.now a.map_rows) (stated a.entries.now a.entry_rows) a.map) (sym (ap owned_of c.in-Refused.is) ∙ c.entries_of_map.ensures)
 
 pub returns-in-Rows : goal.returns-in-Rows
 returns-in-Rows c =

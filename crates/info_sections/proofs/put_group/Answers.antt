@@ -13,12 +13,12 @@ use Rattle.info_sections.proofs.put_group.Goals as goal
 -- an ATC and its STCs are there
 atc-there : (t : goal.In-Sequences) → let a = c.args in
     GroupThere Section.Sequences a.file.now a.p a.n a.heads.now a.at a.rows.now a.to
-atc-there t = rw t.enum_told.given.1 at c.requires
+atc-there t = rw t.in-Sequences.is at c.requires
 
 -- a program and its streams are there
 program-there : (t : goal.In-Programs) → let a = c.args in
     GroupThere Section.Programs a.file.now a.p a.n a.heads.now a.at a.rows.now a.to
-program-there t = rw t.enum_told-in-Programs-1.given.1 at c.requires
+program-there t = rw t.in-Programs.is at c.requires
 
 pub put_atc-requires : goal.put_atc-requires
 put_atc-requires c =
@@ -63,7 +63,7 @@ returns-in-Sequences c =
     let t : goal.In-Sequences = search in
     let says = (atc-there t).says in
     let put = c.put_stcs.ensures in
-    rw t.enum_told.given.1 record { value = put.0 ∙ ap (end_of next_stc (c.args.p + 6)) says; heads_after = c.put_atc.ensures; rows_after = rw says at put.1 }
+    rw t.in-Sequences.is record { value = put.0 ∙ ap (end_of next_stc (c.args.p + 6)) says; heads_after = c.put_atc.ensures; rows_after = rw says at put.1 }
 
 pub returns-in-Programs : goal.returns-in-Programs
 returns-in-Programs c =
@@ -71,4 +71,4 @@ returns-in-Programs c =
     let a = c.args in
     let says = (program-there t).says in
     let put = c.put_streams.ensures in
-    rw t.enum_told-in-Programs-1.given.1 record { value = put.0 ∙ ap (end_of (next_stream a.file.now) (a.p + 8)) says; heads_after = c.put_program.ensures; rows_after = rw says at put.1 }
+    rw t.in-Programs.is record { value = put.0 ∙ ap (end_of (next_stream a.file.now) (a.p + 8)) says; heads_after = c.put_program.ensures; rows_after = rw says at put.1 }

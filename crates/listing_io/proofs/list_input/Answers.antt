@@ -6,14 +6,14 @@ use lib.Seq.{length-take-le}
 use Rattle.listing_io.proofs.list_input.Goals as goal
 
 -- the bytes that were read are in the buffer
-read-within : (k : goal.In-Bytes) → k.read.given.0.0 ≤ length k.read_input.new.1.0
-read-within k = rw k.read.given.1 at k.read_input.ensures
+read-within : (k : goal.In-Bytes) → k.in-Bytes.read ≤ length k.read_input.new.1.0
+read-within k = rw k.in-Bytes.is at k.read_input.ensures
 
 pub slice_bounds-list-end : goal.slice_bounds-list-end
 slice_bounds-list-end c = read-within c
 
 pub slice_bounds-list-end-2 : goal.slice_bounds-list-end-2
-slice_bounds-list-end-2 c = sym (length-take-le c.read.given.0.0 _ (read-within c))
+slice_bounds-list-end-2 c = sym (length-take-le c.in-Bytes.read _ (read-within c))
 
 pub slice_bounds-write_all-end-2 : goal.slice_bounds-write_all-end-2
 slice_bounds-write_all-end-2 c =

@@ -14,22 +14,22 @@ abbrev bytes : goal.In-Read → List ℕ
 bytes c = c.args.file.now
 
 abbrev behind : goal.In-Read → Reader
-behind c = c.num_streams.given.0.1.0
+behind c = c.in-Read.spare
 
 -- the stream count
-count : (c : goal.In-Read) → Got (bytes c) (c.args.r.pos + 6) 1 c.num_streams.given.0.0 (behind c)
-count c = got (bytes c) (c.args.r.pos + 6) 1 (sym c.num_streams.given.1 ∙ c.read_count.ensures.same)
+count : (c : goal.In-Read) → Got (bytes c) (c.args.r.pos + 6) 1 c.in-Read.num_streams (behind c)
+count c = got (bytes c) (c.args.r.pos + 6) 1 (sym c.in-Read.is ∙ c.read_count.ensures.same)
 
 -- the first stream stands one byte behind
 streams : (c : goal.In-At)
-    → ((behind c).pos + 1 ≤ length (bytes c)) × (c.first.given.0.0.pos ≡ (behind c).pos + 1)
-streams c = went (bytes c) ((behind c).pos + 1) (sym c.first.given.1 ∙ c.skip.ensures)
+    → ((behind c).pos + 1 ≤ length (bytes c)) × (c.in-At.first.pos ≡ (behind c).pos + 1)
+streams c = went (bytes c) ((behind c).pos + 1) (sym c.in-At.is ∙ c.skip.ensures)
 
 pub returns-in_default : goal.returns-in_default
 returns-in_default c =
     let a = c.args in
     let f = a.file.now in
-    let cut = not_got f (a.r.pos + 6) 1 (sym c.enum_told.given.1 ∙ c.read_count.ensures.same) in
+    let cut = not_got f (a.r.pos + 6) 1 (sym c.in_default.is ∙ c.read_count.ensures.same) in
     program_cut f a.r.pos (omega arith)
 
 pub returns-in_default-skip : goal.returns-in_default-skip
@@ -37,7 +37,7 @@ returns-in_default-skip c =
     let a = c.args in
     let f = a.file.now in
     let g = count c in
-    let cut = stayed f ((behind c).pos + 1) (sym c.enum_told-in_default-skip-1.given.1 ∙ c.skip.ensures) in
+    let cut = stayed f ((behind c).pos + 1) (sym c.in_default-skip.is ∙ c.skip.ensures) in
     program_cut f a.r.pos (omega (arith, g.behind))
 
 pub skip_streams-requires : goal.skip_streams-requires
