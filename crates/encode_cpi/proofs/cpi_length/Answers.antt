@@ -139,10 +139,10 @@ pub returns-then-not-few : goal.returns-then-not-few
 returns-then-not-few c =
     let a = c.args in
     let l = c.loop-k in
-    measured_many a.maps.now a.n a.entries.now a.m l.len l.few l.row l.k l.invariant c.loop-k-test.false c.if-not-few.true
+    measured_many a.maps.now a.n a.entries.now a.m l.len l.few l.row l.k l.invariant c.loop-k-test.false c.if-not-few.true-raw
 
 pub returns : goal.returns
 returns c =
     let a = c.args in
     let l = c.loop-k in
-    measured_done a.maps.now a.n a.entries.now a.m l.len l.few l.row l.k l.invariant c.loop-k-test.false c.if-not-few.false c.if-n-eq0.false
+    measured_done a.maps.now a.n a.entries.now a.m l.len l.few l.row l.k l.invariant c.loop-k-test.false c.if-not-few.false-raw c.if-n-eq0.false

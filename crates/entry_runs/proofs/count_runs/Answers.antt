@@ -4,12 +4,6 @@ use native.Mathlib.Omega.{arith}
 use Rattle.entry_runs.proofs.Runs.{NextRun, next_run, run_unfit, counted_first, counted_turn, counted_unfit, counted_done}
 use Rattle.entry_runs.proofs.count_runs.Goals as goal
 
--- the next run begins where this one ends
-next : (c : goal.In-At-2) → let a = c.args in NextRun a.entries.now a.p a.n a.map_type c.loop-k.k c.in-At.end
-next c =
-    let a = c.args in
-    next_run a.entries.now a.p a.n a.map_type c.loop-k.k c.loop-k-test.true c.run_end.ensures c.in-At.is
-
 pub loop-k-init : goal.loop-k-init
 loop-k-init c = let a = c.args in counted_first a.entries.now a.p a.n a.map_type
 
@@ -19,12 +13,19 @@ returns-in_default c =
     counted_unfit a.entries.now a.p a.n a.map_type c.loop-k.count c.loop-k.k c.loop-k.invariant (run_unfit a.entries.now a.p a.n a.map_type c.loop-k.k c.loop-k-test.true c.run_end.ensures c.in_default.is)
 
 pub loop-k-smaller : goal.loop-k-smaller
-loop-k-smaller c = omega (arith, (next c).past)
+loop-k-smaller c =
+    let next : let a = c.args in NextRun a.entries.now a.p a.n a.map_type c.loop-k.k c.in-At.end =
+    let a = c.args in
+    next_run a.entries.now a.p a.n a.map_type c.loop-k.k c.loop-k-test.true c.run_end.ensures c.in-At.is in
+    omega (arith, next.past)
 
 pub loop-k-preserved : goal.loop-k-preserved
 loop-k-preserved c =
+    let next : let a = c.args in NextRun a.entries.now a.p a.n a.map_type c.loop-k.k c.in-At.end =
     let a = c.args in
-    counted_turn a.entries.now a.p a.n a.map_type c.loop-k.count c.loop-k.k c.loop-k.invariant (next c)
+    next_run a.entries.now a.p a.n a.map_type c.loop-k.k c.loop-k-test.true c.run_end.ensures c.in-At.is in
+    let a = c.args in
+    counted_turn a.entries.now a.p a.n a.map_type c.loop-k.count c.loop-k.k c.loop-k.invariant next
 
 pub returns : goal.returns
 returns c =

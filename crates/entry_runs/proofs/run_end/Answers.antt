@@ -8,31 +8,31 @@ use Rattle.entry_runs.proofs.run_end.Goals as goal
 pub returns-then-not-row_fits : goal.returns-then-not-row_fits
 returns-then-not-row_fits c =
     let a = c.args in
-    first_unfit a.entries.now a.p a.n a.map_type a.from c.requires.1 c.row_fits.ensures c.if-not-row_fits.true
+    first_unfit a.entries.now a.p a.n a.map_type a.from c.requires.1 c.row_fits.ensures c.if-not-row_fits.true-raw
 
 pub loop-k-init : goal.loop-k-init
 loop-k-init c =
     let a = c.args in
-    first_fit a.entries.now a.p a.n a.map_type a.from c.requires.1 c.row_fits.ensures c.if-not-row_fits.false
+    first_fit a.entries.now a.p a.n a.map_type a.from c.requires.1 c.row_fits.ensures c.if-not-row_fits.false-raw
 
 pub goes_on-requires : goal.goes_on-requires
 goes_on-requires c =
     let a = c.args in
-    words_fit a.entries.now _ a.map_type c.words_at-first.ensures c.row_fits.ensures c.if-not-row_fits.false
+    words_fit a.entries.now _ a.map_type c.words_at-first.ensures c.row_fits.ensures c.if-not-row_fits.false-raw
 
 pub returns-then-not-goes_on : goal.returns-then-not-goes_on
 returns-then-not-goes_on c =
     let compared : let a = c.args in Compared a.entries.now a.p a.n a.map_type a.from c.loop-k.k c.goes_on.result (words_same c.words_at-first.result c.words_at-words.result) =
-    words_compared c.args.entries.now c.args.p c.args.n c.args.map_type c.args.from c.loop-k.k c.loop-k.invariant c.loop-k-test.true c.words_at-first.ensures c.words_at-words.ensures c.row_fits.ensures c.if-not-row_fits.false c.goes_on.ensures in
+    words_compared c.args.entries.now c.args.p c.args.n c.args.map_type c.args.from c.loop-k.k c.loop-k.invariant c.loop-k-test.true c.words_at-first.ensures c.words_at-words.ensures c.row_fits.ensures c.if-not-row_fits.false-raw c.goes_on.ensures in
     let a = c.args in
-    along_stopped a.entries.now a.p a.n a.map_type a.from c.loop-k.k compared c.if-not-goes_on.true c.stopped.ensures
+    along_stopped a.entries.now a.p a.n a.map_type a.from c.loop-k.k compared c.if-not-goes_on.true-raw c.stopped.ensures
 
 pub loop-k-preserved : goal.loop-k-preserved
 loop-k-preserved c =
     let compared : let a = c.args in Compared a.entries.now a.p a.n a.map_type a.from c.loop-k.k c.goes_on.result (words_same c.words_at-first.result c.words_at-words.result) =
-    words_compared c.args.entries.now c.args.p c.args.n c.args.map_type c.args.from c.loop-k.k c.loop-k.invariant c.loop-k-test.true c.words_at-first.ensures c.words_at-words.ensures c.row_fits.ensures c.if-not-row_fits.false c.goes_on.ensures in
+    words_compared c.args.entries.now c.args.p c.args.n c.args.map_type c.args.from c.loop-k.k c.loop-k.invariant c.loop-k-test.true c.words_at-first.ensures c.words_at-words.ensures c.row_fits.ensures c.if-not-row_fits.false-raw c.goes_on.ensures in
     let a = c.args in
-    along_turn a.entries.now a.p a.n a.map_type a.from c.loop-k.k compared c.if-not-goes_on.false
+    along_turn a.entries.now a.p a.n a.map_type a.from c.loop-k.k compared c.if-not-goes_on.false-raw
 
 pub returns : goal.returns
 returns c =

@@ -7,12 +7,10 @@ use Rattle.ep_map_queries.proofs.Answers.{not_asked, asked, inside}
 use Rattle.ep_map_times.proofs.Lasts.{end_asks}
 use Rattle.ep_map_times.proofs.end_pts.Goals as goal
 
--- the map's own entries
-own : (k : goal.In-Rows) → let a = k.args in owns k.in-Rows.first k.in-Rows.count ≡ owned_entries (stated a.maps.now a.map_rows) (stated a.entries.now a.entry_rows) a.map
-own k = sym (ap owned_of k.in-Rows.is) ∙ k.entries_of_map.ensures
-
 pub end_time-requires : goal.end_time-requires
-end_time-requires c = let a = c.args in inside (stated a.maps.now a.map_rows) (stated a.entries.now a.entry_rows) a.map (own c)
+end_time-requires c =
+    let own : let a = c.args in owns c.in-Rows.first c.in-Rows.count ≡ owned_entries (stated a.maps.now a.map_rows) (stated a.entries.now a.entry_rows) a.map = sym (ap owned_of c.in-Rows.is) ∙ c.entries_of_map.ensures in
+    let a = c.args in inside (stated a.maps.now a.map_rows) (stated a.entries.now a.entry_rows) a.map own
 
 pub returns-in-Refused : goal.returns-in-Refused
 returns-in-Refused c =
@@ -21,5 +19,6 @@ returns-in-Refused c =
 
 pub returns-in-Rows : goal.returns-in-Rows
 returns-in-Rows c =
+    let own : let a = c.args in owns c.in-Rows.first c.in-Rows.count ≡ owned_entries (stated a.maps.now a.map_rows) (stated a.entries.now a.entry_rows) a.map = sym (ap owned_of c.in-Rows.is) ∙ c.entries_of_map.ensures in
     let a = c.args in
-    c.end_time.ensures ∙ asked (end_asks (stated a.maps.now a.map_rows) (stated a.entries.now a.entry_rows) a.map a.is_last) (own c)
+    c.end_time.ensures ∙ asked (end_asks (stated a.maps.now a.map_rows) (stated a.entries.now a.entry_rows) a.map a.is_last) own

@@ -9,10 +9,6 @@ use Rattle.common.proofs.Laws.{Got, got, not_got, went, stayed}
 use Rattle.cpi.proofs.Heads.{head_zero, head_far, head_past, head_two, head_type, head_four, head_headers, head_maps}
 use Rattle.cpi.proofs.maps.read_head.Goals as goal
 
--- the type was read
-type-one : (e : goal.Else-u16_at-ne1) → cpi_type (F c) (S c) ≡ 1
-type-one e = rw (← c.u16_at.ensures.same) e.if-u16_at-ne1.false
-
 pub returns-then-start-eq0 : goal.returns-then-start-eq0
 returns-then-start-eq0 c = let a = c.args in head_zero a.file.now a.start c.if-start-eq0.true
 
@@ -91,9 +87,9 @@ returns-then-len-lt4 c =
     let moved : (c.in-Read.body.pos + len ≤ length F) × (last ≡ c.in-Read.body.pos + len) = went F (c.in-Read.body.pos + len) (sym c.in-At.is ∙ c.skip.ensures) in
     let stop : last ≡ cpi_end F S = omega (arith, length-read.value, length-read.behind, moved.1) in
     let inside : cpi_end F S ≤ length F = omega (arith, stop, moved) in
-    let e4 : goal.Else-u16_at-ne1 = search in
+    let type-one : cpi_type F S ≡ 1 = rw (← c.u16_at.ensures.same) c.if-u16_at-ne1.false in
     let two : 2 ≤ cpi_length F S = omega (arith, value) in
-    head_four F S some near inside two (type-one e4) (omega (arith, value))
+    head_four F S some near inside two type-one (omega (arith, value))
 
 pub u8_at-count-requires : goal.u8_at-count-requires
 u8_at-count-requires c =
@@ -120,9 +116,9 @@ returns-in_default-skip-2 c =
     let moved : (c.in-Read.body.pos + len ≤ length F) × (last ≡ c.in-Read.body.pos + len) = went F (c.in-Read.body.pos + len) (sym c.in-At.is ∙ c.skip.ensures) in
     let stop : last ≡ cpi_end F S = omega (arith, length-read.value, length-read.behind, moved.1) in
     let inside : cpi_end F S ≤ length F = omega (arith, stop, moved) in
-    let e4 : goal.Else-u16_at-ne1 = search in
+    let type-one : cpi_type F S ≡ 1 = rw (← c.u16_at.ensures.same) c.if-u16_at-ne1.false in
     let four : 4 ≤ cpi_length F S = omega (arith, value) in
-    head_headers F S some near inside (type-one e4) four
+    head_headers F S some near inside type-one four
     (omega (arith, stayed F (S + 8 + 12 * c.u8_at-count.result) (sym c.in_default-skip-2.is ∙ c.skip-2.ensures), c.u8_at-count.ensures.same))
 
 pub returns : goal.returns
@@ -138,7 +134,7 @@ returns c =
     let moved : (c.in-Read.body.pos + len ≤ length F) × (last ≡ c.in-Read.body.pos + len) = went F (c.in-Read.body.pos + len) (sym c.in-At.is ∙ c.skip.ensures) in
     let stop : last ≡ cpi_end F S = omega (arith, length-read.value, length-read.behind, moved.1) in
     let inside : cpi_end F S ≤ length F = omega (arith, stop, moved) in
-    let e4 : goal.Else-u16_at-ne1 = search in
+    let type-one : cpi_type F S ≡ 1 = rw (← c.u16_at.ensures.same) c.if-u16_at-ne1.false in
     let four : 4 ≤ cpi_length F S = omega (arith, value) in
     let m = went F (S + 8 + 12 * c.u8_at-count.result) (sym c.in-At-skip.is ∙ c.skip-2.ensures) in
-    rw (c.u8_at-count.ensures.same, stop) (head_maps F S some near inside (type-one e4) four (omega (arith, m.0, c.u8_at-count.ensures.same)))
+    rw (c.u8_at-count.ensures.same, stop) (head_maps F S some near inside type-one four (omega (arith, m.0, c.u8_at-count.ensures.same)))

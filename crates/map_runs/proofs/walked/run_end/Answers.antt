@@ -17,7 +17,7 @@ pub returns-then-not-same_key : goal.returns-then-not-same_key
 returns-then-not-same_key c =
     let a = c.args in
     let l = c.loop-k in
-    along_stop a.file.now a.m a.from a.first c.requires.2 l.walk l.k l.invariant c.loop-k-test.true c.meet-met.result c.meet-met.ensures c.same_key.ensures c.if-not-same_key.true
+    along_stop a.file.now a.m a.from a.first c.requires.2 l.walk l.k l.invariant c.loop-k-test.true c.meet-met.result c.meet-met.ensures c.same_key.ensures c.if-not-same_key.true-raw
 
 pub loop-k-smaller : goal.loop-k-smaller
 loop-k-smaller c = omega (arith, c.loop-k-test.true)
@@ -26,7 +26,7 @@ pub loop-k-preserved : goal.loop-k-preserved
 loop-k-preserved c =
     let a = c.args in
     let l = c.loop-k in
-    along_turn a.file.now a.m a.from a.first c.requires.2 l.walk l.k l.invariant c.loop-k-test.true c.meet-met.result c.meet-met.ensures c.same_key.ensures c.if-not-same_key.false
+    along_turn a.file.now a.m a.from a.first c.requires.2 l.walk l.k l.invariant c.loop-k-test.true c.meet-met.result c.meet-met.ensures c.same_key.ensures c.if-not-same_key.false-raw
 
 pub returns : goal.returns
 returns c =

@@ -57,7 +57,7 @@ pub put_sequences-requires : goal.put_sequences-requires
 put_sequences-requires c =
     let F : List ℕ = c.args.file.now in
     let is-bytes : IsBytes F = (λ i. (c.shared_slice_known-1.given i).fits) in
-    sequences_room F (is-bytes n) c.requires _ c.read-starts.ensures.sequences c.put_head.kept.1.1.1.1.0
+    sequences_room F is-bytes c.requires _ c.read-starts.ensures.sequences c.put_head.kept.1.1.1.1.0
 
 pub overflow_sub-cpi_at : goal.overflow_sub-cpi_at
 overflow_sub-cpi_at c =
@@ -70,7 +70,7 @@ pub put_programs-requires : goal.put_programs-requires
 put_programs-requires c =
     let F : List ℕ = c.args.file.now in
     let is-bytes : IsBytes F = (λ i. (c.shared_slice_known-1.given i).fits) in
-    programs_room F (is-bytes n) c.requires _ c.read-starts.ensures.programs (c.put_sequences.kept.1.1.1.1.0 ∙ c.put_head.kept.1.1.1.1.0)
+    programs_room F is-bytes c.requires _ c.read-starts.ensures.programs (c.put_sequences.kept.1.1.1.1.0 ∙ c.put_head.kept.1.1.1.1.0)
 
 pub overflow_sub-marks_at : goal.overflow_sub-marks_at
 overflow_sub-marks_at c =
@@ -83,7 +83,7 @@ pub put_cpi-requires : goal.put_cpi-requires
 put_cpi-requires c =
     let F : List ℕ = c.args.file.now in
     let is-bytes : IsBytes F = (λ i. (c.shared_slice_known-1.given i).fits) in
-    cpi_room F (is-bytes n) c.requires _ c.read-starts.ensures.cpi (c.put_programs.kept.1.1.1.0 ∙ c.put_sequences.kept.1.1.1.1.0 ∙ c.put_head.kept.1.1.1.1.0)
+    cpi_room F is-bytes c.requires _ c.read-starts.ensures.cpi (c.put_programs.kept.1.1.1.0 ∙ c.put_sequences.kept.1.1.1.1.0 ∙ c.put_head.kept.1.1.1.1.0)
 
 pub put_marks-requires : goal.put_marks-requires
 put_marks-requires c =
