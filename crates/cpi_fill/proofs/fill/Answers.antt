@@ -21,8 +21,7 @@ overflow_add-q c =
     let C : ℕ = c.args.start in
     let N : ℕ = c.args.count in
     let S : CpiSection F C N = c.requires.section in
-    let bounds : (C + 8 + 12 * N ≤ length F) × (length F ≤ 536870912) × (c.loop-k.k < N) = ((there F C N S (omega (arith, c.loop-k-test.true))).headers, S.small, c.loop-k-test.true) in
-    let t : goal.In-loop-k = search in omega (arith, bounds t)
+    let bounds : (C + 8 + 12 * N ≤ length F) × (length F ≤ 536870912) × (c.loop-k.k < N) = ((there F C N S (omega (arith, c.loop-k-test.true))).headers, S.small, c.loop-k-test.true) in omega (arith, bounds)
 
 pub overflow_mul-q : goal.overflow_mul-q
 overflow_mul-q c =
@@ -30,8 +29,7 @@ overflow_mul-q c =
     let C : ℕ = c.args.start in
     let N : ℕ = c.args.count in
     let S : CpiSection F C N = c.requires.section in
-    let bounds : (C + 8 + 12 * N ≤ length F) × (length F ≤ 536870912) × (c.loop-k.k < N) = ((there F C N S (omega (arith, c.loop-k-test.true))).headers, S.small, c.loop-k-test.true) in
-    let t : goal.In-loop-k = search in omega (arith, bounds t)
+    let bounds : (C + 8 + 12 * N ≤ length F) × (length F ≤ 536870912) × (c.loop-k.k < N) = ((there F C N S (omega (arith, c.loop-k-test.true))).headers, S.small, c.loop-k-test.true) in omega (arith, bounds)
 
 pub overflow_add-q-in-loop-k : goal.overflow_add-q-in-loop-k
 overflow_add-q-in-loop-k c =
@@ -39,8 +37,7 @@ overflow_add-q-in-loop-k c =
     let C : ℕ = c.args.start in
     let N : ℕ = c.args.count in
     let S : CpiSection F C N = c.requires.section in
-    let bounds : (C + 8 + 12 * N ≤ length F) × (length F ≤ 536870912) × (c.loop-k.k < N) = ((there F C N S (omega (arith, c.loop-k-test.true))).headers, S.small, c.loop-k-test.true) in
-    let t : goal.In-loop-k = search in omega (arith, bounds t)
+    let bounds : (C + 8 + 12 * N ≤ length F) × (length F ≤ 536870912) × (c.loop-k.k < N) = ((there F C N S (omega (arith, c.loop-k-test.true))).headers, S.small, c.loop-k-test.true) in omega (arith, bounds)
 
 pub overflow_mul-k : goal.overflow_mul-k
 overflow_mul-k c =
@@ -48,8 +45,7 @@ overflow_mul-k c =
     let C : ℕ = c.args.start in
     let N : ℕ = c.args.count in
     let S : CpiSection F C N = c.requires.section in
-    let bounds : (C + 8 + 12 * N ≤ length F) × (length F ≤ 536870912) × (c.loop-k.k < N) = ((there F C N S (omega (arith, c.loop-k-test.true))).headers, S.small, c.loop-k-test.true) in
-    let t : goal.In-loop-k = search in omega (arith, bounds t)
+    let bounds : (C + 8 + 12 * N ≤ length F) × (length F ≤ 536870912) × (c.loop-k.k < N) = ((there F C N S (omega (arith, c.loop-k-test.true))).headers, S.small, c.loop-k-test.true) in omega (arith, bounds)
 
 pub put_map-requires : goal.put_map-requires
 put_map-requires c =
@@ -58,8 +54,7 @@ put_map-requires c =
     let N : ℕ = c.args.count in
     let S : CpiSection F C N = c.requires.section in
     let bounds : (C + 8 + 12 * N ≤ length F) × (length F ≤ 536870912) × (c.loop-k.k < N) = ((there F C N S (omega (arith, c.loop-k-test.true))).headers, S.small, c.loop-k-test.true) in
-    let t : goal.In-loop-k = search in
-    (omega (arith, bounds t), map_room c.loop-k.invariant t.loop-k-test.true)
+    (omega (arith, bounds), map_room c.loop-k.invariant c.loop-k-test.true)
 
 pub put_map_entries-n-requires : goal.put_map_entries-n-requires
 put_map_entries-n-requires c =
@@ -68,8 +63,7 @@ put_map_entries-n-requires c =
     let N : ℕ = c.args.count in
     let S : CpiSection F C N = c.requires.section in
     let room : c.loop-k.at + entry_size * fine_count_at F (C + 8 + 12 * c.loop-k.k) ≤ length c.loop-k.entries = entries_room c.loop-k.invariant c.loop-k-test.true in
-    let t : goal.In-loop-k = search in
-    record { map_in_lem = left_map F C N c.loop-k.k t.loop-k-test.true S c.loop-k.invariant.left; fits = room t }
+    record { map_in_lem = left_map F C N c.loop-k.k c.loop-k-test.true S c.loop-k.invariant.left; fits = room }
 
 pub overflow_mul-at : goal.overflow_mul-at
 overflow_mul-at c =
@@ -79,8 +73,7 @@ overflow_mul-at c =
     let S : CpiSection F C N = c.requires.section in
     let bounds : (C + 8 + 12 * N ≤ length F) × (length F ≤ 536870912) × (c.loop-k.k < N) = ((there F C N S (omega (arith, c.loop-k-test.true))).headers, S.small, c.loop-k-test.true) in
     let room : c.loop-k.at + entry_size * fine_count_at F (C + 8 + 12 * c.loop-k.k) ≤ length c.loop-k.entries = entries_room c.loop-k.invariant c.loop-k-test.true in
-    let t : goal.In-loop-k = search in
-    omega (arith, bounds t, room t, c.put_map_entries-n.ensures.value)
+    omega (arith, bounds, room, c.put_map_entries-n.ensures.value)
 
 pub overflow_add-at : goal.overflow_add-at
 overflow_add-at c =
@@ -93,7 +86,7 @@ overflow_add-at c =
     let t : goal.In-loop-k = search in
     let s = B t in
     let l = c.loop-k in
-    omega (arith, bounds t, room t, c.put_map_entries-n.ensures.value)
+    omega (arith, bounds, room, c.put_map_entries-n.ensures.value)
 
 pub loop-k-preserved : goal.loop-k-preserved
 loop-k-preserved c =

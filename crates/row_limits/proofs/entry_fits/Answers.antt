@@ -35,7 +35,7 @@ returns-then-not-time_fits c =
     rw (narrow.0, narrow.1, lt-ltb (t % 2 ^ 32) (2 ^ 32) (omega arith), lt-ltb _ _ c.ranges.packet.fits, time_cells t) in
     let a = c.args in
     let test = c.time_fits in
-    time_fails (ltb (a.time / 4294967296) 1) (eqb (a.time % 512) 0) (both (ltb a.entry_type 16) true) (eqb a.entry_type a.map_type) (sym test.ensures ∙ not-true test.result c.if-not-time_fits.true-raw) ∙ sym left
+    time_fails (ltb (a.time / 4294967296) 1) (eqb (a.time % 512) 0) (both (ltb a.entry_type 16) true) (eqb a.entry_type a.map_type) (sym test.ensures ∙ not-true test.result c.if-not-time_fits.true-raw) ∙ sym (left c)
 
 pub returns : goal.returns
 returns c =

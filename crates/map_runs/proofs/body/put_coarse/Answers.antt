@@ -33,7 +33,7 @@ put_coarse_row-requires c =
     coarse_room a.file.now a.m a.out.now a.at l.out l.walk l.to l.k l.invariant c.loop-k-test.true c.requires.room in
     let t : goal.In-loop-k = search in
     let s = S t in
-    (omega (arith, s.pre.rows.few, t.loop-k-test.true), met_below s.args.file.now s.args.m c.loop-k.k c.meet-first.result c.meet-first.ensures, room t)
+    (omega (arith, s.pre.rows.few, t.loop-k-test.true), met_below s.args.file.now s.args.m c.loop-k.k c.meet-first.result c.meet-first.ensures, room)
 
 pub overflow_add-to : goal.overflow_add-to
 overflow_add-to c =
@@ -42,7 +42,7 @@ overflow_add-to c =
     coarse_room a.file.now a.m a.out.now a.at l.out l.walk l.to l.k l.invariant c.loop-k-test.true c.requires.room in
     let t : goal.In-loop-k = search in
     let s = S t in
-    let inside : c.loop-k.to + 8 ≤ length s.args.out.now = omega (arith, room t, c.loop-k.invariant.long) in
+    let inside : c.loop-k.to + 8 ≤ length s.args.out.now = omega (arith, room, c.loop-k.invariant.long) in
     omega (arith, inside)
 
 pub loop-k-smaller : goal.loop-k-smaller
