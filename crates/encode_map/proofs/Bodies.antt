@@ -7,7 +7,7 @@ use native.Mathlib.Numerals.{add-one}
 use native.Mathlib.Omega.{arith}
 use lib.ListN.{length, length-append}
 use lib.Seq.{sets, length-sets}
-use Rattle.format.specs.Bytes.{bytes_of, field_bytes, fits, packed, flat}
+use Rattle.format.specs.Bytes.{bytes_of, field_bytes, packed, flat}
 use Rattle.format.specs.ClipRecord.{Row, map_pid, map_type_of, angle, i_end_of, time, entry_cells, entry_size}
 use Rattle.format.specs.EntryPoints.{header_widths, coarse_widths, fine_widths}
 use Rattle.format.specs.Refusals.{entry_bits, entry_fits}

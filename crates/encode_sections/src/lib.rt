@@ -94,9 +94,9 @@ pub fn section_length(section: Section, heads: &[u8], n: u32, rows: &[u8], m: u3
     requires { Counted section heads.now n rows.now m }
     ensures { result ≡ length (section_in section heads.now n rows.now m) }
 {
-    let head_bytes_lem = rows_length(head_kind(section), heads, n);
+    let head_bytes = rows_length(head_kind(section), heads, n);
     let row_bytes = rows_length(row_kind(section), rows, m);
-    6 + head_bytes_lem + row_bytes
+    6 + head_bytes + row_bytes
 }
 
 // Stores the section of `len` bytes whose n header rows and m rows stand in these tables; answers the place behind it.

@@ -2,10 +2,10 @@
 use Prim.Native.Nat.{ℕ, suc, ◌+◌, ◌*◌, ◌-◌, ◌<◌, ◌≤◌}
 use mathlib.Core.Path.{◌≡◌, refl, sym, ap, ◌∙◌}
 use mathlib.Core.List.{List, ◌∷◌}
-use mathlib.Core.Bool.{Bool, true, false, not}
+use mathlib.Core.Bool.{Bool, true, false}
 use native.Mathlib.Numerals.{add-one}
 use native.Mathlib.Omega.{arith}
-use borrow.Author.Tests.{eq-eqb, not-true, not-false}
+use borrow.Author.Tests.{eq-eqb}
 use lib.ListN.{length, take, drop}
 use Rattle.format.specs.Bytes.{both, pick, every}
 use Rattle.format.specs.ClipRecord.{Row, time, packet, entry_cells, entry_size}
@@ -95,12 +95,12 @@ module _ (t : List ℕ) (p n type : ℕ) where
 
     module _ (h : from < n) where
       -- the run's first entry does not fit
-      pub first_unfit : {f : Bool} → f ≡ entry_fits type (row_at from) → not f ≡ true → RunEnd.Unfit ≡ end_fit type from (entries_from t p n from)
-      first_unfit {f} is y = along_unfit from (along_first h) h (same_self (row_at from)) (sym is ∙ not-true f y)
+      pub first_unfit : {f : Bool} → f ≡ entry_fits type (row_at from) → f ≡ false → RunEnd.Unfit ≡ end_fit type from (entries_from t p n from)
+      first_unfit {f} is y = along_unfit from (along_first h) h (same_self (row_at from)) (sym is ∙ y)
 
       -- it fits
-      pub first_fit : {f : Bool} → f ≡ entry_fits type (row_at from) → not f ≡ false → Along (from + 1)
-      first_fit {f} is y = along_fit from (along_first h) h (same_self (row_at from)) (sym is ∙ not-false f y)
+      pub first_fit : {f : Bool} → f ≡ entry_fits type (row_at from) → f ≡ true → Along (from + 1)
+      first_fit {f} is y = along_fit from (along_first h) h (same_self (row_at from)) (sym is ∙ y)
 
     -- row k is compared with the run's first entry: g says whether it is in the run and fits, s whether it is in the run
     pub record Compared (k : ℕ) (g s : Bool) : Type 0 where
@@ -111,25 +111,25 @@ module _ (t : List ℕ) (p n type : ℕ) where
 
     -- by the words of both, where the run's first entry fits
     pub words_compared : (k : ℕ) → Along k → k < n → {a b : Words} {f g : Bool} → WordsAre t (p + entry_size * from) a → WordsAre t (p + entry_size * k) b
-        → f ≡ entry_fits type (row_at from) → not f ≡ false → g ≡ goes_on a b → Compared k g (words_same a b)
+        → f ≡ entry_fits type (row_at from) → f ≡ true → g ≡ goes_on a b → Compared k g (words_same a b)
     words_compared k i h {f = f} are those fits y is = record {
       along = i;
       there = h;
-      both_are = is ∙ words_go_on t (p + entry_size * from) (p + entry_size * k) are those type (sym fits ∙ not-false f y);
+      both_are = is ∙ words_go_on t (p + entry_size * from) (p + entry_size * k) are those type (sym fits ∙ y);
       run_is = words_same_lem t (p + entry_size * from) (p + entry_size * k) are those;
     }
 
     module _ (k : ℕ) {g s : Bool} (c : Compared k g s) where
       -- it is in the run and fits
-      pub along_turn : not g ≡ false → Along (k + 1)
-      along_turn y = let parts = both_true (sym c.both_are ∙ not-false g y) in along_fit k c.along c.there parts.0 parts.1
+      pub along_turn : g ≡ true → Along (k + 1)
+      along_turn y = let parts = both_true (sym c.both_are ∙ y) in along_fit k c.along c.there parts.0 parts.1
 
       -- it isn't, or doesn't: which, is told
-      pub along_stopped : not g ≡ true → {r : RunEnd} → r ≡ pick s RunEnd.Unfit (RunEnd.At k) → r ≡ end_fit type from (entries_from t p n from)
+      pub along_stopped : g ≡ false → {r : RunEnd} → r ≡ pick s RunEnd.Unfit (RunEnd.At k) → r ≡ end_fit type from (entries_from t p n from)
       along_stopped y {r} said = said ∙ go s (sym c.run_is)
         where
           go : (s : Bool) → same_run (row_at from) (row_at k) ≡ s → pick s RunEnd.Unfit (RunEnd.At k) ≡ end_fit type from (entries_from t p n from)
-          go true same = along_unfit k c.along c.there same (rw same at (sym c.both_are ∙ not-true g y))
+          go true same = along_unfit k c.along c.there same (rw same at (sym c.both_are ∙ y))
           go false differs = along_stop k c.along c.there differs
 
     -- the run ends with the entries

@@ -2,9 +2,9 @@
 use Prim.Native.Nat.{ℕ, ◌+◌, ◌*◌, ◌/◌, ◌%◌, ◌^◌, ◌<◌}
 use mathlib.Core.Path.{◌≡◌, refl, sym, ap, ap₂, ◌∙◌}
 use mathlib.Core.List.{List}
-use mathlib.Core.Bool.{Bool, true, false, not}
+use mathlib.Core.Bool.{Bool, true, false}
 use native.Mathlib.Omega.{arith}
-use borrow.Author.Tests.{lt-ltb, eqb-true, eqb-false, eq-eqb, ne_eqb, not-false}
+use borrow.Author.Tests.{lt-ltb, eqb-true, eqb-false, eq-eqb, ne_eqb}
 use lib.Bits.{bit_and}
 use lib.Dec.{eqb, ltb, lit≤}
 use Rattle.format.specs.Bytes.{both, pick, fits}
@@ -149,9 +149,9 @@ fit_type : (type : ℕ) (e : Row) → entry_fits type e ≡ true → entry_type_
 fit_type type e h = eqb-true (entry_type_of e) type (both_true {a = eqb (time e % 512) 0} (both_true {a = fits entry_bits e} h).1).1
 
 -- it fits by its words
-pub words_fit : (t : List ℕ) (q type : ℕ) {w : Words} {f : Bool} → WordsAre t q w → f ≡ entry_fits type (cells_at t entry_cells q) → not f ≡ false → entry_fits (words_type w) (words_row w) ≡ true
+pub words_fit : (t : List ℕ) (q type : ℕ) {w : Words} {f : Bool} → WordsAre t q w → f ≡ entry_fits type (cells_at t entry_cells q) → f ≡ true → entry_fits (words_type w) (words_row w) ≡ true
 words_fit t q type {w} {f} are is y =
-    let h = sym is ∙ not-false f y in
+    let h = sym is ∙ y in
     ap₂ entry_fits (are.type_is.same ∙ fit_type type (cells_at t entry_cells q) h) (words_row_lem t q are) ∙ h
 
 -- the words of two entries in a table

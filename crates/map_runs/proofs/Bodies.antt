@@ -6,7 +6,7 @@ use native.Mathlib.Omega.{arith}
 use lib.ListN.{length}
 use lib.Seq.{sets, length-sets}
 use Rattle.format.specs.Bytes.{bytes_of, packed, flat}
-use Rattle.format.specs.ClipRecord.{Row, angle, i_end_of}
+use Rattle.format.specs.ClipRecord.{angle, i_end_of}
 use Rattle.format.specs.EntryPoints.{coarse_widths, fine_widths, fine_at, fine_time, coarse_time, coarse_for, join_time}
 use Rattle.format.specs.Rewriting.{coarse_row, coarse_rows, runs, coarse_bytes, fine_row, fine_bytes, coarse_by, fine_by}
 use Rattle.format.proofs.Fields.{time_cells}

@@ -2,10 +2,9 @@
 use Prim.Native.Nat.{ℕ, ◌+◌, ◌*◌, ◌<◌, ◌≤◌}
 use mathlib.Core.Path.{◌≡◌, sym, ap, ◌∙◌}
 use mathlib.Core.List.{List}
-use mathlib.Core.Bool.{Bool, true, false, not}
+use mathlib.Core.Bool.{Bool, true, false}
 use native.Mathlib.Numerals.{add-one}
 use native.Mathlib.Omega.{arith}
-use borrow.Author.Tests.{not-true, not-false}
 use lib.ListN.{length}
 use Rattle.format.specs.Bytes.{be_at, unpacked}
 use Rattle.format.specs.ClipRecord.{time, packet}
@@ -76,10 +75,10 @@ module _ (f : List ℕ) (m : MapBody) where
 
       -- it is in the run
       pub along_turn : {s : Bool} → s ≡ same_keys first.entry.time first.entry.packet met.entry.time met.entry.packet
-          → not s ≡ false → Along met.walk (k + 1)
+          → s ≡ true → Along met.walk (k + 1)
       unfolding run_end
       along_turn {s = s} e y =
-          let same : same_run (entry_in f m from) (entry_in f m k) ≡ true = sym (same_as e) ∙ not-false s y in
+          let same : same_run (entry_in f m from) (entry_in f m k) ≡ true = sym (same_as e) ∙ y in
           record {
             past = omega (arith, i.past);
             within = omega arith;
@@ -89,10 +88,10 @@ module _ (f : List ℕ) (m : MapBody) where
 
       -- it is the first behind the run
       pub along_stop : {s : Bool} → s ≡ same_keys first.entry.time first.entry.packet met.entry.time met.entry.packet
-          → not s ≡ true → IsEnd f m from (record { row = k; walk = met.walk })
+          → s ≡ false → IsEnd f m from (record { row = k; walk = met.walk })
       unfolding run_end
       along_stop {s = s} e y =
-          let other : same_run (entry_in f m from) (entry_in f m k) ≡ false = sym (same_as e) ∙ not-true s y in
+          let other : same_run (entry_in f m from) (entry_in f m k) ≡ false = sym (same_as e) ∙ y in
           record { row_is = rw (left_turn f m k h, other) at i.rest; walk_is = here.walk_is }
 
     -- the run ends with the entries

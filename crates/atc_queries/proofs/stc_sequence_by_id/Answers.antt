@@ -9,12 +9,12 @@ use Rattle.atc_queries.proofs.stc_sequence_by_id.Goals as goal
 pub returns-then-not-adds_up : goal.returns-then-not-adds_up
 returns-then-not-adds_up c =
     let a = c.args in
-    count_fails 1 stc_cells (stated a.atcs.now a.atc_rows) (stated a.stcs.now a.stc_rows) (stc_by_id (rows_of atc_cells (stated a.atcs.now a.atc_rows)) a.id 0) c.adds_up.ensures c.if-not-adds_up.true ∙ id_asked (stated a.atcs.now a.atc_rows) (stated a.stcs.now a.stc_rows) a.id
+    count_fails 1 stc_cells (stated a.atcs.now a.atc_rows) (stated a.stcs.now a.stc_rows) (stc_by_id (rows_of atc_cells (stated a.atcs.now a.atc_rows)) a.id 0) c.adds_up.ensures c.if-not-adds_up.true-raw ∙ id_asked (stated a.atcs.now a.atc_rows) (stated a.stcs.now a.stc_rows) a.id
 
 pub find_id-requires : goal.find_id-requires
-find_id-requires c = let a = c.args in heads_there a.atcs.now a.stcs.now a.atc_rows a.stc_rows 1 stc_cells c.adds_up.ensures c.if-not-adds_up.false
+find_id-requires c = let a = c.args in heads_there a.atcs.now a.stcs.now a.atc_rows a.stc_rows 1 stc_cells c.adds_up.ensures c.if-not-adds_up.false-raw
 
 pub returns : goal.returns
 returns c =
     let a = c.args in
-    c.find_id.ensures ∙ count_passes 1 stc_cells (stated a.atcs.now a.atc_rows) (stated a.stcs.now a.stc_rows) (stc_by_id (rows_of atc_cells (stated a.atcs.now a.atc_rows)) a.id 0) c.adds_up.ensures c.if-not-adds_up.false ∙ id_asked (stated a.atcs.now a.atc_rows) (stated a.stcs.now a.stc_rows) a.id
+    c.find_id.ensures ∙ count_passes 1 stc_cells (stated a.atcs.now a.atc_rows) (stated a.stcs.now a.stc_rows) (stc_by_id (rows_of atc_cells (stated a.atcs.now a.atc_rows)) a.id 0) c.adds_up.ensures c.if-not-adds_up.false-raw ∙ id_asked (stated a.atcs.now a.atc_rows) (stated a.stcs.now a.stc_rows) a.id

@@ -12,25 +12,25 @@ use Rattle.clip_prepare.proofs.prepare.Goals as goal
 pub read-requires : goal.read-requires
 read-requires c =
     let F : List ℕ = c.args.file.now in
-    let sections : SectionsAre F c.atcs.given.0.0 c.atcs.given.0.1.0 c.atcs.given.0.1.1.0 c.atcs.given.0.1.1.1.0 c.atcs.given.0.1.1.1.1.0 c.atcs.given.0.1.1.1.1.1.0 = sections_are F _ _ _ _ _ _ (sym c.measure.ensures ∙ c.atcs.given.1) in
+    let sections : SectionsAre F c.in-Counts.atcs c.in-Counts.stcs c.in-Counts.programs c.in-Counts.streams c.in-Counts.maps c.in-Counts.entries = sections_are F _ _ _ _ _ _ (sym c.measure.ensures ∙ c.in-Counts.is) in
     let bounds : (length F ≤ 536870912) × (194 ≤ length F) = accepted_bounds F sections.accepts in omega (arith, bounds)
 
 pub measure-found-requires : goal.measure-found-requires
 measure-found-requires c =
     let F : List ℕ = c.args.file.now in
-    let sections : SectionsAre F c.atcs.given.0.0 c.atcs.given.0.1.0 c.atcs.given.0.1.1.0 c.atcs.given.0.1.1.1.0 c.atcs.given.0.1.1.1.1.0 c.atcs.given.0.1.1.1.1.1.0 = sections_are F _ _ _ _ _ _ (sym c.measure.ensures ∙ c.atcs.given.1) in
+    let sections : SectionsAre F c.in-Counts.atcs c.in-Counts.stcs c.in-Counts.programs c.in-Counts.streams c.in-Counts.maps c.in-Counts.entries = sections_are F _ _ _ _ _ _ (sym c.measure.ensures ∙ c.in-Counts.is) in
     let bounds : (length F ≤ 536870912) × (194 ≤ length F) = accepted_bounds F sections.accepts in bounds.0
 
 pub returns-in-Refused : goal.returns-in-Refused
 returns-in-Refused c =
-    record { answer = sections_refused c.args.file.now c.args.bytes _ (sym c.measure.ensures ∙ c.n.given.1); ready = tt }
+    record { answer = sections_refused c.args.file.now c.args.bytes _ (sym c.measure.ensures ∙ c.in-Refused.is); ready = tt }
 
 pub returns-in-Short : goal.returns-in-Short
 returns-in-Short c =
     let F : List ℕ = c.args.file.now in
     let B : Rows = c.args.bytes in
-    let sections : SectionsAre F c.atcs.given.0.0 c.atcs.given.0.1.0 c.atcs.given.0.1.1.0 c.atcs.given.0.1.1.1.0 c.atcs.given.0.1.1.1.1.0 c.atcs.given.0.1.1.1.1.1.0 = sections_are F _ _ _ _ _ _ (sym c.measure.ensures ∙ c.atcs.given.1) in
-    let passed : Passed F c.atcs.given.0.0 c.atcs.given.0.1.0 c.atcs.given.0.1.1.0 c.atcs.given.0.1.1.1.0 c.atcs.given.0.1.1.1.1.0 c.atcs.given.0.1.1.1.1.1.0 c.read.result.extensions c.measure-found.result c.measure_list-second.result c.list_programs.result c.list_streams.result = record {
+    let sections : SectionsAre F c.in-Counts.atcs c.in-Counts.stcs c.in-Counts.programs c.in-Counts.streams c.in-Counts.maps c.in-Counts.entries = sections_are F _ _ _ _ _ _ (sym c.measure.ensures ∙ c.in-Counts.is) in
+    let passed : Passed F c.in-Counts.atcs c.in-Counts.stcs c.in-Counts.programs c.in-Counts.streams c.in-Counts.maps c.in-Counts.entries c.read.result.extensions c.measure-found.result c.measure_list-second.result c.list_programs.result c.list_streams.result = record {
       sections = sections;
       start_is = c.read.ensures.extensions;
       block = c.measure-found.ensures;
@@ -38,14 +38,14 @@ returns-in-Short c =
       lp_is = c.list_programs.ensures;
       ls_is = c.list_streams.ensures;
     } in
-    record { answer = room_short F B passed _ _ c.table_room.ensures c.table.given.1; ready = tt }
+    record { answer = room_short F B passed _ _ c.table_room.ensures c.in-Short.is; ready = tt }
 
 pub returns-in-Enough : goal.returns-in-Enough
 returns-in-Enough c =
     let F : List ℕ = c.args.file.now in
     let B : Rows = c.args.bytes in
-    let sections : SectionsAre F c.atcs.given.0.0 c.atcs.given.0.1.0 c.atcs.given.0.1.1.0 c.atcs.given.0.1.1.1.0 c.atcs.given.0.1.1.1.1.0 c.atcs.given.0.1.1.1.1.1.0 = sections_are F _ _ _ _ _ _ (sym c.measure.ensures ∙ c.atcs.given.1) in
-    let passed : Passed F c.atcs.given.0.0 c.atcs.given.0.1.0 c.atcs.given.0.1.1.0 c.atcs.given.0.1.1.1.0 c.atcs.given.0.1.1.1.1.0 c.atcs.given.0.1.1.1.1.1.0 c.read.result.extensions c.measure-found.result c.measure_list-second.result c.list_programs.result c.list_streams.result = record {
+    let sections : SectionsAre F c.in-Counts.atcs c.in-Counts.stcs c.in-Counts.programs c.in-Counts.streams c.in-Counts.maps c.in-Counts.entries = sections_are F _ _ _ _ _ _ (sym c.measure.ensures ∙ c.in-Counts.is) in
+    let passed : Passed F c.in-Counts.atcs c.in-Counts.stcs c.in-Counts.programs c.in-Counts.streams c.in-Counts.maps c.in-Counts.entries c.read.result.extensions c.measure-found.result c.measure_list-second.result c.list_programs.result c.list_streams.result = record {
       sections = sections;
       start_is = c.read.ensures.extensions;
       block = c.measure-found.ensures;
@@ -54,6 +54,6 @@ returns-in-Enough c =
       ls_is = c.list_streams.ensures;
     } in
     record {
-      answer = room_enough F B passed c.table_room.ensures c.enum_told.given.1;
-      ready = made_ready F B passed c.table_room.ensures c.enum_told.given.1 c.is_list.ensures;
+      answer = room_enough F B passed c.table_room.ensures c.in-Enough.is;
+      ready = made_ready F B passed c.table_room.ensures c.in-Enough.is c.is_list.ensures;
     }

@@ -5,7 +5,7 @@ use Rattle.queries.specs.Answers.{time45_of}
 use Rattle.clpi_answers.proofs.answer_of_45.Goals as goal
 
 pub returns-in-Refused : goal.returns-in-Refused
-returns-in-Refused c = sym (ap (λ x. answer_numbers (time45_of x)) c.time.given.1)
+returns-in-Refused c = sym (ap (λ x. answer_numbers (time45_of x)) c.in-Refused.is)
 
 pub returns-in-Ticks : goal.returns-in-Ticks
-returns-in-Ticks c = sym (ap (λ x. answer_numbers (time45_of x)) c.time-in-Ticks-1.given.1)
+returns-in-Ticks c = sym (ap (λ x. answer_numbers (time45_of x)) c.in-Ticks.is)

@@ -1,5 +1,5 @@
 -- Each turn stores a map's row and its entries; what is left goes behind them.
-use Prim.Native.Nat.{ℕ, ◌+◌, ◌*◌, ◌-◌, ◌≤◌, ◌<◌}
+use Prim.Native.Nat.{ℕ, ◌+◌, ◌*◌, ◌≤◌, ◌<◌}
 use mathlib.Core.List.{List}
 use lib.ListN.{length}
 use Rattle.format.specs.EntryPoints.{fine_count_at}
@@ -22,7 +22,7 @@ overflow_add-q c =
     let N : ℕ = c.args.count in
     let S : CpiSection F C N = c.requires.section in
     let bounds : (C + 8 + 12 * N ≤ length F) × (length F ≤ 536870912) × (c.loop-k.k < N) = ((there F C N S (omega (arith, c.loop-k-test.true))).headers, S.small, c.loop-k-test.true) in
-    let t : goal.In-loop-k = search in omega (arith, bounds t)
+    omega (arith, bounds)
 
 pub overflow_mul-q : goal.overflow_mul-q
 overflow_mul-q c =
@@ -31,7 +31,7 @@ overflow_mul-q c =
     let N : ℕ = c.args.count in
     let S : CpiSection F C N = c.requires.section in
     let bounds : (C + 8 + 12 * N ≤ length F) × (length F ≤ 536870912) × (c.loop-k.k < N) = ((there F C N S (omega (arith, c.loop-k-test.true))).headers, S.small, c.loop-k-test.true) in
-    let t : goal.In-loop-k = search in omega (arith, bounds t)
+    omega (arith, bounds)
 
 pub overflow_add-q-in-loop-k : goal.overflow_add-q-in-loop-k
 overflow_add-q-in-loop-k c =
@@ -40,7 +40,7 @@ overflow_add-q-in-loop-k c =
     let N : ℕ = c.args.count in
     let S : CpiSection F C N = c.requires.section in
     let bounds : (C + 8 + 12 * N ≤ length F) × (length F ≤ 536870912) × (c.loop-k.k < N) = ((there F C N S (omega (arith, c.loop-k-test.true))).headers, S.small, c.loop-k-test.true) in
-    let t : goal.In-loop-k = search in omega (arith, bounds t)
+    omega (arith, bounds)
 
 pub overflow_mul-k : goal.overflow_mul-k
 overflow_mul-k c =
@@ -49,7 +49,7 @@ overflow_mul-k c =
     let N : ℕ = c.args.count in
     let S : CpiSection F C N = c.requires.section in
     let bounds : (C + 8 + 12 * N ≤ length F) × (length F ≤ 536870912) × (c.loop-k.k < N) = ((there F C N S (omega (arith, c.loop-k-test.true))).headers, S.small, c.loop-k-test.true) in
-    let t : goal.In-loop-k = search in omega (arith, bounds t)
+    omega (arith, bounds)
 
 pub put_map-requires : goal.put_map-requires
 put_map-requires c =
@@ -58,8 +58,7 @@ put_map-requires c =
     let N : ℕ = c.args.count in
     let S : CpiSection F C N = c.requires.section in
     let bounds : (C + 8 + 12 * N ≤ length F) × (length F ≤ 536870912) × (c.loop-k.k < N) = ((there F C N S (omega (arith, c.loop-k-test.true))).headers, S.small, c.loop-k-test.true) in
-    let t : goal.In-loop-k = search in
-    (omega (arith, bounds t), map_room c.loop-k.invariant t.loop-k-test.true)
+    (omega (arith, bounds), map_room c.loop-k.invariant c.loop-k-test.true)
 
 pub put_map_entries-n-requires : goal.put_map_entries-n-requires
 put_map_entries-n-requires c =
@@ -68,8 +67,7 @@ put_map_entries-n-requires c =
     let N : ℕ = c.args.count in
     let S : CpiSection F C N = c.requires.section in
     let room : c.loop-k.at + entry_size * fine_count_at F (C + 8 + 12 * c.loop-k.k) ≤ length c.loop-k.entries = entries_room c.loop-k.invariant c.loop-k-test.true in
-    let t : goal.In-loop-k = search in
-    record { map_in_lem = left_map F C N c.loop-k.k t.loop-k-test.true S c.loop-k.invariant.left; fits = room t }
+    record { map_in_lem = left_map F C N c.loop-k.k c.loop-k-test.true S c.loop-k.invariant.left; fits = room }
 
 pub overflow_mul-at : goal.overflow_mul-at
 overflow_mul-at c =
@@ -79,8 +77,7 @@ overflow_mul-at c =
     let S : CpiSection F C N = c.requires.section in
     let bounds : (C + 8 + 12 * N ≤ length F) × (length F ≤ 536870912) × (c.loop-k.k < N) = ((there F C N S (omega (arith, c.loop-k-test.true))).headers, S.small, c.loop-k-test.true) in
     let room : c.loop-k.at + entry_size * fine_count_at F (C + 8 + 12 * c.loop-k.k) ≤ length c.loop-k.entries = entries_room c.loop-k.invariant c.loop-k-test.true in
-    let t : goal.In-loop-k = search in
-    omega (arith, bounds t, room t, c.put_map_entries-n.ensures.value)
+    omega (arith, bounds, room, c.put_map_entries-n.ensures.value)
 
 pub overflow_add-at : goal.overflow_add-at
 overflow_add-at c =
@@ -90,10 +87,7 @@ overflow_add-at c =
     let S : CpiSection F C N = c.requires.section in
     let bounds : (C + 8 + 12 * N ≤ length F) × (length F ≤ 536870912) × (c.loop-k.k < N) = ((there F C N S (omega (arith, c.loop-k-test.true))).headers, S.small, c.loop-k-test.true) in
     let room : c.loop-k.at + entry_size * fine_count_at F (C + 8 + 12 * c.loop-k.k) ≤ length c.loop-k.entries = entries_room c.loop-k.invariant c.loop-k-test.true in
-    let t : goal.In-loop-k = search in
-    let s = B t in
-    let l = c.loop-k in
-    omega (arith, bounds t, room t, c.put_map_entries-n.ensures.value)
+    omega (arith, bounds, room, c.put_map_entries-n.ensures.value)
 
 pub loop-k-preserved : goal.loop-k-preserved
 loop-k-preserved c =
@@ -107,4 +101,6 @@ pub shape_of-entries : goal.shape_of-entries
 shape_of-entries c = c.loop-k.invariant.entries_left_lem.long
 
 pub returns : goal.returns
-returns c = filling_done c.loop-k.invariant c.loop-k-test.false
+returns c =
+    let r = filling_done c.loop-k.invariant c.loop-k-test.false in
+    record { maps_after = r.0; entries_after = r.1 }

@@ -11,12 +11,12 @@ use Rattle.cpi_queries.proofs.video_or_least.Goals as goal
 pub returns-in-Refused : goal.returns-in-Refused
 returns-in-Refused c =
     let a = c.args in
-    else_refused (least_pid (map map_pid (table_rows_of map_cells a.maps.now a.rows))) (ap found_of (sym c.refusal.given.1) ∙ c.next_video_ep_map.ensures)
+    else_refused (least_pid (map map_pid (table_rows_of map_cells a.maps.now a.rows))) (ap found_of (sym c.in-Refused.is) ∙ c.next_video_ep_map.ensures)
 
 pub returns-in-Nothing : goal.returns-in-Nothing
-returns-in-Nothing c = else_later (ap found_of (sym c.enum_told.given.1) ∙ c.next_video_ep_map.ensures) c.least_pid.ensures
+returns-in-Nothing c = else_later (ap found_of (sym c.in-Nothing.is) ∙ c.next_video_ep_map.ensures) c.least_pid.ensures
 
 pub returns-in-Number : goal.returns-in-Number
 returns-in-Number c =
     let a = c.args in
-    else_found (least_pid (map map_pid (table_rows_of map_cells a.maps.now a.rows))) (ap found_of (sym c.row.given.1) ∙ c.next_video_ep_map.ensures)
+    else_found (least_pid (map map_pid (table_rows_of map_cells a.maps.now a.rows))) (ap found_of (sym c.in-Number.is) ∙ c.next_video_ep_map.ensures)

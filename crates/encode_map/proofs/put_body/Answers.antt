@@ -4,9 +4,10 @@ use native.Mathlib.Omega.{arith}
 use Rattle.runs.specs.Runs.{entries_at}
 use Rattle.encode_map.proofs.Bodies.{body_size, runs_within, body_below}
 use Rattle.encode_map.proofs.put_body.Goals as goal
+use Rattle.encode_map.proofs.put_body.Goals.{After-put_rows-coarse}
 
 -- there is room for the fine address
-deep : (c : goal.After-put_rows-coarse) → 4 ≤ c.put_rows-coarse.result
+deep : (c : After-put_rows-coarse) → 4 ≤ c.put_rows-coarse.result
 deep c =
     let a = c.args in
     omega (arith, c.requires.below, c.put_rows-coarse.ensures.n_value, body_size a.entries.now a.p a.n)
@@ -27,7 +28,7 @@ put_rows-coarse-requires c =
     }
 
 pub overflow_sub-coarse : goal.overflow_sub-coarse
-overflow_sub-coarse c = deep c
+overflow_sub-coarse c = deep (goal.at.overflow_sub-coarse c).After-put_rows-coarse
 
 pub overflow_cast-fine : goal.overflow_cast-fine
 overflow_cast-fine c =
@@ -36,13 +37,13 @@ overflow_cast-fine c =
 
 pub put_u32-requires : goal.put_u32-requires
 put_u32-requires c =
-    omega (arith, deep c, c.requires.room, c.put_rows-coarse.ensures.n_value, c.put_rows-coarse.auto)
+    omega (arith, deep (goal.at.put_u32-requires c).After-put_rows-coarse, c.requires.room, c.put_rows-coarse.ensures.n_value, c.put_rows-coarse.auto)
 
 pub overflow_sub-result : goal.overflow_sub-result
-overflow_sub-result c = deep c
+overflow_sub-result c = deep (goal.at.overflow_sub-result c).After-put_rows-coarse
 
 pub returns : goal.returns
 returns c =
     let a = c.args in
     let rows = c.put_rows-coarse in
-    let room = deep c in record { n_value = omega (arith, rows.ensures.0, room, body_size a.entries.now a.p a.n, c.requires.below); out_after = body_below (entries_at a.entries.now a.p a.n) a.out.now rows.result (a.end - 4 * a.n) rows.ensures.0 room rows.ensures.1 c.put_u32.ensures }
+    let room = deep (goal.at.returns c).After-put_rows-coarse in record { n_value = omega (arith, rows.ensures.n_value, room, body_size a.entries.now a.p a.n, c.requires.below); out_after = body_below (entries_at a.entries.now a.p a.n) a.out.now rows.result (a.end - 4 * a.n) rows.ensures.n_value room rows.ensures.out_after c.put_u32.ensures }

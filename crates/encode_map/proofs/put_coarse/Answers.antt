@@ -1,6 +1,6 @@
 -- In the run of the entry before it an entry has no coarse row, else one.
 use Rattle.format.specs.Rewriting.{coarse_by}
-use Prim.Native.Nat.{◌-◌, ◌≤◌}
+use Prim.Native.Nat.{◌≤◌}
 use mathlib.Core.Path.{◌≡◌}
 use mathlib.Core.List.{[], ◌∷◌}
 use native.Mathlib.Omega.{arith}
@@ -11,33 +11,29 @@ use Rattle.encode_map.proofs.put_coarse.Goals as goal
 pub returns-then-same_run : goal.returns-then-same_run
 returns-then-same_run c =
     let a = c.args in
-    own_kept (own_by a.k a a.pair) a.out.now a.to (own_none a.k a a.pair c.same_run.ensures c.if-same_run.true)
+    let r = own_kept (own_by a.k a.before a.pair) a.out.now a.to (own_none a.k a.before a.pair c.same_run.ensures c.if-same_run.true) in record { pair_value = r.0; out_after = r.1 }
 
 pub overflow_sub-to : goal.overflow_sub-to
 overflow_sub-to c =
-    let start : goal.Start = c in
-    let one : own_by start.args.k start.args start.args.pair ≡ coarse_by start.args.k start.args.pair.time start.args.pair.packet ∷ [] = let a = start.args in own_one a.k a a.pair c.same_run.ensures c.if-same_run.false in
-    let deep : 8 ≤ start.args.to = let below = rw one at start.pre.below in omega arith in
+    let one : own_by c.args.k c.args.before c.args.pair ≡ coarse_by c.args.k c.args.pair.time c.args.pair.packet ∷ [] = let a = c.args in own_one a.k a.before a.pair c.same_run.ensures c.if-same_run.false in
+    let deep : 8 ≤ c.args.to = let below = rw one at c.requires.below in omega arith in
     deep
 
 pub put_coarse_row-requires : goal.put_coarse_row-requires
 put_coarse_row-requires c =
-    let start : goal.Start = c in
-    let one : own_by start.args.k start.args start.args.pair ≡ coarse_by start.args.k start.args.pair.time start.args.pair.packet ∷ [] = let a = start.args in own_one a.k a a.pair c.same_run.ensures c.if-same_run.false in
-    let deep : 8 ≤ start.args.to = let below = rw one at start.pre.below in omega arith in
+    let one : own_by c.args.k c.args.before c.args.pair ≡ coarse_by c.args.k c.args.pair.time c.args.pair.packet ∷ [] = let a = c.args in own_one a.k a.before a.pair c.same_run.ensures c.if-same_run.false in
+    let deep : 8 ≤ c.args.to = let below = rw one at c.requires.below in omega arith in
     (omega (arith, c.requires.few), c.requires.narrow, omega (arith, deep, c.requires.room))
 
 pub overflow_sub-result : goal.overflow_sub-result
 overflow_sub-result c =
-    let start : goal.Start = c in
-    let one : own_by start.args.k start.args start.args.pair ≡ coarse_by start.args.k start.args.pair.time start.args.pair.packet ∷ [] = let a = start.args in own_one a.k a a.pair c.same_run.ensures c.if-same_run.false in
-    let deep : 8 ≤ start.args.to = let below = rw one at start.pre.below in omega arith in
+    let one : own_by c.args.k c.args.before c.args.pair ≡ coarse_by c.args.k c.args.pair.time c.args.pair.packet ∷ [] = let a = c.args in own_one a.k a.before a.pair c.same_run.ensures c.if-same_run.false in
+    let deep : 8 ≤ c.args.to = let below = rw one at c.requires.below in omega arith in
     deep
 
 pub returns : goal.returns
 returns c =
-    let start : goal.Start = c in
-    let one : own_by start.args.k start.args start.args.pair ≡ coarse_by start.args.k start.args.pair.time start.args.pair.packet ∷ [] = let a = start.args in own_one a.k a a.pair c.same_run.ensures c.if-same_run.false in
-    let deep : 8 ≤ start.args.to = let below = rw one at start.pre.below in omega arith in
+    let one : own_by c.args.k c.args.before c.args.pair ≡ coarse_by c.args.k c.args.pair.time c.args.pair.packet ∷ [] = let a = c.args in own_one a.k a.before a.pair c.same_run.ensures c.if-same_run.false in
+    let deep : 8 ≤ c.args.to = let below = rw one at c.requires.below in omega arith in
     let a = c.args in
-    own_stored (own_by a.k a a.pair) (coarse_by a.k a.pair.time a.pair.packet) a.out.now a.to one deep c.put_coarse_row.ensures
+    let r = own_stored (own_by a.k a.before a.pair) (coarse_by a.k a.pair.time a.pair.packet) a.out.now a.to one deep c.put_coarse_row.ensures in record { pair_value = r.0; out_after = r.1 }

@@ -17,8 +17,8 @@ put_header-requires c =
     let a = c.args in
     let body = c.put_body-body in (
       omega (arith, c.requires.kind_fits, c.cell_at-kind.ensures.same),
-      omega (arith, c.requires.runs_fit_lem, body.ensures.0, body_size a.entries.now a.p a.n),
-      omega (arith, c.requires.body_room.few, c.requires.runs_fit_lem, body.ensures.0, body_size a.entries.now a.p a.n),
+      omega (arith, c.requires.runs_fit_lem, body.ensures.n_value, body_size a.entries.now a.p a.n),
+      omega (arith, c.requires.body_room.few, c.requires.runs_fit_lem, body.ensures.n_value, body_size a.entries.now a.p a.n),
       omega (arith, c.requires.header_room, c.requires.body_room.room, body.auto),
     )
 
@@ -26,7 +26,7 @@ pub returns : goal.returns
 returns c =
     let a = c.args in
     let put = c.put_body-body in record {
-      n_value = put.ensures.0;
-      out_after = map_put a.entries.now a.p a.n a.maps.now a.k a.out.now a.at put.result c.cell_at-pid.ensures c.cell_at-kind.ensures (omega (arith, put.ensures.0, body_size a.entries.now a.p a.n))
-          put.ensures.1 c.put_header.ensures;
+      n_value = put.ensures.n_value;
+      out_after = map_put a.entries.now a.p a.n a.maps.now a.k a.out.now a.at put.result c.cell_at-pid.ensures c.cell_at-kind.ensures (omega (arith, put.ensures.n_value, body_size a.entries.now a.p a.n))
+          put.ensures.out_after c.put_header.ensures;
     }

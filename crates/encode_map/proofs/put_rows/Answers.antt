@@ -6,17 +6,18 @@ use lib.ListN.{length}
 use Rattle.format.specs.ClipRecord.{entry_size}
 use Rattle.encode_map.proofs.Bodies.{stored_empty, turning_first, turning_room, turning_next, first_pair, first_room, first_stored, pair_narrow, row_fits}
 use Rattle.encode_map.proofs.put_rows.Goals as goal
+use Rattle.encode_map.proofs.put_rows.Goals.{In-loop-k}
 
 -- within the loop the entry lies inside its table
-row_there : (c : goal.In-loop-k) → let a = c.args in a.p + entry_size * c.loop-k.k + entry_size ≤ length a.entries.now
+row_there : (c : In-loop-k) → let a = c.args in a.p + entry_size * c.loop-k.k + entry_size ≤ length a.entries.now
 row_there c = omega (arith, c.requires.there, c.loop-k.invariant.stored.within)
 
 -- so does its fine row inside the output
-fine-there : (c : goal.In-loop-k) → c.args.fine + 4 * c.loop-k.k + 4 ≤ length c.loop-k.out
+fine-there : (c : In-loop-k) → c.args.fine + 4 * c.loop-k.k + 4 ≤ length c.loop-k.out
 fine-there c = omega (arith, c.requires.room, c.loop-k.invariant.stored.within, c.loop-k.invariant.stored.long)
 
 pub returns-then-n-eq0 : goal.returns-then-n-eq0
-returns-then-n-eq0 c = let a = c.args in stored_empty a.entries.now a.p a.n a.out.now a.fine c.if-n-eq0.true
+returns-then-n-eq0 c = let a = c.args in let r = stored_empty a.entries.now a.p a.n a.out.now a.fine c.if-n-eq0.true in record { n_value = r.0; out_after = r.1 }
 
 pub overflow_sub-k : goal.overflow_sub-k
 overflow_sub-k c = omega (arith, c.if-n-eq0.false)
@@ -34,33 +35,33 @@ pub loop-k-init : goal.loop-k-init
 loop-k-init c = let a = c.args in turning_first a.entries.now a.p a.n a.out.now a.fine (a.n - 1) (omega (arith, c.if-n-eq0.false)) refl c.pair_at-pair.ensures
 
 pub overflow_mul-q : goal.overflow_mul-q
-overflow_mul-q c = omega (arith, row_there c)
+overflow_mul-q c = omega (arith, row_there (goal.at.overflow_mul-q c).In-loop-k)
 
 pub overflow_add-q : goal.overflow_add-q
-overflow_add-q c = omega (arith, row_there c)
+overflow_add-q c = omega (arith, row_there (goal.at.overflow_add-q c).In-loop-k)
 
 pub overflow_sub-q : goal.overflow_sub-q
 overflow_sub-q c = omega (arith, c.loop-k-test.true)
 
 pub pair_at-before-requires : goal.pair_at-before-requires
-pair_at-before-requires c = omega (arith, row_there c, c.loop-k-test.true)
+pair_at-before-requires c = omega (arith, row_there (goal.at.pair_at-before-requires c).In-loop-k, c.loop-k-test.true)
 
 pub overflow_mul-k-in-loop-k : goal.overflow_mul-k-in-loop-k
-overflow_mul-k-in-loop-k c = omega (arith, fine-there c)
+overflow_mul-k-in-loop-k c = omega (arith, fine-there (goal.at.overflow_mul-k-in-loop-k c).In-loop-k)
 
 pub overflow_add-fine : goal.overflow_add-fine
-overflow_add-fine c = omega (arith, fine-there c)
+overflow_add-fine c = omega (arith, fine-there (goal.at.overflow_add-fine c).In-loop-k)
 
 pub put_fine-requires : goal.put_fine-requires
 put_fine-requires c =
     let a = c.args in
     let l = c.loop-k in
     record {
-      there = row_there c;
+      there = row_there (goal.at.put_fine-requires c).In-loop-k;
       is = l.invariant.is;
       type = c.requires.fit.type;
       fit = row_fits a.entries.now a.p a.n l.k c.requires.fit l.invariant.stored.within;
-      room = fine-there c;
+      room = fine-there (goal.at.put_fine-requires c).In-loop-k;
     }
 
 pub put_coarse-to-requires : goal.put_coarse-to-requires
@@ -85,7 +86,7 @@ loop-k-preserved c =
     let a = c.args in
     let l = c.loop-k in
     let put = c.put_coarse-to.ensures in
-    turning_next a.entries.now a.p a.n a.out.now a.fine l.out l.to l.k l.pair l.invariant (omega (arith, c.loop-k-test.true)) c.pair_at-before.ensures c.put_fine.ensures put.0 put.1
+    turning_next a.entries.now a.p a.n a.out.now a.fine l.out l.to l.k l.pair l.invariant (omega (arith, c.loop-k-test.true)) c.pair_at-before.ensures c.put_fine.ensures put.pair_value put.out_after
 
 pub put_fine-requires-2 : goal.put_fine-requires-2
 put_fine-requires-2 c =
@@ -119,7 +120,7 @@ put_coarse_row-requires c =
     let fit = row_fits a.entries.now a.p a.n l.k c.requires.fit l.invariant.stored.within in (
       omega arith,
       pair_narrow a.entries.now (a.p + entry_size * l.k) c.requires.fit.type fit l.invariant.is,
-      omega (arith, deep c, c.requires.room, l.invariant.stored.place, l.invariant.stored.long, c.put_fine-2.auto),
+      omega (arith, deep, c.requires.room, l.invariant.stored.place, l.invariant.stored.long, c.put_fine-2.auto),
     )
 
 pub overflow_sub-result : goal.overflow_sub-result
@@ -135,5 +136,6 @@ returns c =
     let last : c.loop-k.k ≡ 0 = omega (arith, c.loop-k-test.false) in
     let a = c.args in
     let l = c.loop-k in
-    first_stored a.entries.now a.p a.n a.out.now a.fine some l.out l.to l.k l.pair l.invariant last c.requires.below
-    c.put_fine-2.ensures c.put_coarse_row.ensures
+    let r = first_stored a.entries.now a.p a.n a.out.now a.fine some l.out l.to l.k l.pair l.invariant last c.requires.below
+    c.put_fine-2.ensures c.put_coarse_row.ensures in
+    record { n_value = r.0; out_after = r.1 }

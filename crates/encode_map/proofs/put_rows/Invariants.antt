@@ -1,5 +1,4 @@
 -- Each turn stores the rows of one entry below those of the entries behind it.
-use Prim.Native.Nat.{◌-◌}
 use Rattle.encode_map.proofs.Bodies.{Turning}
 use Rattle.encode_map.proofs.put_rows.Given as goal
 

@@ -12,10 +12,6 @@ use Rattle.encode_rows.specs.Rows.{step_of, rows_bytes}
 use Rattle.encode_rows.proofs.Rows.{cells_few, pass_first, row_inside, pass_turn, same_bytes_lem}
 use Rattle.encode_rows.proofs.put_rows.Goals as goal
 
--- the next row ends inside the table
-inside : (c : goal.In-loop-k) → let a = c.args in c.loop-k.q + 4 * cells_of a.kind ≤ length a.t.now
-inside c = row_inside c.args.kind c.loop-k.invariant.0 c.loop-k-test.true c.requires.0
-
 pub overflow_mul-step : goal.overflow_mul-step
 overflow_mul-step c = record { fits = omega (arith, c.cells_of-step.ensures, cells_few c.args.kind) }
 
@@ -28,7 +24,9 @@ loop-k-init c =
     )
 
 pub table_row-requires : goal.table_row-requires
-table_row-requires c = inside c
+table_row-requires c =
+    let inside : let a = c.args in c.loop-k.q + 4 * cells_of a.kind ≤ length a.t.now = row_inside c.args.kind c.loop-k.invariant.0 c.loop-k-test.true c.requires.0 in
+    inside
 
 pub put_row-to-requires : goal.put_row-to-requires
 put_row-to-requires c =
@@ -38,7 +36,9 @@ put_row-to-requires c =
     rw (same_bytes_lem a.kind row.result row.ensures) (row_room_lem (cells_at a.t.now (cells_of a.kind)) (step_of a.kind) (bytes_by a.kind) l.q a.n l.k l.invariant.1 c.loop-k-test.true)
 
 pub overflow_add-q : goal.overflow_add-q
-overflow_add-q c = record { fits = omega (arith, c.cells_of-step.ensures, inside c) }
+overflow_add-q c =
+    let inside : let a = c.args in c.loop-k.q + 4 * cells_of a.kind ≤ length a.t.now = row_inside c.args.kind c.loop-k.invariant.0 c.loop-k-test.true c.requires.0 in
+    record { fits = omega (arith, c.cells_of-step.ensures, inside) }
 
 pub loop-k-preserved : goal.loop-k-preserved
 loop-k-preserved c =

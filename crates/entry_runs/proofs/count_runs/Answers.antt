@@ -1,14 +1,14 @@
 -- Each turn goes from a run whose entries fit to the next.
-use Prim.Native.Nat.{◌-◌}
 use native.Mathlib.Omega.{arith}
 use Rattle.entry_runs.proofs.Runs.{NextRun, next_run, run_unfit, counted_first, counted_turn, counted_unfit, counted_done}
 use Rattle.entry_runs.proofs.count_runs.Goals as goal
+use Rattle.entry_runs.proofs.count_runs.Goals.{In-At}
 
 -- the next run begins where this one ends
-next : (c : goal.In-At-2) → let a = c.args in NextRun a.entries.now a.p a.n a.map_type c.loop-k.k c.end.given.0.0
+next : (c : In-At) → let a = c.args in NextRun a.entries.now a.p a.n a.map_type c.loop-k.k c.in-At.end
 next c =
     let a = c.args in
-    next_run a.entries.now a.p a.n a.map_type c.loop-k.k c.loop-k-test.true c.run_end.ensures c.end.given.1
+    next_run a.entries.now a.p a.n a.map_type c.loop-k.k c.loop-k-test.true c.run_end.ensures c.in-At.is
 
 pub loop-k-init : goal.loop-k-init
 loop-k-init c = let a = c.args in counted_first a.entries.now a.p a.n a.map_type
@@ -16,15 +16,15 @@ loop-k-init c = let a = c.args in counted_first a.entries.now a.p a.n a.map_type
 pub returns-in_default : goal.returns-in_default
 returns-in_default c =
     let a = c.args in
-    counted_unfit a.entries.now a.p a.n a.map_type c.loop-k.count c.loop-k.k c.loop-k.invariant (run_unfit a.entries.now a.p a.n a.map_type c.loop-k.k c.loop-k-test.true c.run_end.ensures c.enum_told.given.1)
+    counted_unfit a.entries.now a.p a.n a.map_type c.loop-k.count c.loop-k.k c.loop-k.invariant (run_unfit a.entries.now a.p a.n a.map_type c.loop-k.k c.loop-k-test.true c.run_end.ensures c.in_default.is)
 
 pub loop-k-smaller : goal.loop-k-smaller
-loop-k-smaller c = omega (arith, (next c).past)
+loop-k-smaller c = omega (arith, (next (goal.at.loop-k-smaller c).In-At).past)
 
 pub loop-k-preserved : goal.loop-k-preserved
 loop-k-preserved c =
     let a = c.args in
-    counted_turn a.entries.now a.p a.n a.map_type c.loop-k.count c.loop-k.k c.loop-k.invariant (next c)
+    counted_turn a.entries.now a.p a.n a.map_type c.loop-k.count c.loop-k.k c.loop-k.invariant (next (goal.at.loop-k-preserved c).In-At)
 
 pub returns : goal.returns
 returns c =

@@ -1,5 +1,4 @@
 -- Each turn passes an entry that is in the run of the first and fits.
-use Prim.Native.Nat.{◌-◌}
 use Rattle.entry_runs.specs.Fitting.{words_same}
 use Rattle.entry_runs.proofs.Runs.{Compared, first_unfit, first_fit, words_compared, along_turn, along_stopped, along_done}
 use Rattle.entry_runs.proofs.Words.{words_fit}

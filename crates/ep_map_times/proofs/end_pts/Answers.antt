@@ -7,19 +7,18 @@ use Rattle.ep_map_queries.proofs.Answers.{not_asked, asked, inside}
 use Rattle.ep_map_times.proofs.Lasts.{end_asks}
 use Rattle.ep_map_times.proofs.end_pts.Goals as goal
 
--- the map's own entries
-own : (k : goal.In-Rows) → let a = k.args in owns k.first.given.0.0 k.first.given.0.1.0 ≡ owned_entries (stated a.maps.now a.map_rows) (stated a.entries.now a.entry_rows) a.map
-own k = sym (ap owned_of k.first.given.1) ∙ k.entries_of_map.ensures
-
 pub end_time-requires : goal.end_time-requires
-end_time-requires c = let a = c.args in inside (stated a.maps.now a.map_rows) (stated a.entries.now a.entry_rows) a.map (own c)
+end_time-requires c =
+    let own : let a = c.args in owns c.in-Rows.first c.in-Rows.count ≡ owned_entries (stated a.maps.now a.map_rows) (stated a.entries.now a.entry_rows) a.map = sym (ap owned_of c.in-Rows.is) ∙ c.entries_of_map.ensures in
+    let a = c.args in inside (stated a.maps.now a.map_rows) (stated a.entries.now a.entry_rows) a.map own
 
 pub returns-in-Refused : goal.returns-in-Refused
 returns-in-Refused c =
     let a = c.args in
-    not_asked (end_asks (stated a.maps.now a.map_rows) (stated a.entries.now a.entry_rows) a.map a.is_last) (sym (ap owned_of c.enum_told.given.1) ∙ c.entries_of_map.ensures)
+    not_asked (end_asks (stated a.maps.now a.map_rows) (stated a.entries.now a.entry_rows) a.map a.is_last) (sym (ap owned_of c.in-Refused.is) ∙ c.entries_of_map.ensures)
 
 pub returns-in-Rows : goal.returns-in-Rows
 returns-in-Rows c =
+    let own : let a = c.args in owns c.in-Rows.first c.in-Rows.count ≡ owned_entries (stated a.maps.now a.map_rows) (stated a.entries.now a.entry_rows) a.map = sym (ap owned_of c.in-Rows.is) ∙ c.entries_of_map.ensures in
     let a = c.args in
-    c.end_time.ensures ∙ asked (end_asks (stated a.maps.now a.map_rows) (stated a.entries.now a.entry_rows) a.map a.is_last) (own c)
+    c.end_time.ensures ∙ asked (end_asks (stated a.maps.now a.map_rows) (stated a.entries.now a.entry_rows) a.map a.is_last) own

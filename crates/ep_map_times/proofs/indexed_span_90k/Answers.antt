@@ -8,19 +8,18 @@ use Rattle.ep_map_queries.proofs.Answers.{not_asked, asked, inside}
 use Rattle.ep_map_times.proofs.Lasts.{span_asks}
 use Rattle.ep_map_times.proofs.indexed_span_90k.Goals as goal
 
--- the map's own entries
-own : (k : goal.In-Rows) → let a = k.args in owns k.first.given.0.0 k.first.given.0.1.0 ≡ owned_entries (stated a.maps.now a.map_rows) (stated a.entries.now a.entry_rows) a.map
-own k = sym (ap owned_of k.first.given.1) ∙ k.entries_of_map.ensures
-
 pub span-requires : goal.span-requires
-span-requires c = let a = c.args in inside (stated a.maps.now a.map_rows) (stated a.entries.now a.entry_rows) a.map (own c)
+span-requires c =
+    let own : let a = c.args in owns c.in-Rows.first c.in-Rows.count ≡ owned_entries (stated a.maps.now a.map_rows) (stated a.entries.now a.entry_rows) a.map = sym (ap owned_of c.in-Rows.is) ∙ c.entries_of_map.ensures in
+    let a = c.args in inside (stated a.maps.now a.map_rows) (stated a.entries.now a.entry_rows) a.map own
 
 pub returns-in-Refused : goal.returns-in-Refused
 returns-in-Refused c =
     let a = c.args in
-    not_asked (span_asks (stated a.maps.now a.map_rows) (stated a.entries.now a.entry_rows) a.map) (sym (ap owned_of c.enum_told.given.1) ∙ c.entries_of_map.ensures)
+    not_asked (span_asks (stated a.maps.now a.map_rows) (stated a.entries.now a.entry_rows) a.map) (sym (ap owned_of c.in-Refused.is) ∙ c.entries_of_map.ensures)
 
 pub returns-in-Rows : goal.returns-in-Rows
 returns-in-Rows c =
+    let own : let a = c.args in owns c.in-Rows.first c.in-Rows.count ≡ owned_entries (stated a.maps.now a.map_rows) (stated a.entries.now a.entry_rows) a.map = sym (ap owned_of c.in-Rows.is) ∙ c.entries_of_map.ensures in
     let a = c.args in
-    ap (λ x. ticks90 x) c.span.ensures ∙ asked (span_asks (stated a.maps.now a.map_rows) (stated a.entries.now a.entry_rows) a.map) (own c)
+    ap (λ x. ticks90 x) c.span.ensures ∙ asked (span_asks (stated a.maps.now a.map_rows) (stated a.entries.now a.entry_rows) a.map) own

@@ -2,7 +2,7 @@
 use Rattle.extension.proofs.rows_of.Goals as goal
 
 pub returns-in-Kept : goal.returns-in-Kept
-returns-in-Kept c = rw c.enum_told.given.1
+returns-in-Kept c = rw c.in-Kept.is
 
 pub returns-in-LeftOut : goal.returns-in-LeftOut
-returns-in-LeftOut c = rw c.enum_told-in-LeftOut-1.given.1
+returns-in-LeftOut c = rw c.in-LeftOut.is

@@ -6,18 +6,17 @@ use Rattle.info_sections.specs.Sections.{GroupThere}
 use Rattle.info_sections.proofs.Sections.{ends_within, passing_first, count_in_lem, group_there, passing_turn, passing_done}
 use Rattle.info_sections.proofs.fill.Goals as goal
 
--- the section's six bytes are in the file
-head : (s : goal.Start) → s.args.start + 6 ≤ length s.args.file.now
-head s = ends_within s.args.section s.args.file.now s.args.start s.requires.ends
-
 pub overflow_add-start : goal.overflow_add-start
-overflow_add-start c = let s : goal.Start = search in omega (arith, head s)
+overflow_add-start c =
+    let head : c.args.start + 6 ≤ length c.args.file.now = ends_within c.args.section c.args.file.now c.args.start c.requires.ends in omega (arith, head)
 
 pub u8_at-count-requires : goal.u8_at-count-requires
-u8_at-count-requires c = let s : goal.Start = search in omega (arith, head s)
+u8_at-count-requires c =
+    let head : c.args.start + 6 ≤ length c.args.file.now = ends_within c.args.section c.args.file.now c.args.start c.requires.ends in omega (arith, head)
 
 pub overflow_add-p : goal.overflow_add-p
-overflow_add-p c = let s : goal.Start = search in omega (arith, head s)
+overflow_add-p c =
+    let head : c.args.start + 6 ≤ length c.args.file.now = ends_within c.args.section c.args.file.now c.args.start c.requires.ends in omega (arith, head)
 
 pub loop-k-init : goal.loop-k-init
 loop-k-init c =
@@ -29,8 +28,7 @@ own_count-n-requires c =
 
 pub put_group-p-requires : goal.put_group-p-requires
 put_group-p-requires c =
-    let there : let a = c.args in let l = c.loop-k in GroupThere a.section a.file.now l.p c.own_count-n.result l.heads l.at l.rows l.to = group_there c.requires c.u8_at-count.ensures.same c.loop-k.invariant c.loop-k-test.true c.own_count-n.ensures.same in
-    let own_count : goal.After-own_count-n = search in there own_count
+    let there : let a = c.args in let l = c.loop-k in GroupThere a.section a.file.now l.p c.own_count-n.result l.heads l.at l.rows l.to = group_there c.requires c.u8_at-count.ensures.same c.loop-k.invariant c.loop-k-test.true c.own_count-n.ensures.same in there
 
 pub overflow_add-at : goal.overflow_add-at
 overflow_add-at c =

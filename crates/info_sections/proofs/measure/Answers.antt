@@ -18,14 +18,14 @@ returns-in_default c =
     let a = c.args in
     let s = a.section in
     let f = a.file.now in
-    let cut = not_got f (a.start + 5) 1 (sym c.enum_told.given.1 ∙ c.read_count.ensures.same) in
+    let cut = not_got f (a.start + 5) 1 (sym c.in_default.is ∙ c.read_count.ensures.same) in
     section_short SectionCounts.Counts SectionCounts.PastEnd (head_at s f) (group_rows s f) (next_head s f) f a.start (up_head s f) (omega arith) ∙ measured_as s f a.start
 
 pub loop-k-init : goal.loop-k-init
 loop-k-init c =
     let kind : Section = c.args.section in
     let bytes : List ℕ = c.args.file.now in
-    let front : Got bytes (c.args.start + 5) 1 c.count.given.0.0 c.count.given.0.1.0 = got bytes (c.args.start + 5) 1 (sym c.count.given.1 ∙ c.read_count.ensures.same) in
+    let front : Got bytes (c.args.start + 5) 1 c.in-Read.count c.in-Read.first = got bytes (c.args.start + 5) 1 (sym c.in-Read.is ∙ c.read_count.ensures.same) in
     let g = front in
     (along_first (next_head kind bytes) (omega (arith, g.inside, g.behind)), counted_first (group_rows kind bytes) (next_head kind bytes))
 
@@ -33,14 +33,14 @@ pub returns-in_default-skip_group : goal.returns-in_default-skip_group
 returns-in_default-skip_group c =
     let kind : Section = c.args.section in
     let bytes : List ℕ = c.args.file.now in
-    let front : Got bytes (c.args.start + 5) 1 c.count.given.0.0 c.count.given.0.1.0 = got bytes (c.args.start + 5) 1 (sym c.count.given.1 ∙ c.read_count.ensures.same) in
+    let front : Got bytes (c.args.start + 5) 1 c.in-Read.count c.in-Read.first = got bytes (c.args.start + 5) 1 (sym c.in-Read.is ∙ c.read_count.ensures.same) in
     let l = c.loop-k in
     let s = kind in
     let f = bytes in
     let at = c.args.start in
     let g = front in
     section_past SectionCounts.Counts SectionCounts.PastEnd (head_at s f) (group_rows s f) (next_head s f) f at g.value (omega (arith, g.behind)) l.invariant.0 (up_head s f)
-    c.loop-k-test.true (stayed f (next_head s f l.pos) (sym c.enum_told-in_default-skip_group-1.given.1 ∙ c.skip_group.ensures))
+    c.loop-k-test.true (stayed f (next_head s f l.pos) (sym c.in_default-skip_group.is ∙ c.skip_group.ensures))
     ∙ measured_as s f at
 
 pub own_count-requires : goal.own_count-requires
@@ -50,13 +50,12 @@ own_count-requires c =
     let bytes : List ℕ = c.args.file.now in
     let file : List ℕ = bytes in
     let place : ℕ = c.loop-k.pos in
-    let passed : (next_head own file place ≤ length file) × (c.next.given.0.0.pos ≡ next_head own file place) = went file (next_head own file place) (sym c.next.given.1 ∙ c.skip_group.ensures) in le_trans (count_before own file place) passed.0
+    let passed : (next_head own file place ≤ length file) × (c.in-At.next.pos ≡ next_head own file place) = went file (next_head own file place) (sym c.in-At.is ∙ c.skip_group.ensures) in le_trans (count_before own file place) passed.0
 
 pub overflow_add-rows : goal.overflow_add-rows
 overflow_add-rows c =
-    let small : c.count.given.0.0 < 256 = rw c.count.given.1 at c.read_count.ensures.below in
-    let n : goal.In-At-2 = search in
-    omega (arith, c.loop-k.invariant.1.small, small (K n))
+    let small : c.in-Read.count < 256 = rw c.in-Read.is at c.read_count.ensures.below in
+    omega (arith, c.loop-k.invariant.1.small, small)
 
 pub loop-k-preserved : goal.loop-k-preserved
 loop-k-preserved c =
@@ -65,11 +64,10 @@ loop-k-preserved c =
     let bytes : List ℕ = c.args.file.now in
     let file : List ℕ = bytes in
     let place : ℕ = c.loop-k.pos in
-    let passed : (next_head own file place ≤ length file) × (c.next.given.0.0.pos ≡ next_head own file place) = went file (next_head own file place) (sym c.next.given.1 ∙ c.skip_group.ensures) in
-    let n : goal.In-At-2 = search in
+    let passed : (next_head own file place ≤ length file) × (c.in-At.next.pos ≡ next_head own file place) = went file (next_head own file place) (sym c.in-At.is ∙ c.skip_group.ensures) in
     let l = c.loop-k in
     let more = c.loop-k-test.true in
-    let next = passed n in (
+    let next = passed in (
       along_turn l.invariant.0 more next.1 (omega (arith, next.0, next.1)),
       counted_turn l.invariant.1 more next.1 (c.own_count.ensures.same ∙ sym (own_length own file l.pos)) c.own_count.ensures.below,
     )
@@ -78,7 +76,7 @@ pub returns : goal.returns
 returns c =
     let kind : Section = c.args.section in
     let bytes : List ℕ = c.args.file.now in
-    let front : Got bytes (c.args.start + 5) 1 c.count.given.0.0 c.count.given.0.1.0 = got bytes (c.args.start + 5) 1 (sym c.count.given.1 ∙ c.read_count.ensures.same) in
+    let front : Got bytes (c.args.start + 5) 1 c.in-Read.count c.in-Read.first = got bytes (c.args.start + 5) 1 (sym c.in-Read.is ∙ c.read_count.ensures.same) in
     let l = c.loop-k in
     let s = kind in
     let f = bytes in

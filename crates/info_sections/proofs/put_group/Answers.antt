@@ -10,65 +10,63 @@ use Rattle.section_heads.specs.declared.Section.{Section}
 use Rattle.info_sections.specs.Sections.{GroupThere}
 use Rattle.info_sections.proofs.put_group.Goals as goal
 
--- an ATC and its STCs are there
-atc-there : (t : goal.In-Sequences) → let a = c.args in
-    GroupThere Section.Sequences a.file.now a.p a.n a.heads.now a.at a.rows.now a.to
-atc-there t = rw t.enum_told.given.1 at c.requires
-
--- a program and its streams are there
-program-there : (t : goal.In-Programs) → let a = c.args in
-    GroupThere Section.Programs a.file.now a.p a.n a.heads.now a.at a.rows.now a.to
-program-there t = rw t.enum_told-in-Programs-1.given.1 at c.requires
-
 pub put_atc-requires : goal.put_atc-requires
 put_atc-requires c =
-    let t : goal.In-Sequences = search in
+    let atc-there : let a = c.args in
+    GroupThere Section.Sequences a.file.now a.p a.n a.heads.now a.at a.rows.now a.to = rw c.in-Sequences.is at c.requires in
     let a = c.args in
-    let g = atc-there t in
+    let g = atc-there in
     (omega (arith, g.ends, atc_head a.file.now a.p), g.head_room)
 
 pub overflow_add-p : goal.overflow_add-p
 overflow_add-p c =
-    let t : goal.In-Sequences = search in
+    let atc-there : let a = c.args in
+    GroupThere Section.Sequences a.file.now a.p a.n a.heads.now a.at a.rows.now a.to = rw c.in-Sequences.is at c.requires in
     let a = c.args in
-    omega (arith, (atc-there t).ends, atc_head a.file.now a.p)
+    omega (arith, atc-there.ends, atc_head a.file.now a.p)
 
 pub put_stcs-requires : goal.put_stcs-requires
 put_stcs-requires c =
-    let t : goal.In-Sequences = search in
-    let g = atc-there t in
+    let atc-there : let a = c.args in
+    GroupThere Section.Sequences a.file.now a.p a.n a.heads.now a.at a.rows.now a.to = rw c.in-Sequences.is at c.requires in
+    let g = atc-there in
     (rw g.says g.ends, g.rows_room)
 
 pub put_program-requires : goal.put_program-requires
 put_program-requires c =
-    let t : goal.In-Programs = search in
+    let program-there : let a = c.args in
+    GroupThere Section.Programs a.file.now a.p a.n a.heads.now a.at a.rows.now a.to = rw c.in-Programs.is at c.requires in
     let a = c.args in
-    let g = program-there t in
+    let g = program-there in
     (omega (arith, g.ends, program_head a.file.now a.p), g.head_room)
 
 pub overflow_add-p-in-Programs : goal.overflow_add-p-in-Programs
 overflow_add-p-in-Programs c =
-    let t : goal.In-Programs = search in
+    let program-there : let a = c.args in
+    GroupThere Section.Programs a.file.now a.p a.n a.heads.now a.at a.rows.now a.to = rw c.in-Programs.is at c.requires in
     let a = c.args in
-    omega (arith, (program-there t).ends, program_head a.file.now a.p)
+    omega (arith, program-there.ends, program_head a.file.now a.p)
 
 pub put_streams-requires : goal.put_streams-requires
 put_streams-requires c =
-    let t : goal.In-Programs = search in
-    let g = program-there t in
+    let program-there : let a = c.args in
+    GroupThere Section.Programs a.file.now a.p a.n a.heads.now a.at a.rows.now a.to = rw c.in-Programs.is at c.requires in
+    let g = program-there in
     (rw g.says g.ends, g.rows_room)
 
 pub returns-in-Sequences : goal.returns-in-Sequences
 returns-in-Sequences c =
-    let t : goal.In-Sequences = search in
-    let says = (atc-there t).says in
+    let atc-there : let a = c.args in
+    GroupThere Section.Sequences a.file.now a.p a.n a.heads.now a.at a.rows.now a.to = rw c.in-Sequences.is at c.requires in
+    let says = atc-there.says in
     let put = c.put_stcs.ensures in
-    rw t.enum_told.given.1 record { value = put.0 ∙ ap (end_of next_stc (c.args.p + 6)) says; heads_after = c.put_atc.ensures; rows_after = rw says at put.1 }
+    rw c.in-Sequences.is record { value = put.0 ∙ ap (end_of next_stc (c.args.p + 6)) says; heads_after = c.put_atc.ensures; rows_after = rw says at put.1 }
 
 pub returns-in-Programs : goal.returns-in-Programs
 returns-in-Programs c =
-    let t : goal.In-Programs = search in
+    let program-there : let a = c.args in
+    GroupThere Section.Programs a.file.now a.p a.n a.heads.now a.at a.rows.now a.to = rw c.in-Programs.is at c.requires in
     let a = c.args in
-    let says = (program-there t).says in
+    let says = program-there.says in
     let put = c.put_streams.ensures in
-    rw t.enum_told-in-Programs-1.given.1 record { value = put.0 ∙ ap (end_of (next_stream a.file.now) (a.p + 8)) says; heads_after = c.put_program.ensures; rows_after = rw says at put.1 }
+    rw c.in-Programs.is record { value = put.0 ∙ ap (end_of (next_stream a.file.now) (a.p + 8)) says; heads_after = c.put_program.ensures; rows_after = rw says at put.1 }

@@ -5,15 +5,15 @@ use lib.ListN.{length}
 use lib.Seq.{length-take-le}
 use Rattle.listing_io.proofs.list_input.Goals as goal
 
--- the bytes that were read are in the buffer
-read-within : (k : goal.In-Bytes) → k.read.given.0.0 ≤ length k.read_input.new.1.0
-read-within k = rw k.read.given.1 at k.read_input.ensures
-
 pub slice_bounds-list-end : goal.slice_bounds-list-end
-slice_bounds-list-end c = read-within c
+slice_bounds-list-end c =
+    let read-within : c.in-Bytes.read ≤ length c.read_input.new.1.0 = rw c.in-Bytes.is at c.read_input.ensures in
+    read-within
 
 pub slice_bounds-list-end-2 : goal.slice_bounds-list-end-2
-slice_bounds-list-end-2 c = sym (length-take-le c.read.given.0.0 _ (read-within c))
+slice_bounds-list-end-2 c =
+    let read-within : c.in-Bytes.read ≤ length c.read_input.new.1.0 = rw c.in-Bytes.is at c.read_input.ensures in
+    sym (length-take-le c.in-Bytes.read _ read-within)
 
 pub slice_bounds-write_all-end-2 : goal.slice_bounds-write_all-end-2
 slice_bounds-write_all-end-2 c =
@@ -21,10 +21,10 @@ slice_bounds-write_all-end-2 c =
 
 pub returns-then-not-write_all : goal.returns-then-not-write_all
 returns-then-not-write_all c =
-    let k : goal.After-list-len = search in
-    (read-within k, k.list-len.ensures)
+    let read-within : c.in-Bytes.read ≤ length c.read_input.new.1.0 = rw c.in-Bytes.is at c.read_input.ensures in
+    (read-within, c.list-len.ensures)
 
 pub returns-else-not-write_all : goal.returns-else-not-write_all
 returns-else-not-write_all c =
-    let k : goal.After-list-len = search in
-    (read-within k, k.list-len.ensures)
+    let read-within : c.in-Bytes.read ≤ length c.read_input.new.1.0 = rw c.in-Bytes.is at c.read_input.ensures in
+    (read-within, c.list-len.ensures)

@@ -10,19 +10,6 @@ use Rattle.format.proofs.Sweep.{along_first, along_turn, along_done, along_withi
 use Rattle.format.proofs.Places.{up_stream}
 use Rattle.program_info.proofs.put_streams.Goals as goal
 
--- the file
-abbrev bytes : goal.In-loop-k → List ℕ
-bytes c = c.args.file.now
-
--- within the loop the next stream ends within the file, and its row within the table
-room : (c : goal.In-loop-k)
-    → (next_stream (bytes c) c.loop-k.q ≤ length (bytes c)) × (c.loop-k.cell + 20 ≤ length c.loop-k.table)
-room c =
-    let l = c.loop-k in
-    let f = bytes c in
-    let more = c.loop-k-test.true in
-    (along_within l.invariant.0 (up_stream f) more c.requires.0, row_room_lem (stream_at f) (next_stream f) l.invariant.1 more)
-
 pub loop-k-init : goal.loop-k-init
 loop-k-init c =
     let a = c.args in
@@ -33,30 +20,71 @@ loop-k-init c =
     )
 
 pub put_stream-requires : goal.put_stream-requires
-put_stream-requires c = room c
+put_stream-requires c =
+    let bytes : List ℕ = c.args.file.now in
+    let room : (next_stream bytes c.loop-k.q ≤ length bytes) × (c.loop-k.cell + 20 ≤ length c.loop-k.table) = let l = c.loop-k in
+    let f = bytes in
+    let more = c.loop-k-test.true in
+    (along_within l.invariant.0 (up_stream f) more c.requires.0, row_room_lem (stream_at f) (next_stream f) l.invariant.1 more) in
+    room
 
 pub overflow_add-q : goal.overflow_add-q
-overflow_add-q c = omega (arith, room c)
+overflow_add-q c =
+    let bytes : List ℕ = c.args.file.now in
+    let room : (next_stream bytes c.loop-k.q ≤ length bytes) × (c.loop-k.cell + 20 ≤ length c.loop-k.table) = let l = c.loop-k in
+    let f = bytes in
+    let more = c.loop-k-test.true in
+    (along_within l.invariant.0 (up_stream f) more c.requires.0, row_room_lem (stream_at f) (next_stream f) l.invariant.1 more) in
+    omega (arith, room)
 
 pub overflow_add-q-in-loop-k : goal.overflow_add-q-in-loop-k
-overflow_add-q-in-loop-k c = omega (arith, room c)
+overflow_add-q-in-loop-k c =
+    let bytes : List ℕ = c.args.file.now in
+    let room : (next_stream bytes c.loop-k.q ≤ length bytes) × (c.loop-k.cell + 20 ≤ length c.loop-k.table) = let l = c.loop-k in
+    let f = bytes in
+    let more = c.loop-k-test.true in
+    (along_within l.invariant.0 (up_stream f) more c.requires.0, row_room_lem (stream_at f) (next_stream f) l.invariant.1 more) in
+    omega (arith, room)
 
 pub u8_at-requires : goal.u8_at-requires
-u8_at-requires c = omega (arith, room c)
+u8_at-requires c =
+    let bytes : List ℕ = c.args.file.now in
+    let room : (next_stream bytes c.loop-k.q ≤ length bytes) × (c.loop-k.cell + 20 ≤ length c.loop-k.table) = let l = c.loop-k in
+    let f = bytes in
+    let more = c.loop-k-test.true in
+    (along_within l.invariant.0 (up_stream f) more c.requires.0, row_room_lem (stream_at f) (next_stream f) l.invariant.1 more) in
+    omega (arith, room)
 
 pub overflow_add-q-in-loop-k-2 : goal.overflow_add-q-in-loop-k-2
-overflow_add-q-in-loop-k-2 c = omega (arith, room c, c.u8_at.ensures.same)
+overflow_add-q-in-loop-k-2 c =
+    let bytes : List ℕ = c.args.file.now in
+    let room : (next_stream bytes c.loop-k.q ≤ length bytes) × (c.loop-k.cell + 20 ≤ length c.loop-k.table) = let l = c.loop-k in
+    let f = bytes in
+    let more = c.loop-k-test.true in
+    (along_within l.invariant.0 (up_stream f) more c.requires.0, row_room_lem (stream_at f) (next_stream f) l.invariant.1 more) in
+    omega (arith, room, c.u8_at.ensures.same)
 
 pub overflow_add-cell : goal.overflow_add-cell
-overflow_add-cell c = omega (arith, room c)
+overflow_add-cell c =
+    let bytes : List ℕ = c.args.file.now in
+    let room : (next_stream bytes c.loop-k.q ≤ length bytes) × (c.loop-k.cell + 20 ≤ length c.loop-k.table) = let l = c.loop-k in
+    let f = bytes in
+    let more = c.loop-k-test.true in
+    (along_within l.invariant.0 (up_stream f) more c.requires.0, row_room_lem (stream_at f) (next_stream f) l.invariant.1 more) in
+    omega (arith, room)
 
 pub loop-k-preserved : goal.loop-k-preserved
 loop-k-preserved c =
+    let bytes : List ℕ = c.args.file.now in
+    let room : (next_stream bytes c.loop-k.q ≤ length bytes) × (c.loop-k.cell + 20 ≤ length c.loop-k.table) = let l = c.loop-k in
+    let f = bytes in
+    let more = c.loop-k-test.true in
+    (along_within l.invariant.0 (up_stream f) more c.requires.0, row_room_lem (stream_at f) (next_stream f) l.invariant.1 more) in
     let l = c.loop-k in
-    let f = bytes c in
+    let f = bytes in
     let more = c.loop-k-test.true in
     let next : l.q + 3 + c.u8_at.result ≡ next_stream f l.q = rw c.u8_at.ensures.same in (
-      along_turn l.invariant.0 more next (omega (arith, next, room c)),
+      along_turn l.invariant.0 more next (omega (arith, next, room)),
       row_put (stream_at f) (next_stream f) l.invariant.1 more c.put_stream.ensures next,
     )
 

@@ -9,10 +9,10 @@ pub returns-in_default : goal.returns-in_default
 returns-in_default c =
     let a = c.args in
     let f = a.file.now in
-    stream_cut f a.r.pos (not_got f (a.r.pos + 2) 1 (sym c.enum_told.given.1 ∙ c.read_count.ensures.same))
+    stream_cut f a.r.pos (not_got f (a.r.pos + 2) 1 (sym c.in_default.is ∙ c.read_count.ensures.same))
 
 pub returns : goal.returns
 returns c =
     let a = c.args in
     let f = a.file.now in
-    stream_passed f a.r.pos (got f (a.r.pos + 2) 1 (sym c.size.given.1 ∙ c.read_count.ensures.same)) c.skip.ensures
+    stream_passed f a.r.pos (got f (a.r.pos + 2) 1 (sym c.in-Read.is ∙ c.read_count.ensures.same)) c.skip.ensures

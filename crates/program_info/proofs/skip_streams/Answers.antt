@@ -18,14 +18,14 @@ returns-in_default c =
     let l = c.loop-k in
     let a = c.args in
     let f = a.file.now in
-    let cut = stayed f (next_stream f l.pos) (sym c.enum_told.given.1 ∙ c.skip_stream.ensures) in
+    let cut = stayed f (next_stream f l.pos) (sym c.in_default.is ∙ c.skip_stream.ensures) in
     beyond f (end_of (next_stream f) a.r.pos a.n) (along_past l.invariant (up_stream f) c.loop-k-test.true cut)
 
 pub loop-k-preserved : goal.loop-k-preserved
 loop-k-preserved c =
     let l = c.loop-k in
     let f = c.args.file.now in
-    let next = went f (next_stream f l.pos) (sym c.next.given.1 ∙ c.skip_stream.ensures) in
+    let next = went f (next_stream f l.pos) (sym c.in-At.is ∙ c.skip_stream.ensures) in
     along_turn l.invariant c.loop-k-test.true next.1 (omega (arith, next.0, next.1))
 
 pub returns : goal.returns

@@ -14,18 +14,15 @@ use Rattle.replay_case.specs.Expected.{sample_tables}
 use Rattle.replay_case.proofs.FileLaws.{ends_same, refused_alone, extensions_held, file_same}
 use Rattle.replay_case.proofs.is_same.Goals as goal
 
--- no answer is as long as the place that is none
-small : (s : goal.Start) → length s.args.answer.now < no_place
-small s = search rules
-
 pub returns-then-r-ne0 : goal.returns-then-r-ne0
 returns-then-r-ne0 c =
+    let small : length c.args.answer.now < no_place = search rules in
     let F : List ℕ = c.args.file.now in
     let A : List ℕ = c.args.answer.now in
     let R : ClpiReading = c.clpi_read-r.result in
     let numbers : reading_numbers R ≡ read_numbers (read_answer F sample_tables) = c.clpi_read-r.ensures.result_value in
     let alone = refused_alone F (read_answer F sample_tables) refl (λ e. c.if-r-ne0.true (ap (λ (l : List ℕ). get_or l 0 0) numbers ∙ e)) in
-    rw (c.pass_numbers.ensures, alone) (ends_same A (row_bytes_of (1 ∷ [])) (small c))
+    rw (c.pass_numbers.ensures, alone) (ends_same A (row_bytes_of (1 ∷ [])) small)
 
 pub pass_extensions-requires : goal.pass_extensions-requires
 pass_extensions-requires c =
@@ -46,10 +43,11 @@ pass_extensions-requires c =
     } in
     let numbers : reading_numbers R ≡ read_numbers (read_answer F sample_tables) = c.clpi_read-r.ensures.result_value in
     let after : T ≡ tables_after F sample_tables = c.clpi_read-r.ensures.streams2_after in
-    extensions_held F (bytes) R T numbers after c.if-r-ne0.false
+    extensions_held F bytes R T numbers after c.if-r-ne0.false
 
 pub returns : goal.returns
 returns c =
+    let small : length c.args.answer.now < no_place = search rules in
     let F : List ℕ = c.args.file.now in
     let A : List ℕ = c.args.answer.now in
     let bytes : IsBytes F = (λ i. (c.shared_slice_known-1.given i).fits) in
@@ -68,5 +66,5 @@ returns c =
     } in
     let numbers : reading_numbers R ≡ read_numbers (read_answer F sample_tables) = c.clpi_read-r.ensures.result_value in
     let after : T ≡ tables_after F sample_tables = c.clpi_read-r.ensures.streams2_after in
-    file_same F (bytes) R T numbers after c.if-r-ne0.false A (small c)
+    file_same F bytes R T numbers after c.if-r-ne0.false A small
     c.pass_streams-p.ensures c.pass_lists-q.ensures c.pass_extensions.ensures

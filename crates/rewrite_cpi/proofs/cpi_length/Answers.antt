@@ -6,32 +6,34 @@ use Rattle.ep_entries.proofs.Bodies.{rows_in_lem, there, left_map}
 use Rattle.rewrite_cpi.proofs.Lengths.{measured_first, measured_turn, measured_refused, measured_done, measured_none}
 use Rattle.rewrite_cpi.proofs.cpi_length.Goals as goal
 
--- their headers are in the file
-bound : (e : goal.Else-count-eq0) → c.args.start + 8 + 12 * c.args.count ≤ 536870912
-bound e =
-    omega (arith, (there c.args.file.now c.args.start c.args.count c.requires (omega (arith, e.if-count-eq0.false))).headers, c.requires.small)
-
 pub returns-then-count-eq0 : goal.returns-then-count-eq0
 returns-then-count-eq0 c =
     measured_none c.args.file.now c.args.start c.args.count c.requires c.if-count-eq0.true
 
 pub overflow_mul-len : goal.overflow_mul-len
-overflow_mul-len c = omega (arith, bound c)
+overflow_mul-len c =
+    let bound : c.args.start + 8 + 12 * c.args.count ≤ 536870912 = omega (arith, (there c.args.file.now c.args.start c.args.count c.requires (omega (arith, c.if-count-eq0.false))).headers, c.requires.small) in
+    omega (arith, bound)
 
 pub overflow_add-len : goal.overflow_add-len
-overflow_add-len c = omega (arith, bound c)
+overflow_add-len c =
+    let bound : c.args.start + 8 + 12 * c.args.count ≤ 536870912 = omega (arith, (there c.args.file.now c.args.start c.args.count c.requires (omega (arith, c.if-count-eq0.false))).headers, c.requires.small) in
+    omega (arith, bound)
 
 pub loop-k-init : goal.loop-k-init
 loop-k-init c = measured_first c.args.file.now c.args.start c.args.count c.requires
 
 pub overflow_add-start : goal.overflow_add-start
-overflow_add-start c = let e : goal.Else-count-eq0 = search in omega (arith, bound e)
+overflow_add-start c =
+    let bound : c.args.start + 8 + 12 * c.args.count ≤ 536870912 = omega (arith, (there c.args.file.now c.args.start c.args.count c.requires (omega (arith, c.if-count-eq0.false))).headers, c.requires.small) in omega (arith, bound)
 
 pub overflow_mul-k : goal.overflow_mul-k
-overflow_mul-k c = let e : goal.Else-count-eq0 = search in omega (arith, bound e, c.loop-k-test.true)
+overflow_mul-k c =
+    let bound : c.args.start + 8 + 12 * c.args.count ≤ 536870912 = omega (arith, (there c.args.file.now c.args.start c.args.count c.requires (omega (arith, c.if-count-eq0.false))).headers, c.requires.small) in omega (arith, bound, c.loop-k-test.true)
 
 pub overflow_add-start-in-loop-k : goal.overflow_add-start-in-loop-k
-overflow_add-start-in-loop-k c = let e : goal.Else-count-eq0 = search in omega (arith, bound e, c.loop-k-test.true)
+overflow_add-start-in-loop-k c =
+    let bound : c.args.start + 8 + 12 * c.args.count ≤ 536870912 = omega (arith, (there c.args.file.now c.args.start c.args.count c.requires (omega (arith, c.if-count-eq0.false))).headers, c.requires.small) in omega (arith, bound, c.loop-k-test.true)
 
 pub map_body-m-requires : goal.map_body-m-requires
 map_body-m-requires c =
@@ -78,19 +80,19 @@ overflow_add-len-in-loop-k-2 c =
 
 pub overflow_add-len-in-loop-k-3 : goal.overflow_add-len-in-loop-k-3
 overflow_add-len-in-loop-k-3 c =
+    let bound : c.args.start + 8 + 12 * c.args.count ≤ 536870912 = omega (arith, (there c.args.file.now c.args.start c.args.count c.requires (omega (arith, c.if-count-eq0.false))).headers, c.requires.small) in
     let rows : RowsIn c.args.file.now c.map_body-m.result = let turn : goal.At-loop-k = search in
     let t : goal.In-loop-k = search in
     let a = c.args in
     let l = turn.loop-k in
     rows_in_lem a.file.now a.start (a.start + 8 + 12 * l.k) c.map_body-m.result c.map_body-m.ensures
     (left_map a.file.now a.start a.count l.k t.loop-k-test.true c.requires l.invariant.left) in
-    let e : goal.Else-count-eq0 = search in
-    omega (arith, rows.few, c.if-runs-gt-MOST_RUNS.false, c.loop-k.invariant.small, bound e, c.loop-k-test.true)
+    omega (arith, rows.few, c.if-runs-gt-MOST_RUNS.false, c.loop-k.invariant.small, bound, c.loop-k-test.true)
 
 pub overflow_add-k : goal.overflow_add-k
 overflow_add-k c =
-    let e : goal.Else-count-eq0 = search in
-    omega (arith, bound e, c.loop-k-test.true)
+    let bound : c.args.start + 8 + 12 * c.args.count ≤ 536870912 = omega (arith, (there c.args.file.now c.args.start c.args.count c.requires (omega (arith, c.if-count-eq0.false))).headers, c.requires.small) in
+    omega (arith, bound, c.loop-k-test.true)
 
 pub loop-k-smaller : goal.loop-k-smaller
 loop-k-smaller c = omega (arith, c.loop-k-test.true)

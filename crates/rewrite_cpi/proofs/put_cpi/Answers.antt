@@ -35,7 +35,7 @@ overflow_sub-len c =
     let room : CpiRoom c.args.file.now c.args.start c.u8_at-n.result c.args.len (length c.args.out.now) c.args.at = let a = c.args in
     room_by a.file.now a.start a.count a.len (length a.out.now) a.at is c.requires in
     let a = c.args in
-    omega (arith, cpi_long a.file.now a.start c.u8_at-n.result a.len a.out.now a.at room (some))
+    omega (arith, cpi_long a.file.now a.start c.u8_at-n.result a.len a.out.now a.at room some)
 
 pub overflow_cast-len : goal.overflow_cast-len
 overflow_cast-len c =
@@ -46,7 +46,7 @@ overflow_cast-len c =
     let room : CpiRoom c.args.file.now c.args.start c.u8_at-n.result c.args.len (length c.args.out.now) c.args.at = let a = c.args in
     room_by a.file.now a.start a.count a.len (length a.out.now) a.at is c.requires in
     let a = c.args in
-    omega (arith, cpi_small a.file.now a.start c.u8_at-n.result a.len a.out.now a.at room (some) few)
+    omega (arith, cpi_small a.file.now a.start c.u8_at-n.result a.len a.out.now a.at room some few)
 
 pub put_top-requires : goal.put_top-requires
 put_top-requires c =
@@ -55,9 +55,8 @@ put_top-requires c =
     let some : c.u8_at-n.result ≡ 0 → ⊥ = (λ z. c.if-count-eq0.false (sym is ∙ z)) in
     let room : CpiRoom c.args.file.now c.args.start c.u8_at-n.result c.args.len (length c.args.out.now) c.args.at = let a = c.args in
     room_by a.file.now a.start a.count a.len (length a.out.now) a.at is c.requires in
-    let u : goal.After-u8_at-n = search in
     let a = c.args in
-    omega (arith, c.requires.room, cpi_long a.file.now a.start u.u8_at-n.result a.len a.out.now a.at room (some u))
+    omega (arith, c.requires.room, cpi_long a.file.now a.start c.u8_at-n.result a.len a.out.now a.at room some)
 
 pub put_maps-requires : goal.put_maps-requires
 put_maps-requires c =
@@ -67,9 +66,8 @@ put_maps-requires c =
     let few : c.u8_at-n.result ≤ 255 = omega (arith, c.u8_at-n.ensures.below) in
     let room : CpiRoom c.args.file.now c.args.start c.u8_at-n.result c.args.len (length c.args.out.now) c.args.at = let a = c.args in
     room_by a.file.now a.start a.count a.len (length a.out.now) a.at is c.requires in
-    let u : goal.After-u8_at-n = search in
     let a = c.args in
-    maps_room a.file.now a.start u.u8_at-n.result a.len a.out.now a.at room (some u) few c.put_top.kept.1.1.0
+    maps_room a.file.now a.start c.u8_at-n.result a.len a.out.now a.at room some few c.put_top.kept.1.1.0
 
 pub returns : goal.returns
 returns c =
@@ -78,6 +76,5 @@ returns c =
     let some : c.u8_at-n.result ≡ 0 → ⊥ = (λ z. c.if-count-eq0.false (sym is ∙ z)) in
     let room : CpiRoom c.args.file.now c.args.start c.u8_at-n.result c.args.len (length c.args.out.now) c.args.at = let a = c.args in
     room_by a.file.now a.start a.count a.len (length a.out.now) a.at is c.requires in
-    let u : goal.After-u8_at-n = search in
     let a = c.args in
-    cpi_put a.file.now a.start u.u8_at-n.result a.len a.out.now a.at room (some u) c.put_top.ensures c.put_maps.ensures.value c.put_maps.ensures.out_after
+    cpi_put a.file.now a.start c.u8_at-n.result a.len a.out.now a.at room some c.put_top.ensures c.put_maps.ensures.value c.put_maps.ensures.out_after

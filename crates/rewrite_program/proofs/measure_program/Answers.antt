@@ -7,18 +7,20 @@ use Rattle.format.proofs.Places.{program_head}
 use Rattle.rewrite_program.proofs.Laws.{program_long, program_ends, streams_within}
 use Rattle.rewrite_program.proofs.measure_program.Goals as goal
 
--- the eight bytes end within the file
-head : (c : goal.Start) → c.args.p + 8 ≤ length c.args.file.now
-head c = omega (arith, program_head c.args.file.now c.args.p, c.requires.0)
-
 pub overflow_add-p : goal.overflow_add-p
-overflow_add-p c = omega (arith, head c)
+overflow_add-p c =
+    let head : c.args.p + 8 ≤ length c.args.file.now = omega (arith, program_head c.args.file.now c.args.p, c.requires.0) in
+    omega (arith, head)
 
 pub u8_at-num_streams-requires : goal.u8_at-num_streams-requires
-u8_at-num_streams-requires c = omega (arith, head c)
+u8_at-num_streams-requires c =
+    let head : c.args.p + 8 ≤ length c.args.file.now = omega (arith, program_head c.args.file.now c.args.p, c.requires.0) in
+    omega (arith, head)
 
 pub overflow_add-p-2 : goal.overflow_add-p-2
-overflow_add-p-2 c = omega (arith, head c)
+overflow_add-p-2 c =
+    let head : c.args.p + 8 ≤ length c.args.file.now = omega (arith, program_head c.args.file.now c.args.p, c.requires.0) in
+    omega (arith, head)
 
 pub measure_streams-requires : goal.measure_streams-requires
 measure_streams-requires c =

@@ -18,14 +18,6 @@ use Rattle.rewrite_program.specs.Programs.{new_streams}
 use Rattle.rewrite_program.proofs.Laws.{places_are}
 use Rattle.rewrite_program.proofs.measure_streams.Goals as goal
 
--- the file
-abbrev bytes : goal.In-loop-k → List ℕ
-bytes c = c.args.file.now
-
--- within the loop the next stream ends within the file
-within : (c : goal.In-loop-k) → next_stream (bytes c) c.loop-k.q ≤ length (bytes c)
-within c = along_within c.loop-k.invariant.0 (up_stream (bytes c)) c.loop-k-test.true c.requires.0
-
 -- its length is added
 added : (c : goal.After-row_length-to) {q : ℕ} → q ≡ next_stream (bytes c) c.loop-k.q
     → let l = c.loop-k in
@@ -48,18 +40,26 @@ loop-k-init c =
     )
 
 pub stream_row-requires : goal.stream_row-requires
-stream_row-requires c = within c
+stream_row-requires c =
+    let bytes : List ℕ = c.args.file.now in
+    let within : next_stream bytes c.loop-k.q ≤ length bytes = along_within c.loop-k.invariant.0 (up_stream bytes) c.loop-k-test.true c.requires.0 in
+    within
 
 pub overflow_add-to : goal.overflow_add-to
 overflow_add-to c = record { fits = omega (arith, added c refl, c.requires.1) }
 
 pub next_stream-q-requires : goal.next_stream-q-requires
-next_stream-q-requires c = within c
+next_stream-q-requires c =
+    let bytes : List ℕ = c.args.file.now in
+    let within : next_stream bytes c.loop-k.q ≤ length bytes = along_within c.loop-k.invariant.0 (up_stream bytes) c.loop-k-test.true c.requires.0 in
+    within
 
 pub loop-k-preserved : goal.loop-k-preserved
 loop-k-preserved c =
+    let bytes : List ℕ = c.args.file.now in
+    let within : next_stream bytes c.loop-k.q ≤ length bytes = along_within c.loop-k.invariant.0 (up_stream bytes) c.loop-k-test.true c.requires.0 in
     let next = c.next_stream-q.ensures in
-    (along_turn c.loop-k.invariant.0 c.loop-k-test.true next (omega (arith, next, within c)), added c next)
+    (along_turn c.loop-k.invariant.0 c.loop-k-test.true next (omega (arith, next, within)), added c next)
 
 pub returns : goal.returns
 returns c =

@@ -6,12 +6,10 @@ use Rattle.format.proofs.Places.{program_head}
 use Rattle.rewrite_program.proofs.Laws.{program_ends, streams_within, head_place, streams_room, streams_put, head_room}
 use Rattle.rewrite_program.proofs.put_program.Goals as goal
 
--- the eight bytes end within the file
-head : (c : goal.Start) → c.args.p + 8 ≤ length c.args.file.now
-head c = omega (arith, program_head c.args.file.now c.args.p, c.requires.0)
-
 pub program_row-row-requires : goal.program_row-row-requires
-program_row-row-requires c = head c
+program_row-row-requires c =
+    let head : c.args.p + 8 ≤ length c.args.file.now = omega (arith, program_head c.args.file.now c.args.p, c.requires.0) in
+    head
 
 pub put_row-to-requires : goal.put_row-to-requires
 put_row-to-requires c =
@@ -19,16 +17,23 @@ put_row-to-requires c =
     head_room a.file.now a.p a.out.now a.at c.program_row-row.ensures c.requires.1
 
 pub overflow_add-p : goal.overflow_add-p
-overflow_add-p c = omega (arith, head c)
+overflow_add-p c =
+    let head : c.args.p + 8 ≤ length c.args.file.now = omega (arith, program_head c.args.file.now c.args.p, c.requires.0) in
+    omega (arith, head)
 
 pub u8_at-num_streams-requires : goal.u8_at-num_streams-requires
-u8_at-num_streams-requires c = omega (arith, head c)
+u8_at-num_streams-requires c =
+    let head : c.args.p + 8 ≤ length c.args.file.now = omega (arith, program_head c.args.file.now c.args.p, c.requires.0) in
+    omega (arith, head)
 
 pub overflow_add-p-2 : goal.overflow_add-p-2
-overflow_add-p-2 c = omega (arith, head c)
+overflow_add-p-2 c =
+    let head : c.args.p + 8 ≤ length c.args.file.now = omega (arith, program_head c.args.file.now c.args.p, c.requires.0) in
+    omega (arith, head)
 
 pub put_streams-requires : goal.put_streams-requires
 put_streams-requires c =
+    let head : c.args.p + 8 ≤ length c.args.file.now = omega (arith, program_head c.args.file.now c.args.p, c.requires.0) in
     let a = c.args in
     let f = a.file.now in
     let count = c.u8_at-num_streams.ensures.same in
@@ -40,6 +45,7 @@ put_streams-requires c =
 
 pub returns : goal.returns
 returns c =
+    let head : c.args.p + 8 ≤ length c.args.file.now = omega (arith, program_head c.args.file.now c.args.p, c.requires.0) in
     let a = c.args in
     let f = a.file.now in
     let count = c.u8_at-num_streams.ensures.same in

@@ -18,14 +18,6 @@ use Rattle.rewrite_program.specs.Programs.{new_streams}
 use Rattle.rewrite_program.proofs.Laws.{places_are, row_as}
 use Rattle.rewrite_program.proofs.put_streams.Goals as goal
 
--- the file
-abbrev bytes : goal.In-loop-k → List ℕ
-bytes c = c.args.file.now
-
--- within the loop the next stream ends within the file
-within : (c : goal.In-loop-k) → next_stream (bytes c) c.loop-k.q ≤ length (bytes c)
-within c = along_within c.loop-k.invariant.0 (up_stream (bytes c)) c.loop-k-test.true c.requires.0
-
 -- its new bytes have room
 room : (c : goal.In-loop-k) {row : Row} → row ≡ stream_at (bytes c) c.loop-k.q
     → c.loop-k.to + length (stream_bytes row) ≤ length c.loop-k.out
@@ -43,22 +35,30 @@ loop-k-init c =
     )
 
 pub stream_row-requires : goal.stream_row-requires
-stream_row-requires c = within c
+stream_row-requires c =
+    let bytes : List ℕ = c.args.file.now in
+    let within : next_stream bytes c.loop-k.q ≤ length bytes = along_within c.loop-k.invariant.0 (up_stream bytes) c.loop-k-test.true c.requires.0 in
+    within
 
 pub put_row-to-requires : goal.put_row-to-requires
 put_row-to-requires c = room c c.stream_row.ensures
 
 pub next_stream-q-requires : goal.next_stream-q-requires
-next_stream-q-requires c = within c
+next_stream-q-requires c =
+    let bytes : List ℕ = c.args.file.now in
+    let within : next_stream bytes c.loop-k.q ≤ length bytes = along_within c.loop-k.invariant.0 (up_stream bytes) c.loop-k-test.true c.requires.0 in
+    within
 
 pub loop-k-preserved : goal.loop-k-preserved
 loop-k-preserved c =
+    let bytes : List ℕ = c.args.file.now in
+    let within : next_stream bytes c.loop-k.q ≤ length bytes = along_within c.loop-k.invariant.0 (up_stream bytes) c.loop-k-test.true c.requires.0 in
     let l = c.loop-k in
-    let f = bytes c in
+    let f = bytes in
     let next = c.next_stream-q.ensures in
     let row = c.stream_row.ensures in
     let put = row_as stream_bytes l.out l.to row c.put_row-to.ensures in (
-      along_turn l.invariant.0 c.loop-k-test.true next (omega (arith, next, within c)),
+      along_turn l.invariant.0 c.loop-k-test.true next (omega (arith, next, within)),
       row_put (stream_at f) (next_stream f) stream_bytes l.q c.args.n l.k l.invariant.1 c.loop-k-test.true put.1 put.0 next,
     )
 

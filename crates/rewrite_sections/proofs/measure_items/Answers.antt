@@ -18,14 +18,6 @@ use Rattle.rewrite_sections.specs.Sections.{new_items}
 use Rattle.rewrite_sections.proofs.Groups.{flat_gather}
 use Rattle.rewrite_sections.proofs.measure_items.Goals as goal
 
--- the file
-abbrev bytes : goal.In-loop-k → List ℕ
-bytes c = c.args.file.now
-
--- within the loop the next program ends within the file
-within : (c : goal.In-loop-k) → next_program (bytes c) c.loop-k.q ≤ length (bytes c)
-within c = along_within c.loop-k.invariant.0 (up_program (bytes c)) c.loop-k-test.true c.requires.0
-
 -- its length is added
 added : (c : goal.In-loop-k) {q to : ℕ} → q ≡ next_program (bytes c) c.loop-k.q
     → to ≡ c.loop-k.to + length (new_program (bytes c) c.loop-k.q)
@@ -46,13 +38,18 @@ loop-k-init c =
     )
 
 pub measure_program-behind-requires : goal.measure_program-behind-requires
-measure_program-behind-requires c = (within c, omega (arith, added c refl refl, c.requires.1))
+measure_program-behind-requires c =
+    let bytes : List ℕ = c.args.file.now in
+    let within : next_program bytes c.loop-k.q ≤ length bytes = along_within c.loop-k.invariant.0 (up_program bytes) c.loop-k-test.true c.requires.0 in
+    (within, omega (arith, added c refl refl, c.requires.1))
 
 pub loop-k-preserved : goal.loop-k-preserved
 loop-k-preserved c =
+    let bytes : List ℕ = c.args.file.now in
+    let within : next_program bytes c.loop-k.q ≤ length bytes = along_within c.loop-k.invariant.0 (up_program bytes) c.loop-k-test.true c.requires.0 in
     let next = ap (λ (r : Places). r.file) c.measure_program-behind.ensures in
     let place = ap (λ (r : Places). r.out) c.measure_program-behind.ensures in
-    (along_turn c.loop-k.invariant.0 c.loop-k-test.true next (omega (arith, next, within c)), added c next place)
+    (along_turn c.loop-k.invariant.0 c.loop-k-test.true next (omega (arith, next, within)), added c next place)
 
 pub returns : goal.returns
 returns c =

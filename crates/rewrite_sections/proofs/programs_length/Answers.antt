@@ -7,18 +7,20 @@ use Rattle.rewrite_sections.proofs.Groups.{programs_long, items_within, head_wit
 use Rattle.rewrite_sections.proofs.Lengths.{programs_short}
 use Rattle.rewrite_sections.proofs.programs_length.Goals as goal
 
--- the six bytes end within the file
-head : (c : goal.Start) → c.args.start + 6 ≤ length c.args.file.now
-head c = head_within c.args.file.now c.args.start refl c.requires
-
 pub overflow_add-start : goal.overflow_add-start
-overflow_add-start c = omega (arith, head c)
+overflow_add-start c =
+    let head : c.args.start + 6 ≤ length c.args.file.now = head_within c.args.file.now c.args.start refl c.requires in
+    omega (arith, head)
 
 pub u8_at-num_programs-requires : goal.u8_at-num_programs-requires
-u8_at-num_programs-requires c = omega (arith, head c)
+u8_at-num_programs-requires c =
+    let head : c.args.start + 6 ≤ length c.args.file.now = head_within c.args.file.now c.args.start refl c.requires in
+    omega (arith, head)
 
 pub overflow_add-start-2 : goal.overflow_add-start-2
-overflow_add-start-2 c = omega (arith, head c)
+overflow_add-start-2 c =
+    let head : c.args.start + 6 ≤ length c.args.file.now = head_within c.args.file.now c.args.start refl c.requires in
+    omega (arith, head)
 
 pub measure_items-requires : goal.measure_items-requires
 measure_items-requires c =

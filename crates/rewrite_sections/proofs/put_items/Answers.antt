@@ -18,14 +18,6 @@ use Rattle.rewrite_sections.specs.Sections.{new_items}
 use Rattle.rewrite_sections.proofs.Groups.{flat_gather}
 use Rattle.rewrite_sections.proofs.put_items.Goals as goal
 
--- the file
-abbrev bytes : goal.In-loop-k → List ℕ
-bytes c = c.args.file.now
-
--- within the loop the next program ends within the file
-within : (c : goal.In-loop-k) → next_program (bytes c) c.loop-k.q ≤ length (bytes c)
-within c = along_within c.loop-k.invariant.0 (up_program (bytes c)) c.loop-k-test.true c.requires.0
-
 pub loop-k-init : goal.loop-k-init
 loop-k-init c =
     let a = c.args in
@@ -37,18 +29,22 @@ loop-k-init c =
 
 pub put_program-behind-requires : goal.put_program-behind-requires
 put_program-behind-requires c =
+    let bytes : List ℕ = c.args.file.now in
+    let within : next_program bytes c.loop-k.q ≤ length bytes = along_within c.loop-k.invariant.0 (up_program bytes) c.loop-k-test.true c.requires.0 in
     let l = c.loop-k in
-    let f = bytes c in
-    (within c, row_room_lem (new_program f) (next_program f) as_is l.q c.args.n l.k l.invariant.1 c.loop-k-test.true)
+    let f = bytes in
+    (within, row_room_lem (new_program f) (next_program f) as_is l.q c.args.n l.k l.invariant.1 c.loop-k-test.true)
 
 pub loop-k-preserved : goal.loop-k-preserved
 loop-k-preserved c =
+    let bytes : List ℕ = c.args.file.now in
+    let within : next_program bytes c.loop-k.q ≤ length bytes = along_within c.loop-k.invariant.0 (up_program bytes) c.loop-k-test.true c.requires.0 in
     let l = c.loop-k in
-    let f = bytes c in
+    let f = bytes in
     let put = c.put_program-behind.ensures in
     let next = ap (λ (r : Places). r.file) put.0 in
     let place = ap (λ (r : Places). r.out) put.0 in (
-      along_turn l.invariant.0 c.loop-k-test.true next (omega (arith, next, within c)),
+      along_turn l.invariant.0 c.loop-k-test.true next (omega (arith, next, within)),
       row_put (new_program f) (next_program f) as_is l.q c.args.n l.k l.invariant.1 c.loop-k-test.true put.1 place next,
     )
 

@@ -8,32 +8,34 @@ use Rattle.rewrite_sections.proofs.Groups.{programs_long, items_room, programs_p
 use Rattle.rewrite_sections.proofs.Lengths.{programs_short}
 use Rattle.rewrite_sections.proofs.put_programs.Goals as goal
 
--- the six bytes end within the file
-head : (c : goal.Start) → c.args.start + 6 ≤ length c.args.file.now
-head c = head_within c.args.file.now c.args.start refl c.requires.ends
-
--- there are six at least in the new section
-long : (c : goal.Start) → 6 ≤ c.args.size
-long c = omega (arith, c.requires.size_is, programs_long c.args.file.now c.args.start refl)
-
 pub overflow_add-start : goal.overflow_add-start
-overflow_add-start c = omega (arith, head c)
+overflow_add-start c =
+    let head : c.args.start + 6 ≤ length c.args.file.now = head_within c.args.file.now c.args.start refl c.requires.ends in
+    omega (arith, head)
 
 pub u8_at-num_programs-requires : goal.u8_at-num_programs-requires
-u8_at-num_programs-requires c = omega (arith, head c)
+u8_at-num_programs-requires c =
+    let head : c.args.start + 6 ≤ length c.args.file.now = head_within c.args.file.now c.args.start refl c.requires.ends in
+    omega (arith, head)
 
 pub overflow_sub-size : goal.overflow_sub-size
-overflow_sub-size c = omega (arith, long c)
+overflow_sub-size c =
+    let long : 6 ≤ c.args.size = omega (arith, c.requires.size_is, programs_long c.args.file.now c.args.start refl) in
+    omega (arith, long)
 
 pub overflow_cast-size : goal.overflow_cast-size
 overflow_cast-size c =
     record { fits = omega (arith, c.requires.size_is, programs_short c.args.file.now (λ i. (c.shared_slice_known-1.given i).fits) c.args.start) }
 
 pub put_head-requires : goal.put_head-requires
-put_head-requires c = omega (arith, long c, c.requires.room)
+put_head-requires c =
+    let long : 6 ≤ c.args.size = omega (arith, c.requires.size_is, programs_long c.args.file.now c.args.start refl) in
+    omega (arith, long, c.requires.room)
 
 pub overflow_add-start-2 : goal.overflow_add-start-2
-overflow_add-start-2 c = omega (arith, head c)
+overflow_add-start-2 c =
+    let head : c.args.start + 6 ≤ length c.args.file.now = head_within c.args.file.now c.args.start refl c.requires.ends in
+    omega (arith, head)
 
 pub put_items-requires : goal.put_items-requires
 put_items-requires c =

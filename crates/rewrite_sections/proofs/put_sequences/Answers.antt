@@ -12,26 +12,26 @@ use Rattle.rewrite_sections.proofs.Lengths.{sequences_short}
 use borrow.Author.Rules.{rules}
 use Rattle.rewrite_sections.proofs.put_sequences.Goals as goal
 
--- the items end within the file
-within : (c : goal.Start) → c.args.start + 6 + (6 * c.args.atcs + 14 * c.args.stcs) ≤ length c.args.file.now
-within c = rw (c.requires.atcs_are, c.requires.stcs_are) (omega (arith, sequences_end_lem c.args.file.now c.args.start, c.requires.ends))
-
--- the new section is short
-short : (c : goal.After-shared_slice_known-1) → 6 + 6 * c.args.atcs + 14 * c.args.stcs < 2 ^ 32
-short c =
-    rw (c.requires.atcs_are, c.requires.stcs_are) (sequences_short c.args.file.now (λ i. (c.shared_slice_known-1.given i).fits) c.args.start)
-
 pub overflow_cast-items : goal.overflow_cast-items
-overflow_cast-items c = record { fits = omega (arith, short c) }
+overflow_cast-items c =
+    let short : 6 + 6 * c.args.atcs + 14 * c.args.stcs < 2 ^ 32 =
+    rw (c.requires.atcs_are, c.requires.stcs_are) (sequences_short c.args.file.now (λ i. (c.shared_slice_known-1.given i).fits) c.args.start) in
+    record { fits = omega (arith, short) }
 
 pub overflow_cast-atcs : goal.overflow_cast-atcs
-overflow_cast-atcs c = record { fits = omega (arith, short c) }
+overflow_cast-atcs c =
+    let short : 6 + 6 * c.args.atcs + 14 * c.args.stcs < 2 ^ 32 =
+    rw (c.requires.atcs_are, c.requires.stcs_are) (sequences_short c.args.file.now (λ i. (c.shared_slice_known-1.given i).fits) c.args.start) in
+    record { fits = omega (arith, short) }
 
 pub overflow_add-start : goal.overflow_add-start
-overflow_add-start c = omega (arith, within c)
+overflow_add-start c =
+    let within : c.args.start + 6 + (6 * c.args.atcs + 14 * c.args.stcs) ≤ length c.args.file.now = rw (c.requires.atcs_are, c.requires.stcs_are) (omega (arith, sequences_end_lem c.args.file.now c.args.start, c.requires.ends)) in
+    omega (arith, within)
 
 pub copy-requires : goal.copy-requires
-copy-requires c = (omega (arith, within c), search rules)
+copy-requires c =
+    let within : c.args.start + 6 + (6 * c.args.atcs + 14 * c.args.stcs) ≤ length c.args.file.now = rw (c.requires.atcs_are, c.requires.stcs_are) (omega (arith, sequences_end_lem c.args.file.now c.args.start, c.requires.ends)) in (omega (arith, within), search rules)
 
 pub returns : goal.returns
 returns c =

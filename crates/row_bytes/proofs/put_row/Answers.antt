@@ -3,25 +3,25 @@ use Rattle.row_values.proofs.Lengths.{atc_length, stc_length, program_length}
 use Rattle.row_bytes.proofs.put_row.Goals as goal
 
 pub put_atc-requires : goal.put_atc-requires
-put_atc-requires c = let r = c.args.row in rw (c.enum_told.given.1, atc_length r.cell0 r.cell1 r.cell2) at c.requires
+put_atc-requires c = let r = c.args.row in rw (c.in-Atc.is, atc_length r.cell0 r.cell1 r.cell2) at c.requires
 
 pub put_stc-requires : goal.put_stc-requires
-put_stc-requires c = let r = c.args.row in rw (c.enum_told-in-Stc-1.given.1, stc_length r.cell0 r.cell1 r.cell2 r.cell3) at c.requires
+put_stc-requires c = let r = c.args.row in rw (c.in-Stc.is, stc_length r.cell0 r.cell1 r.cell2 r.cell3) at c.requires
 
 pub put_program-requires : goal.put_program-requires
-put_program-requires c = let r = c.args.row in rw (c.enum_told-in-Program-1.given.1, program_length r.cell0 r.cell1 r.cell2) at c.requires
+put_program-requires c = let r = c.args.row in rw (c.in-Program.is, program_length r.cell0 r.cell1 r.cell2) at c.requires
 
 pub put_stream-requires : goal.put_stream-requires
-put_stream-requires c = rw c.enum_told-in-Stream-1.given.1 at c.requires
+put_stream-requires c = rw c.in-Stream.is at c.requires
 
 pub returns-in-Atc : goal.returns-in-Atc
-returns-in-Atc c = let r = c.args.row in rw (c.enum_told.given.1, atc_length r.cell0 r.cell1 r.cell2) c.put_atc.ensures
+returns-in-Atc c = let r = c.args.row in rw (c.in-Atc.is, atc_length r.cell0 r.cell1 r.cell2) c.put_atc.ensures
 
 pub returns-in-Stc : goal.returns-in-Stc
-returns-in-Stc c = let r = c.args.row in rw (c.enum_told-in-Stc-1.given.1, stc_length r.cell0 r.cell1 r.cell2 r.cell3) c.put_stc.ensures
+returns-in-Stc c = let r = c.args.row in rw (c.in-Stc.is, stc_length r.cell0 r.cell1 r.cell2 r.cell3) c.put_stc.ensures
 
 pub returns-in-Program : goal.returns-in-Program
-returns-in-Program c = let r = c.args.row in rw (c.enum_told-in-Program-1.given.1, program_length r.cell0 r.cell1 r.cell2) c.put_program.ensures
+returns-in-Program c = let r = c.args.row in rw (c.in-Program.is, program_length r.cell0 r.cell1 r.cell2) c.put_program.ensures
 
 pub returns-in-Stream : goal.returns-in-Stream
-returns-in-Stream c = rw c.enum_told-in-Stream-1.given.1 c.put_stream.ensures
+returns-in-Stream c = rw c.in-Stream.is c.put_stream.ensures

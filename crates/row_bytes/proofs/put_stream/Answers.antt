@@ -14,68 +14,74 @@ use Rattle.row_bytes.proofs.Fields.{stream_head, head_length, video_bytes, short
 use borrow.Author.Rules.{rules}
 use Rattle.row_bytes.proofs.put_stream.Goals as goal
 
--- the length of each form
-video-long : (c : goal.Then-is_video) → length (stream_bytes (row5 c.args.row)) ≡ 6
-video-long c =
-    let r = c.args.row in
-    video_length r.cell0 r.cell1 r.cell2 r.cell3 r.cell4 c.is_video.ensures c.if-is_video.true
-
-short-long : (c : goal.Then-row-eq0) → length (stream_bytes (row5 c.args.row)) ≡ 5
-short-long c =
-    let r = c.args.row in
-    short_length r.cell0 r.cell1 r.cell2 r.cell3 r.cell4 c.is_video.ensures c.if-is_video.false c.if-row-eq0.true
-
-tagged-long : (c : goal.Else-row-eq0) → length (stream_bytes (row5 c.args.row)) ≡ 8
-tagged-long c =
-    let r = c.args.row in
-    tagged_length r.cell0 r.cell1 r.cell2 r.cell3 r.cell4 c.is_video.ensures c.if-is_video.false c.if-row-eq0.false
-
--- so much room there is
-video-room : (c : goal.Then-is_video) → c.args.at + 6 ≤ length c.args.out.now
-video-room c = omega (arith, video-long c, c.requires)
-
-tagged-room : (c : goal.Else-row-eq0) → c.args.at + 8 ≤ length c.args.out.now
-tagged-room c = omega (arith, tagged-long c, c.requires)
-
 pub put_stream_head-requires : goal.put_stream_head-requires
-put_stream_head-requires c = omega (arith, video-room c)
+put_stream_head-requires c =
+    let video-long : length (stream_bytes (row5 c.args.row)) ≡ 6 = let r = c.args.row in
+    video_length r.cell0 r.cell1 r.cell2 r.cell3 r.cell4 c.is_video.ensures c.if-is_video.true in
+    let video-room : c.args.at + 6 ≤ length c.args.out.now = omega (arith, video-long, c.requires) in
+    omega (arith, video-room)
 
 pub put_u8-requires : goal.put_u8-requires
-put_u8-requires c = let room = video-room c in search rules
+put_u8-requires c =
+    let video-long : length (stream_bytes (row5 c.args.row)) ≡ 6 = let r = c.args.row in
+    video_length r.cell0 r.cell1 r.cell2 r.cell3 r.cell4 c.is_video.ensures c.if-is_video.true in
+    let video-room : c.args.at + 6 ≤ length c.args.out.now = omega (arith, video-long, c.requires) in
+    let room = video-room in search rules
 
 pub returns-then-is_video : goal.returns-then-is_video
 returns-then-is_video c =
+    let video-long : length (stream_bytes (row5 c.args.row)) ≡ 6 = let r = c.args.row in
+    video_length r.cell0 r.cell1 r.cell2 r.cell3 r.cell4 c.is_video.ensures c.if-is_video.true in
     let a = c.args in
     let r = a.row in
     let is = video_bytes r.cell0 r.cell1 r.cell2 r.cell3 r.cell4 c.is_video.ensures c.if-is_video.true in
-    let head = stream_head r.cell0 3 r.cell1 r.cell2 in record { value = rw (video-long c); out_after = rw is (part_then a.out.now a.at 5 head (bytes_of 1 (r.cell3 % 16 * 16)) (head_length r.cell0 3 r.cell1 r.cell2) refl c.put_stream_head.ensures c.put_u8.ensures) }
+    let head = stream_head r.cell0 3 r.cell1 r.cell2 in record { value = rw video-long; out_after = rw is (part_then a.out.now a.at 5 head (bytes_of 1 (r.cell3 % 16 * 16)) (head_length r.cell0 3 r.cell1 r.cell2) refl c.put_stream_head.ensures c.put_u8.ensures) }
 
 pub put_stream_head-requires-then-row-eq0 : goal.put_stream_head-requires-then-row-eq0
-put_stream_head-requires-then-row-eq0 c = omega (arith, short-long c, c.requires)
+put_stream_head-requires-then-row-eq0 c =
+    let short-long : length (stream_bytes (row5 c.args.row)) ≡ 5 = let r = c.args.row in
+    short_length r.cell0 r.cell1 r.cell2 r.cell3 r.cell4 c.is_video.ensures c.if-is_video.false c.if-row-eq0.true in
+    omega (arith, short-long, c.requires)
 
 pub returns-then-row-eq0 : goal.returns-then-row-eq0
 returns-then-row-eq0 c =
+    let short-long : length (stream_bytes (row5 c.args.row)) ≡ 5 = let r = c.args.row in
+    short_length r.cell0 r.cell1 r.cell2 r.cell3 r.cell4 c.is_video.ensures c.if-is_video.false c.if-row-eq0.true in
     let a = c.args in
     let r = a.row in
     let is = short_bytes r.cell0 r.cell1 r.cell2 r.cell3 r.cell4 c.is_video.ensures c.if-is_video.false c.if-row-eq0.true in
-    record { value = rw (short-long c); out_after = rw is c.put_stream_head-then-row-eq0.ensures }
+    record { value = rw short-long; out_after = rw is c.put_stream_head-then-row-eq0.ensures }
 
 pub put_stream_head-requires-2 : goal.put_stream_head-requires-2
-put_stream_head-requires-2 c = omega (arith, tagged-room c)
+put_stream_head-requires-2 c =
+    let tagged-long : length (stream_bytes (row5 c.args.row)) ≡ 8 = let r = c.args.row in
+    tagged_length r.cell0 r.cell1 r.cell2 r.cell3 r.cell4 c.is_video.ensures c.if-is_video.false c.if-row-eq0.false in
+    let tagged-room : c.args.at + 8 ≤ length c.args.out.now = omega (arith, tagged-long, c.requires) in
+    omega (arith, tagged-room)
 
 pub put_u8-requires-2 : goal.put_u8-requires-2
-put_u8-requires-2 c = let room = tagged-room c in search rules
+put_u8-requires-2 c =
+    let tagged-long : length (stream_bytes (row5 c.args.row)) ≡ 8 = let r = c.args.row in
+    tagged_length r.cell0 r.cell1 r.cell2 r.cell3 r.cell4 c.is_video.ensures c.if-is_video.false c.if-row-eq0.false in
+    let tagged-room : c.args.at + 8 ≤ length c.args.out.now = omega (arith, tagged-long, c.requires) in
+    let room = tagged-room in search rules
 
 pub put_u16-requires : goal.put_u16-requires
-put_u16-requires c = let room = tagged-room c in search rules
+put_u16-requires c =
+    let tagged-long : length (stream_bytes (row5 c.args.row)) ≡ 8 = let r = c.args.row in
+    tagged_length r.cell0 r.cell1 r.cell2 r.cell3 r.cell4 c.is_video.ensures c.if-is_video.false c.if-row-eq0.false in
+    let tagged-room : c.args.at + 8 ≤ length c.args.out.now = omega (arith, tagged-long, c.requires) in
+    let room = tagged-room in search rules
 
 pub returns : goal.returns
 returns c =
+    let tagged-long : length (stream_bytes (row5 c.args.row)) ≡ 8 = let r = c.args.row in
+    tagged_length r.cell0 r.cell1 r.cell2 r.cell3 r.cell4 c.is_video.ensures c.if-is_video.false c.if-row-eq0.false in
     let a = c.args in
     let r = a.row in
     let is = tagged_bytes r.cell0 r.cell1 r.cell2 r.cell3 r.cell4 c.is_video.ensures c.if-is_video.false c.if-row-eq0.false in
     let head = stream_head r.cell0 5 r.cell1 r.cell2 in record {
-      value = rw (tagged-long c);
+      value = rw tagged-long;
       out_after = rw is
           (part_then a.out.now a.at 5 head (bytes_of 1 (r.cell4 / 65536) ++ bytes_of 2 r.cell4) (head_length r.cell0 5 r.cell1 r.cell2) refl c.put_stream_head-2.ensures
           (field_then _ (a.at + 5) 1 (r.cell4 / 65536) _ (sym (add_assoc a.at 5 1)) c.put_u8-2.ensures c.put_u16.ensures));

@@ -15,7 +15,7 @@ use Rattle.row_search.proofs.first_row.Goals as goal
 pub returns-then-not-is_stated : goal.returns-then-not-is_stated
 returns-then-not-is_stated c =
     let a = c.args in
-    not_stated a.table.now a.rows a.cells a.cell a.from a.test c.is_stated.ensures c.if-not-is_stated.true
+    not_stated a.table.now a.rows a.cells a.cell a.from a.test c.is_stated.ensures c.if-not-is_stated.true-raw
 
 pub loop-k-init : goal.loop-k-init
 loop-k-init c =
@@ -33,7 +33,7 @@ overflow_mul-cells-in-loop-k c = record { fits = omega (arith, mul-le-mul_right 
 
 pub cell_at-requires : goal.cell_at-requires
 cell_at-requires c =
-    let rows_fit : let a = c.args in a.rows ≤ row_room a.cells a.table.now = let a = c.args in room a.cells (stated a.table.now a.rows) c.is_stated.ensures c.if-not-is_stated.false in
+    let rows_fit : let a = c.args in a.rows ≤ row_room a.cells a.table.now = let a = c.args in room a.cells (stated a.table.now a.rows) c.is_stated.ensures c.if-not-is_stated.false-raw in
     let cell-fits : let a = c.args in (k : ℕ) → k < a.rows → 4 * (a.cells * k + a.cell) + 4 ≤ length a.table.now = (λ k h. let a = c.args in cell_room a.cells a.table.now a.rows k a.cell h c.requires.0 rows_fit) in
     cell-fits c.loop-k.k c.loop-k-test.true
 
@@ -41,7 +41,7 @@ pub returns-then-passes : goal.returns-then-passes
 returns-then-passes c =
     let a = c.args in
     let l = c.loop-k in
-    row_is a.table.now a.rows a.cells a.cell a.from a.test c.is_stated.ensures c.if-not-is_stated.false l.k c.requires.0 c.loop-k-test.true c.cell_at.ensures c.passes.ensures c.if-passes.true l.invariant
+    row_is a.table.now a.rows a.cells a.cell a.from a.test c.is_stated.ensures c.if-not-is_stated.false-raw l.k c.requires.0 c.loop-k-test.true c.cell_at.ensures c.passes.ensures c.if-passes.true l.invariant
 
 pub loop-k-preserved : goal.loop-k-preserved
 loop-k-preserved c =
@@ -53,4 +53,4 @@ pub returns : goal.returns
 returns c =
     let a = c.args in
     let l = c.loop-k in
-    no_row a.table.now a.rows a.cells a.cell a.from a.test c.is_stated.ensures c.if-not-is_stated.false l.k c.loop-k-test.false l.invariant
+    no_row a.table.now a.rows a.cells a.cell a.from a.test c.is_stated.ensures c.if-not-is_stated.false-raw l.k c.loop-k-test.false l.invariant

@@ -8,19 +8,19 @@ use Rattle.row_values.proofs.row_length.Goals as goal
 pub returns-in-Atc : goal.returns-in-Atc
 returns-in-Atc c =
     let r = c.args.row in
-    sym (ap (λ k. length (bytes_by k (row_of k r))) c.enum_told.given.1 ∙ atc_length r.cell0 r.cell1 r.cell2)
+    sym (ap (λ k. length (bytes_by k (row_of k r))) c.in-Atc.is ∙ atc_length r.cell0 r.cell1 r.cell2)
 
 pub returns-in-Stc : goal.returns-in-Stc
 returns-in-Stc c =
     let r = c.args.row in
-    sym (ap (λ k. length (bytes_by k (row_of k r))) c.enum_told-in-Stc-1.given.1 ∙ stc_length r.cell0 r.cell1 r.cell2 r.cell3)
+    sym (ap (λ k. length (bytes_by k (row_of k r))) c.in-Stc.is ∙ stc_length r.cell0 r.cell1 r.cell2 r.cell3)
 
 pub returns-in-Program : goal.returns-in-Program
 returns-in-Program c =
     let r = c.args.row in
-    sym (ap (λ k. length (bytes_by k (row_of k r))) c.enum_told-in-Program-1.given.1 ∙ program_length r.cell0 r.cell1 r.cell2)
+    sym (ap (λ k. length (bytes_by k (row_of k r))) c.in-Program.is ∙ program_length r.cell0 r.cell1 r.cell2)
 
 pub returns-in-Stream : goal.returns-in-Stream
 returns-in-Stream c =
     let r = c.args.row in
-    c.stream_length.ensures ∙ sym (ap (λ k. length (bytes_by k (row_of k r))) c.enum_told-in-Stream-1.given.1)
+    c.stream_length.ensures ∙ sym (ap (λ k. length (bytes_by k (row_of k r))) c.in-Stream.is)

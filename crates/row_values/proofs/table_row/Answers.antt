@@ -2,25 +2,25 @@
 use Rattle.row_values.proofs.table_row.Goals as goal
 
 pub row_of_3-requires : goal.row_of_3-requires
-row_of_3-requires c = rw c.enum_told.given.1 at c.requires
+row_of_3-requires c = rw c.in-Atc.is at c.requires
 
 pub row_of_4-requires : goal.row_of_4-requires
-row_of_4-requires c = rw c.enum_told-in-Stc-1.given.1 at c.requires
+row_of_4-requires c = rw c.in-Stc.is at c.requires
 
 pub row_of_3-requires-in-Program : goal.row_of_3-requires-in-Program
-row_of_3-requires-in-Program c = rw c.enum_told-in-Program-1.given.1 at c.requires
+row_of_3-requires-in-Program c = rw c.in-Program.is at c.requires
 
 pub row_of_5-requires : goal.row_of_5-requires
-row_of_5-requires c = rw c.enum_told-in-Stream-1.given.1 at c.requires
+row_of_5-requires c = rw c.in-Stream.is at c.requires
 
 pub returns-in-Atc : goal.returns-in-Atc
-returns-in-Atc c = rw c.enum_told.given.1 c.row_of_3.ensures
+returns-in-Atc c = rw c.in-Atc.is c.row_of_3.ensures
 
 pub returns-in-Stc : goal.returns-in-Stc
-returns-in-Stc c = rw c.enum_told-in-Stc-1.given.1 c.row_of_4.ensures
+returns-in-Stc c = rw c.in-Stc.is c.row_of_4.ensures
 
 pub returns-in-Program : goal.returns-in-Program
-returns-in-Program c = rw c.enum_told-in-Program-1.given.1 c.row_of_3-in-Program.ensures
+returns-in-Program c = rw c.in-Program.is c.row_of_3-in-Program.ensures
 
 pub returns-in-Stream : goal.returns-in-Stream
-returns-in-Stream c = rw c.enum_told-in-Stream-1.given.1 c.row_of_5.ensures
+returns-in-Stream c = rw c.in-Stream.is c.row_of_5.ensures

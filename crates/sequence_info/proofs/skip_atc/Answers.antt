@@ -6,24 +6,24 @@ use Rattle.common.proofs.Laws.{got, not_got}
 use Rattle.sequence_info.proofs.Laws.{atc_passed, atc_cut}
 use Rattle.sequence_info.proofs.skip_atc.Goals as goal
 
--- the count is a byte
-small : (c : goal.In-Read) → c.num_stc.given.0.0 < 256
-small c = rw c.num_stc.given.1 at c.read_count.ensures.below
-
 pub returns-in_default : goal.returns-in_default
 returns-in_default c =
     let a = c.args in
     let f = a.file.now in
-    atc_cut f a.r.pos (not_got f (a.r.pos + 4) 1 (sym c.enum_told.given.1 ∙ c.read_count.ensures.same))
+    atc_cut f a.r.pos (not_got f (a.r.pos + 4) 1 (sym c.in_default.is ∙ c.read_count.ensures.same))
 
 pub overflow_mul-num_stc : goal.overflow_mul-num_stc
-overflow_mul-num_stc c = omega (arith, small c)
+overflow_mul-num_stc c =
+    let small : c.in-Read.num_stc < 256 = rw c.in-Read.is at c.read_count.ensures.below in
+    omega (arith, small)
 
 pub overflow_add-num_stc : goal.overflow_add-num_stc
-overflow_add-num_stc c = omega (arith, small c)
+overflow_add-num_stc c =
+    let small : c.in-Read.num_stc < 256 = rw c.in-Read.is at c.read_count.ensures.below in
+    omega (arith, small)
 
 pub returns : goal.returns
 returns c =
     let a = c.args in
     let f = a.file.now in
-    atc_passed f a.r.pos (got f (a.r.pos + 4) 1 (sym c.num_stc.given.1 ∙ c.read_count.ensures.same)) c.skip.ensures
+    atc_passed f a.r.pos (got f (a.r.pos + 4) 1 (sym c.in-Read.is ∙ c.read_count.ensures.same)) c.skip.ensures

@@ -18,20 +18,20 @@ asks k t n = refl
 pub returns-then-not-is_stated : goal.returns-then-not-is_stated
 returns-then-not-is_stated c =
     let a = c.args in
-    unstated (duration90k a.stc) (only_stcs (stated a.stcs.now a.rows)) stcs refl c.is_stated.ensures c.if-not-is_stated.true
+    unstated (duration90k a.stc) (only_stcs (stated a.stcs.now a.rows)) stcs refl c.is_stated.ensures c.if-not-is_stated.true-raw
 
 pub returns-then-stc-rows : goal.returns-then-stc-rows
 returns-then-stc-rows c =
     let a = c.args in
-    no_row (duration90k a.stc) a.stcs.now a.rows a.stc (λ s. ticks90 (doubled (duration_of s))) refl c.is_stated.ensures c.if-not-is_stated.false (asks a.stc a.stcs.now a.rows) c.if-stc-rows.true
+    no_row (duration90k a.stc) a.stcs.now a.rows a.stc (λ s. ticks90 (doubled (duration_of s))) refl c.is_stated.ensures c.if-not-is_stated.false-raw (asks a.stc a.stcs.now a.rows) c.if-stc-rows.true
 
 pub row_duration-requires : goal.row_duration-requires
 row_duration-requires c =
     let a = c.args in
-    (room stc_cells (stated a.stcs.now a.rows) c.is_stated.ensures c.if-not-is_stated.false, c.if-stc-rows.false)
+    (room stc_cells (stated a.stcs.now a.rows) c.is_stated.ensures c.if-not-is_stated.false-raw, c.if-stc-rows.false)
 
 pub returns : goal.returns
 returns c =
     let a = c.args in
     ap (λ x. ticks90 x) (c.doubled.ensures ∙ ap doubled c.row_duration.ensures)
-    ∙ row_answers (duration90k a.stc) a.stcs.now a.rows a.stc (λ s. ticks90 (doubled (duration_of s))) refl c.is_stated.ensures c.if-not-is_stated.false (asks a.stc a.stcs.now a.rows) c.if-stc-rows.false refl
+    ∙ row_answers (duration90k a.stc) a.stcs.now a.rows a.stc (λ s. ticks90 (doubled (duration_of s))) refl c.is_stated.ensures c.if-not-is_stated.false-raw (asks a.stc a.stcs.now a.rows) c.if-stc-rows.false refl

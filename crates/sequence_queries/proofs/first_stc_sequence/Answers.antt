@@ -10,14 +10,14 @@ use Rattle.sequence_queries.proofs.first_stc_sequence.Goals as goal
 pub returns-then-not-is_stated : goal.returns-then-not-is_stated
 returns-then-not-is_stated c =
     let a = c.args in
-    unstated first_stc_sequence (only_stcs (stated a.stcs.now a.rows)) stcs refl c.is_stated.ensures c.if-not-is_stated.true
+    unstated first_stc_sequence (only_stcs (stated a.stcs.now a.rows)) stcs refl c.is_stated.ensures c.if-not-is_stated.true-raw
 
 pub returns-then-rows-eq0 : goal.returns-then-rows-eq0
 returns-then-rows-eq0 c =
     let a = c.args in
-    no_first a.stcs.now a.rows c.if-rows-eq0.true ∙ answered first_stc_sequence (only_stcs (stated a.stcs.now a.rows)) stcs refl c.is_stated.ensures c.if-not-is_stated.false
+    no_first a.stcs.now a.rows c.if-rows-eq0.true ∙ answered first_stc_sequence (only_stcs (stated a.stcs.now a.rows)) stcs refl c.is_stated.ensures c.if-not-is_stated.false-raw
 
 pub returns : goal.returns
 returns c =
     let a = c.args in
-    a_first a.stcs.now a.rows c.if-rows-eq0.false ∙ answered first_stc_sequence (only_stcs (stated a.stcs.now a.rows)) stcs refl c.is_stated.ensures c.if-not-is_stated.false
+    a_first a.stcs.now a.rows c.if-rows-eq0.false ∙ answered first_stc_sequence (only_stcs (stated a.stcs.now a.rows)) stcs refl c.is_stated.ensures c.if-not-is_stated.false-raw

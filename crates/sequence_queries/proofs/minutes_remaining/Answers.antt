@@ -25,20 +25,20 @@ asks k at t n = refl
 pub returns-then-not-is_stated : goal.returns-then-not-is_stated
 returns-then-not-is_stated c =
     let a = c.args in
-    unstated (minutes_remaining a.stc (as90 a.at)) (only_stcs (stated a.stcs.now a.rows)) stcs refl c.is_stated.ensures c.if-not-is_stated.true
+    unstated (minutes_remaining a.stc (as90 a.at)) (only_stcs (stated a.stcs.now a.rows)) stcs refl c.is_stated.ensures c.if-not-is_stated.true-raw
 
 pub minutes_from-requires : goal.minutes_from-requires
 minutes_from-requires c =
     let a = c.args in
-    (room stc_cells (stated a.stcs.now a.rows) c.is_stated.ensures c.if-not-is_stated.false, c.if-stc-rows.true)
+    (room stc_cells (stated a.stcs.now a.rows) c.is_stated.ensures c.if-not-is_stated.false-raw, c.if-stc-rows.true)
 
 pub returns-then-stc-rows : goal.returns-then-stc-rows
 returns-then-stc-rows c =
     let a = c.args in
     ap number c.minutes_from.ensures
-    ∙ row_answers (minutes_remaining a.stc (as90 a.at)) a.stcs.now a.rows a.stc (of_row a.stc (as90 a.at) a.stcs.now a.rows) refl c.is_stated.ensures c.if-not-is_stated.false (asks a.stc (as90 a.at) a.stcs.now a.rows) c.if-stc-rows.true refl
+    ∙ row_answers (minutes_remaining a.stc (as90 a.at)) a.stcs.now a.rows a.stc (of_row a.stc (as90 a.at) a.stcs.now a.rows) refl c.is_stated.ensures c.if-not-is_stated.false-raw (asks a.stc (as90 a.at) a.stcs.now a.rows) c.if-stc-rows.true refl
 
 pub returns : goal.returns
 returns c =
     let a = c.args in
-    no_row (minutes_remaining a.stc (as90 a.at)) a.stcs.now a.rows a.stc (of_row a.stc (as90 a.at) a.stcs.now a.rows) refl c.is_stated.ensures c.if-not-is_stated.false (asks a.stc (as90 a.at) a.stcs.now a.rows) c.if-stc-rows.false
+    no_row (minutes_remaining a.stc (as90 a.at)) a.stcs.now a.rows a.stc (of_row a.stc (as90 a.at) a.stcs.now a.rows) refl c.is_stated.ensures c.if-not-is_stated.false-raw (asks a.stc (as90 a.at) a.stcs.now a.rows) c.if-stc-rows.false

@@ -9,31 +9,32 @@ use Rattle.queries.proofs.Asking.{unstated, answered, room}
 use Rattle.sequence_queries.proofs.Laws.{no_span, span_is}
 use Rattle.sequence_queries.proofs.presentation_span_90k.Goals as goal
 
--- there is room for the rows
-rows_fit : (e : goal.Else-rows-eq0) → let a = e.args in a.rows ≤ row_room stc_cells a.stcs.now
-rows_fit e = let a = e.args in room stc_cells (stated a.stcs.now a.rows) e.is_stated.ensures e.if-not-is_stated.false
-
 pub returns-then-not-is_stated : goal.returns-then-not-is_stated
 returns-then-not-is_stated c =
     let a = c.args in
-    unstated presentation_span_90k (only_stcs (stated a.stcs.now a.rows)) stcs refl c.is_stated.ensures c.if-not-is_stated.true
+    unstated presentation_span_90k (only_stcs (stated a.stcs.now a.rows)) stcs refl c.is_stated.ensures c.if-not-is_stated.true-raw
 
 pub returns-then-rows-eq0 : goal.returns-then-rows-eq0
 returns-then-rows-eq0 c =
     let a = c.args in
-    no_span a.stcs.now a.rows c.if-rows-eq0.true ∙ answered presentation_span_90k (only_stcs (stated a.stcs.now a.rows)) stcs refl c.is_stated.ensures c.if-not-is_stated.false
+    no_span a.stcs.now a.rows c.if-rows-eq0.true ∙ answered presentation_span_90k (only_stcs (stated a.stcs.now a.rows)) stcs refl c.is_stated.ensures c.if-not-is_stated.false-raw
 
 pub latest_end-requires : goal.latest_end-requires
-latest_end-requires c = rows_fit c
+latest_end-requires c =
+    let rows_fit : let a = c.args in a.rows ≤ row_room stc_cells a.stcs.now = let a = c.args in room stc_cells (stated a.stcs.now a.rows) c.is_stated.ensures c.if-not-is_stated.false-raw in
+    rows_fit
 
 pub cell_at-requires : goal.cell_at-requires
-cell_at-requires c = omega (arith, rows_fit c, c.if-rows-eq0.false)
+cell_at-requires c =
+    let rows_fit : let a = c.args in a.rows ≤ row_room stc_cells a.stcs.now = let a = c.args in room stc_cells (stated a.stcs.now a.rows) c.is_stated.ensures c.if-not-is_stated.false-raw in omega (arith, rows_fit, c.if-rows-eq0.false)
 
 pub least_start-requires : goal.least_start-requires
-least_start-requires c = rows_fit c
+least_start-requires c =
+    let rows_fit : let a = c.args in a.rows ≤ row_room stc_cells a.stcs.now = let a = c.args in room stc_cells (stated a.stcs.now a.rows) c.is_stated.ensures c.if-not-is_stated.false-raw in
+    rows_fit
 
 pub returns : goal.returns
 returns c =
     let a = c.args in
     span_is a.stcs.now a.rows c.if-rows-eq0.false c.cell_at.ensures c.latest_end.ensures c.doubled-latest.ensures c.least_start.ensures c.doubled-least.ensures c.less.ensures
-    ∙ answered presentation_span_90k (only_stcs (stated a.stcs.now a.rows)) stcs refl c.is_stated.ensures c.if-not-is_stated.false
+    ∙ answered presentation_span_90k (only_stcs (stated a.stcs.now a.rows)) stcs refl c.is_stated.ensures c.if-not-is_stated.false-raw

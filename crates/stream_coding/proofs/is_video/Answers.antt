@@ -3,7 +3,7 @@ use Rattle.stream_coding.proofs.Laws.{listed, not_listed}
 use Rattle.stream_coding.proofs.is_video.Goals as goal
 
 pub returns-in-2 : goal.returns-in-2
-returns-in-2 c = listed _ c.in_default.keys1
+returns-in-2 c = listed _ c.in-2.is
 
 pub returns-in_default : goal.returns-in_default
-returns-in_default c = not_listed _ c.in_default.rest.1
+returns-in_default c = not_listed _ c.in_default.in_default-own.rest.1

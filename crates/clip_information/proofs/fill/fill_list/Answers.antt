@@ -8,28 +8,28 @@ use Rattle.clip_information.proofs.FillLaws.{not_listed, no_list, list_fillable,
 use Rattle.clip_information.proofs.fill.fill_list.Goals as goal
 
 pub returns-then-not-listed : goal.returns-then-not-listed
-returns-then-not-listed c = not_listed c.args.file.now c.args.list c.requires c.if-not-listed.true
+returns-then-not-listed c = not_listed c.args.file.now c.args.list c.requires c.if-not-listed.true-raw
 
 pub returns-in_default : goal.returns-in_default
-returns-in_default c = no_list c.args.file.now c.args.list c.requires c.enum_told.given.1
+returns-in_default c = no_list c.args.file.now c.args.list c.requires c.in_default.is
 
 pub overflow_add-end : goal.overflow_add-end
 overflow_add-end c =
     let F : List ℕ = c.args.file.now in
-    let inside : c.list.given.0.0 + c.list.given.0.1.0 ≤ length F = list_inside F c.args.list _ _ c.list.given.1 c.requires.list_in_lem in omega (arith, inside)
+    let inside : c.in-At.start + c.in-At.len ≤ length F = list_inside F c.args.list _ _ c.in-At.is c.requires.list_in_lem in omega (arith, inside)
 
 pub slice-bounds-fill-end : goal.slice-bounds-fill-end
 slice-bounds-fill-end c =
     let F : List ℕ = c.args.file.now in
-    let inside : c.list.given.0.0 + c.list.given.0.1.0 ≤ length F = list_inside F c.args.list _ _ c.list.given.1 c.requires.list_in_lem in omega (arith, inside)
+    let inside : c.in-At.start + c.in-At.len ≤ length F = list_inside F c.args.list _ _ c.in-At.is c.requires.list_in_lem in omega (arith, inside)
 
 pub fill-requires : goal.fill-requires
 fill-requires c =
     let F : List ℕ = c.args.file.now in
-    list_fillable F c.args.list c.requires _ _ c.list.given.1 c.if-not-listed.false
+    list_fillable F c.args.list c.requires _ _ c.in-At.is c.if-not-listed.false-raw
 
 pub returns : goal.returns
 returns c =
     let F : List ℕ = c.args.file.now in
     let k : goal.In-At-2 = search in
-    let s = S k in record { programs_after = filled_as s.args.programs.now (programs_put F s.args.list s.pre _ _ k.list.given.1 c.if-not-listed.false) c.fill.ensures.heads_after; streams_after = filled_as s.args.streams.now (streams_put F s.args.list s.pre _ _ k.list.given.1 c.if-not-listed.false) c.fill.ensures.rows_after }
+    let s = S k in record { programs_after = filled_as s.args.programs.now (programs_put F s.args.list s.pre _ _ k.in-At.is c.if-not-listed.false-raw) c.fill.ensures.heads_after; streams_after = filled_as s.args.streams.now (streams_put F s.args.list s.pre _ _ k.in-At.is c.if-not-listed.false-raw) c.fill.ensures.rows_after }

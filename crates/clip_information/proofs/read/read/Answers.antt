@@ -20,82 +20,73 @@ filled_of l = sections-of c
 
 pub fill_sections-requires : goal.fill_sections-requires
 fill_sections-requires c =
-    let S : goal.Start = start_of c in
-    let F : List ℕ = S.args.file.now in
-    let L : Nine (List ℕ) = let a = S.args in
+    let F : List ℕ = c.args.file.now in
+    let L : Nine (List ℕ) = let a = c.args in
     nine_tables_of a.atcs.now a.stcs.now a.programs.now a.streams.now a.maps.now a.entries.now a.extensions.now a.programs2.now a.streams2.now in
     let prepared : PreparedIs F (lengths_of L) c.prepare.result = rw (c.nine_lengths.ensures, c.six_lengths-six.ensures) at c.prepare.ensures in
-    let ready : ReadyIs F (lengths_of L) c.rows.given.0.0 c.rows.given.0.1.0 c.rows.given.0.1.1.0 = prepared_ready F L prepared c.rows.given.1 in sections_fit F L ready
+    let ready : ReadyIs F (lengths_of L) c.in-Ready.rows c.in-Ready.list c.in-Ready.has_list = prepared_ready F L prepared c.in-Ready.is in sections_fit F L ready
 
 pub read-requires : goal.read-requires
 read-requires c =
-    let S : goal.Start = start_of c in
-    let F : List ℕ = S.args.file.now in
-    let L : Nine (List ℕ) = let a = S.args in
+    let F : List ℕ = c.args.file.now in
+    let L : Nine (List ℕ) = let a = c.args in
     nine_tables_of a.atcs.now a.stcs.now a.programs.now a.streams.now a.maps.now a.entries.now a.extensions.now a.programs2.now a.streams2.now in
     let prepared : PreparedIs F (lengths_of L) c.prepare.result = rw (c.nine_lengths.ensures, c.six_lengths-six.ensures) at c.prepare.ensures in
-    let ready : ReadyIs F (lengths_of L) c.rows.given.0.0 c.rows.given.0.1.0 c.rows.given.0.1.1.0 = prepared_ready F L prepared c.rows.given.1 in
+    let ready : ReadyIs F (lengths_of L) c.in-Ready.rows c.in-Ready.list c.in-Ready.has_list = prepared_ready F L prepared c.in-Ready.is in
     omega (arith, accepted_bounds F ready.accepts)
 
 pub fill-requires : goal.fill-requires
 fill-requires c =
-    let S : goal.Start = start_of c in
-    let F : List ℕ = S.args.file.now in
-    let L : Nine (List ℕ) = let a = S.args in
+    let F : List ℕ = c.args.file.now in
+    let L : Nine (List ℕ) = let a = c.args in
     nine_tables_of a.atcs.now a.stcs.now a.programs.now a.streams.now a.maps.now a.entries.now a.extensions.now a.programs2.now a.streams2.now in
     let prepared : PreparedIs F (lengths_of L) c.prepare.result = rw (c.nine_lengths.ensures, c.six_lengths-six.ensures) at c.prepare.ensures in
-    let ready : ReadyIs F (lengths_of L) c.rows.given.0.0 c.rows.given.0.1.0 c.rows.given.0.1.1.0 = prepared_ready F L prepared c.rows.given.1 in
+    let ready : ReadyIs F (lengths_of L) c.in-Ready.rows c.in-Ready.list c.in-Ready.has_list = prepared_ready F L prepared c.in-Ready.is in
     extensions_fit F L ready c.read.ensures.extensions
 
 pub fill_list-requires : goal.fill_list-requires
 fill_list-requires c =
-    let S : goal.Start = start_of c in
-    let F : List ℕ = S.args.file.now in
-    let L : Nine (List ℕ) = let a = S.args in
+    let F : List ℕ = c.args.file.now in
+    let L : Nine (List ℕ) = let a = c.args in
     nine_tables_of a.atcs.now a.stcs.now a.programs.now a.streams.now a.maps.now a.entries.now a.extensions.now a.programs2.now a.streams2.now in
     let prepared : PreparedIs F (lengths_of L) c.prepare.result = rw (c.nine_lengths.ensures, c.six_lengths-six.ensures) at c.prepare.ensures in
-    let ready : ReadyIs F (lengths_of L) c.rows.given.0.0 c.rows.given.0.1.0 c.rows.given.0.1.1.0 = prepared_ready F L prepared c.rows.given.1 in
+    let ready : ReadyIs F (lengths_of L) c.in-Ready.rows c.in-Ready.list c.in-Ready.has_list = prepared_ready F L prepared c.in-Ready.is in
     let k = ready_of c in
     list_fits F L ready
 
 pub accepted-requires : goal.accepted-requires
 accepted-requires c =
-    let S : goal.Start = start_of c in
-    let F : List ℕ = S.args.file.now in
-    let L : Nine (List ℕ) = let a = S.args in
+    let F : List ℕ = c.args.file.now in
+    let L : Nine (List ℕ) = let a = c.args in
     nine_tables_of a.atcs.now a.stcs.now a.programs.now a.streams.now a.maps.now a.entries.now a.extensions.now a.programs2.now a.streams2.now in
     let prepared : PreparedIs F (lengths_of L) c.prepare.result = rw (c.nine_lengths.ensures, c.six_lengths-six.ensures) at c.prepare.ensures in
-    let ready : ReadyIs F (lengths_of L) c.rows.given.0.0 c.rows.given.0.1.0 c.rows.given.0.1.1.0 = prepared_ready F L prepared c.rows.given.1 in
+    let ready : ReadyIs F (lengths_of L) c.in-Ready.rows c.in-Ready.list c.in-Ready.has_list = prepared_ready F L prepared c.in-Ready.is in
     ready.accepts
 
 pub returns-in-Refused : goal.returns-in-Refused
 returns-in-Refused c =
-    let S : goal.Start = start_of c in
-    let F : List ℕ = S.args.file.now in
-    let L : Nine (List ℕ) = let a = S.args in
+    let F : List ℕ = c.args.file.now in
+    let L : Nine (List ℕ) = let a = c.args in
     nine_tables_of a.atcs.now a.stcs.now a.programs.now a.streams.now a.maps.now a.entries.now a.extensions.now a.programs2.now a.streams2.now in
     let prepared : PreparedIs F (lengths_of L) c.prepare.result = rw (c.nine_lengths.ensures, c.six_lengths-six.ensures) at c.prepare.ensures in
-    record { result_value = prepared_answer_lem F L prepared c.n.given.1; atcs_after = refl; stcs_after = refl; programs_after = refl; streams_after = refl; maps_after = refl; entries_after = refl; extensions_after = refl; programs2_after = refl; streams2_after = refl }
+    record { result_value = prepared_answer_lem F L prepared c.in-Refused.is; atcs_after = refl; stcs_after = refl; programs_after = refl; streams_after = refl; maps_after = refl; entries_after = refl; extensions_after = refl; programs2_after = refl; streams2_after = refl }
 
 pub returns-in-TooShort : goal.returns-in-TooShort
 returns-in-TooShort c =
-    let S : goal.Start = start_of c in
-    let F : List ℕ = S.args.file.now in
-    let L : Nine (List ℕ) = let a = S.args in
+    let F : List ℕ = c.args.file.now in
+    let L : Nine (List ℕ) = let a = c.args in
     nine_tables_of a.atcs.now a.stcs.now a.programs.now a.streams.now a.maps.now a.entries.now a.extensions.now a.programs2.now a.streams2.now in
     let prepared : PreparedIs F (lengths_of L) c.prepare.result = rw (c.nine_lengths.ensures, c.six_lengths-six.ensures) at c.prepare.ensures in
-    record { result_value = prepared_answer_lem F L prepared c.table.given.1; atcs_after = refl; stcs_after = refl; programs_after = refl; streams_after = refl; maps_after = refl; entries_after = refl; extensions_after = refl; programs2_after = refl; streams2_after = refl }
+    record { result_value = prepared_answer_lem F L prepared c.in-TooShort.is; atcs_after = refl; stcs_after = refl; programs_after = refl; streams_after = refl; maps_after = refl; entries_after = refl; extensions_after = refl; programs2_after = refl; streams2_after = refl }
 
 pub returns-in-Ready : goal.returns-in-Ready
 unfolding tables_of record_of
 returns-in-Ready c =
-    let S : goal.Start = start_of c in
-    let F : List ℕ = S.args.file.now in
-    let L : Nine (List ℕ) = let a = S.args in
+    let F : List ℕ = c.args.file.now in
+    let L : Nine (List ℕ) = let a = c.args in
     nine_tables_of a.atcs.now a.stcs.now a.programs.now a.streams.now a.maps.now a.entries.now a.extensions.now a.programs2.now a.streams2.now in
     let prepared : PreparedIs F (lengths_of L) c.prepare.result = rw (c.nine_lengths.ensures, c.six_lengths-six.ensures) at c.prepare.ensures in
-    let P : goal.After-prepare = prepared-of c in
-    let ready : ReadyIs F (lengths_of L) c.rows.given.0.0 c.rows.given.0.1.0 c.rows.given.0.1.1.0 = prepared_ready F L prepared c.rows.given.1 in
-    let p = P in
+    let ready : ReadyIs F (lengths_of L) c.in-Ready.rows c.in-Ready.list c.in-Ready.has_list = prepared_ready F L prepared c.in-Ready.is in
+    let p = P k in
     let s = c.fill_sections.ensures in
-    rw c.accepted.ensures record { result_value = stated F L ready ∙ prepared_answer_lem F L prepared c.rows.given.1; atcs_after = s.0; stcs_after = s.1.0; programs_after = s.1.1.0; streams_after = s.1.1.1.0; maps_after = s.1.1.1.1.0; entries_after = s.1.1.1.1.1; extensions_after = filled_from (extension_rows F) L.extensions c.read.ensures.extensions c.fill.ensures; programs2_after = c.fill_list.ensures.programs_after; streams2_after = c.fill_list.ensures.streams_after }
+    rw c.accepted.ensures record { result_value = stated (F p) (L p) ready ∙ prepared_answer_lem (F p) (L p) (prepared p) c.in-Ready.is; atcs_after = s.0; stcs_after = s.1.0; programs_after = s.1.1.0; streams_after = s.1.1.1.0; maps_after = s.1.1.1.1.0; entries_after = s.1.1.1.1.1; extensions_after = filled_from (extension_rows (F p)) (L p).extensions c.read.ensures.extensions c.fill.ensures; programs2_after = c.fill_list.ensures.programs_after; streams2_after = c.fill_list.ensures.streams_after }

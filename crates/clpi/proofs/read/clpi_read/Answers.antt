@@ -15,8 +15,7 @@ reading_of-requires c =
     let T : Nine (List ℕ) = let a = c.args in
     nine_tables_of a.atcs.now a.stcs.now a.programs.now a.streams.now a.maps.now a.entries.now a.extensions.now a.programs2.now a.streams2.now in
     let bytes : IsBytes F = (λ i. (c.shared_slice_known-1.given i).fits) in
-    let r : goal.After-read = search in
-    counts_fit F (bytes r) T r.read.result r.read.ensures.result_value
+    counts_fit F bytes T c.read.result c.read.ensures.result_value
 
 pub returns : goal.returns
 returns c =

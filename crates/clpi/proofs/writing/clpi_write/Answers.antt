@@ -8,20 +8,16 @@ use Rattle.queries.specs.Asked.{tables_with}
 use Rattle.encode.proofs.Answers.{narrow_by_answer}
 use Rattle.clpi.proofs.writing.clpi_write.Goals as goal
 
--- the tables that are handed over
-abbrev tables : goal.Start → ClipTables
-tables s =
-    let a = s.args in
-    tables_with (scalars_by a.info) (stated a.atcs.now a.atc_rows) (stated a.stcs.now a.stc_rows) (stated a.programs.now a.program_rows) (stated a.streams.now a.stream_rows) (stated a.maps.now a.map_rows) (stated a.entries.now a.entry_rows)
-
 pub writing_of-requires : goal.writing_of-requires
 writing_of-requires c =
-    let s : goal.Start = search in
-    narrow_by_answer (tables s) s.args.output.now c.write.ensures.result_value
+    let tables : ClipTables = let a = c.args in
+    tables_with (scalars_by a.info) (stated a.atcs.now a.atc_rows) (stated a.stcs.now a.stc_rows) (stated a.programs.now a.program_rows) (stated a.streams.now a.stream_rows) (stated a.maps.now a.map_rows) (stated a.entries.now a.entry_rows) in
+    narrow_by_answer tables c.args.output.now c.write.ensures.result_value
 
 pub returns : goal.returns
 unfolding output_after
 returns c =
-    let s : goal.Start = search in
+    let tables : ClipTables = let a = c.args in
+    tables_with (scalars_by a.info) (stated a.atcs.now a.atc_rows) (stated a.stcs.now a.stc_rows) (stated a.programs.now a.program_rows) (stated a.streams.now a.stream_rows) (stated a.maps.now a.map_rows) (stated a.entries.now a.entry_rows) in
     let e = c.write.ensures in
-    record { result_value = c.writing_of.ensures ∙ ap write_numbers e.0; output_after = e.1 ∙ ap (λ x. output_by x (encode (clip_in (tables s))) s.args.output.now) e.0 }
+    record { result_value = c.writing_of.ensures ∙ ap write_numbers e.0; output_after = e.1 ∙ ap (λ x. output_by x (encode (clip_in tables)) c.args.output.now) e.0 }

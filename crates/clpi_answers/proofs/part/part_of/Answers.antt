@@ -4,7 +4,7 @@ use Rattle.clpi_answers.specs.Numbers.{place_numbers}
 use Rattle.clpi_answers.proofs.part.part_of.Goals as goal
 
 pub returns-in-At : goal.returns-in-At
-returns-in-At c = sym (ap place_numbers c.place.given.1)
+returns-in-At c = sym (ap place_numbers c.in-At.is)
 
 pub returns-in-Refused : goal.returns-in-Refused
-returns-in-Refused c = sym (ap place_numbers c.enum_told.given.1)
+returns-in-Refused c = sym (ap place_numbers c.in-Refused.is)

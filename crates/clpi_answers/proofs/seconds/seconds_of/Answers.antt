@@ -6,8 +6,8 @@ use Rattle.clip_info_queries.specs.Durations.{transfer_of}
 use Rattle.clpi_answers.proofs.seconds.seconds_of.Goals as goal
 
 pub returns-in-Seconds : goal.returns-in-Seconds
-returns-in-Seconds c = sym (ap (λ x. answer_numbers (transfer_of x)) c.duration.given.1)
+returns-in-Seconds c = sym (ap (λ x. answer_numbers (transfer_of x)) c.in-Seconds.is)
 
 pub returns-in-NoRate : goal.returns-in-NoRate
 unfolding to_bits of_bits
-returns-in-NoRate c = sym (ap (λ x. answer_numbers (transfer_of x)) c.enum_told.given.1)
+returns-in-NoRate c = sym (ap (λ x. answer_numbers (transfer_of x)) c.in-NoRate.is)

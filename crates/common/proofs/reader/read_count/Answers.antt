@@ -11,11 +11,11 @@ pub returns-in_default : goal.returns-in_default
 returns-in_default c =
     let a = c.args in
     let f = a.file.now in
-    let cut = stayed f (a.r.pos + a.n) (sym c.enum_told.given.1 ∙ c.skip.ensures) in
+    let cut = stayed f (a.r.pos + a.n) (sym c.in_default.is ∙ c.skip.ensures) in
     number_past f (a.r.pos + a.n) 1 (lt-leb (a.r.pos + a.n + 1) (length f) (omega arith))
 
 pub returns : goal.returns
 returns c =
     let a = c.args in
-    let at = went a.file.now (a.r.pos + a.n) (sym c.count.given.1 ∙ c.skip.ensures) in
+    let at = went a.file.now (a.r.pos + a.n) (sym c.in-At.is ∙ c.skip.ensures) in
     rw at.1 at c.read_u8.ensures

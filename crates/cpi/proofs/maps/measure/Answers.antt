@@ -12,22 +12,22 @@ pub measure_maps-requires : goal.measure_maps-requires
 measure_maps-requires c =
     let F : List ℕ = c.args.file.now in
     let C : ℕ = c.args.start in
-    let said : (cpi_in F C ≡ true) × HeadersIn F C c.count.given.0.0 c.count.given.0.1.0 =
+    let said : (cpi_in F C ≡ true) × HeadersIn F C c.in-Maps.count c.in-Maps.end =
     let v = c.count.given in
     head_said F C v.0.0 v.0.1.0 c.requires (sym c.read_head.ensures ∙ v.1) in said.1
 
 pub returns-in-NoMaps : goal.returns-in-NoMaps
 returns-in-NoMaps c =
-    head_none c.args.file.now c.args.start (sym c.read_head.ensures ∙ c.enum_told.given.1)
+    head_none c.args.file.now c.args.start (sym c.read_head.ensures ∙ c.in-NoMaps.is)
 
 pub returns-in-PastEnd : goal.returns-in-PastEnd
 returns-in-PastEnd c =
-    head_refused c.args.file.now c.args.start (sym c.read_head.ensures ∙ c.enum_told-in-PastEnd-1.given.1)
+    head_refused c.args.file.now c.args.start (sym c.read_head.ensures ∙ c.in-PastEnd.is)
 
 pub returns-in-Maps : goal.returns-in-Maps
 returns-in-Maps c =
     let F : List ℕ = c.args.file.now in
     let C : ℕ = c.args.start in
-    let said : (cpi_in F C ≡ true) × HeadersIn F C c.count.given.0.0 c.count.given.0.1.0 =
+    let said : (cpi_in F C ≡ true) × HeadersIn F C c.in-Maps.count c.in-Maps.end =
     let v = c.count.given in
     head_said F C v.0.0 v.0.1.0 c.requires (sym c.read_head.ensures ∙ v.1) in maps_then F C said.0 c.measure_maps.ensures

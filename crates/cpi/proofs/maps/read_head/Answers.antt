@@ -9,10 +9,6 @@ use Rattle.common.proofs.Laws.{Got, got, not_got, went, stayed}
 use Rattle.cpi.proofs.Heads.{head_zero, head_far, head_past, head_two, head_type, head_four, head_headers, head_maps}
 use Rattle.cpi.proofs.maps.read_head.Goals as goal
 
--- the type was read
-type-one : (e : goal.Else-u16_at-ne1) → cpi_type (F c) (S c) ≡ 1
-type-one e = rw (← c.u16_at.ensures.same) e.if-u16_at-ne1.false
-
 pub returns-then-start-eq0 : goal.returns-then-start-eq0
 returns-then-start-eq0 c = let a = c.args in head_zero a.file.now a.start c.if-start-eq0.true
 
@@ -24,17 +20,17 @@ returns-in_default c =
     let a = c.args in
     let f = a.file.now in
     head_past f a.start c.if-start-eq0.false c.if-file-start.false
-    (omega (arith, not_got f a.start 4 (sym c.enum_told.given.1 ∙ c.read_u32.ensures.same)))
+    (omega (arith, not_got f a.start 4 (sym c.in_default.is ∙ c.read_u32.ensures.same)))
 
 pub returns-in_default-skip : goal.returns-in_default-skip
 returns-in_default-skip c =
-    let len : ℕ = c.len.given.0.0 in
+    let len : ℕ = c.in-Read.len in
     let a = c.args in
     let f = a.file.now in
     let v = c.len.given in
     let g = got f a.start 4 (sym v.1 ∙ c.read_u32.ensures.same) in
     head_past f a.start c.if-start-eq0.false c.if-file-start.false
-    (omega (arith, stayed f (v.0.1.0.pos + v.0.0) (sym c.enum_told-in_default-skip-1.given.1 ∙ c.skip.ensures), g.value, g.behind))
+    (omega (arith, stayed f (v.0.1.0.pos + v.0.0) (sym c.in_default-skip.is ∙ c.skip.ensures), g.value, g.behind))
 
 pub returns-then-len-lt2 : goal.returns-then-len-lt2
 returns-then-len-lt2 c =
@@ -42,11 +38,11 @@ returns-then-len-lt2 c =
     let S : ℕ = c.args.start in
     let some : S ≡ 0 → ⊥ = c.if-start-eq0.false in
     let near : S < length F = c.if-file-start.false in
-    let len : ℕ = c.len.given.0.0 in
-    let length-read : Got F S 4 len c.len.given.0.1.0 = got F S 4 (sym c.len.given.1 ∙ c.read_u32.ensures.same) in
+    let len : ℕ = c.in-Read.len in
+    let length-read : Got F S 4 len c.in-Read.body = got F S 4 (sym c.in-Read.is ∙ c.read_u32.ensures.same) in
     let value : len ≡ cpi_length F S = length-read.value in
-    let last : ℕ = c.last.given.0.0.pos in
-    let moved : (c.len.given.0.1.0.pos + len ≤ length F) × (last ≡ c.len.given.0.1.0.pos + len) = went F (c.len.given.0.1.0.pos + len) (sym c.last.given.1 ∙ c.skip.ensures) in
+    let last : ℕ = c.in-At.last.pos in
+    let moved : (c.in-Read.body.pos + len ≤ length F) × (last ≡ c.in-Read.body.pos + len) = went F (c.in-Read.body.pos + len) (sym c.in-At.is ∙ c.skip.ensures) in
     let stop : last ≡ cpi_end F S = omega (arith, length-read.value, length-read.behind, moved.1) in
     let inside : cpi_end F S ≤ length F = omega (arith, stop, moved) in head_two F S some near inside (omega (arith, value))
 
@@ -54,11 +50,11 @@ pub u16_at-requires : goal.u16_at-requires
 u16_at-requires c =
     let F : List ℕ = c.args.file.now in
     let S : ℕ = c.args.start in
-    let len : ℕ = c.len.given.0.0 in
-    let length-read : Got F S 4 len c.len.given.0.1.0 = got F S 4 (sym c.len.given.1 ∙ c.read_u32.ensures.same) in
+    let len : ℕ = c.in-Read.len in
+    let length-read : Got F S 4 len c.in-Read.body = got F S 4 (sym c.in-Read.is ∙ c.read_u32.ensures.same) in
     let value : len ≡ cpi_length F S = length-read.value in
-    let last : ℕ = c.last.given.0.0.pos in
-    let moved : (c.len.given.0.1.0.pos + len ≤ length F) × (last ≡ c.len.given.0.1.0.pos + len) = went F (c.len.given.0.1.0.pos + len) (sym c.last.given.1 ∙ c.skip.ensures) in
+    let last : ℕ = c.in-At.last.pos in
+    let moved : (c.in-Read.body.pos + len ≤ length F) × (last ≡ c.in-Read.body.pos + len) = went F (c.in-Read.body.pos + len) (sym c.in-At.is ∙ c.skip.ensures) in
     let stop : last ≡ cpi_end F S = omega (arith, length-read.value, length-read.behind, moved.1) in
     let inside : cpi_end F S ≤ length F = omega (arith, stop, moved) in omega (arith, value, inside)
 
@@ -68,11 +64,11 @@ returns-then-u16_at-ne1 c =
     let S : ℕ = c.args.start in
     let some : S ≡ 0 → ⊥ = c.if-start-eq0.false in
     let near : S < length F = c.if-file-start.false in
-    let len : ℕ = c.len.given.0.0 in
-    let length-read : Got F S 4 len c.len.given.0.1.0 = got F S 4 (sym c.len.given.1 ∙ c.read_u32.ensures.same) in
+    let len : ℕ = c.in-Read.len in
+    let length-read : Got F S 4 len c.in-Read.body = got F S 4 (sym c.in-Read.is ∙ c.read_u32.ensures.same) in
     let value : len ≡ cpi_length F S = length-read.value in
-    let last : ℕ = c.last.given.0.0.pos in
-    let moved : (c.len.given.0.1.0.pos + len ≤ length F) × (last ≡ c.len.given.0.1.0.pos + len) = went F (c.len.given.0.1.0.pos + len) (sym c.last.given.1 ∙ c.skip.ensures) in
+    let last : ℕ = c.in-At.last.pos in
+    let moved : (c.in-Read.body.pos + len ≤ length F) × (last ≡ c.in-Read.body.pos + len) = went F (c.in-Read.body.pos + len) (sym c.in-At.is ∙ c.skip.ensures) in
     let stop : last ≡ cpi_end F S = omega (arith, length-read.value, length-read.behind, moved.1) in
     let inside : cpi_end F S ≤ length F = omega (arith, stop, moved) in
     let two : 2 ≤ cpi_length F S = omega (arith, value) in
@@ -84,26 +80,26 @@ returns-then-len-lt4 c =
     let S : ℕ = c.args.start in
     let some : S ≡ 0 → ⊥ = c.if-start-eq0.false in
     let near : S < length F = c.if-file-start.false in
-    let len : ℕ = c.len.given.0.0 in
-    let length-read : Got F S 4 len c.len.given.0.1.0 = got F S 4 (sym c.len.given.1 ∙ c.read_u32.ensures.same) in
+    let len : ℕ = c.in-Read.len in
+    let length-read : Got F S 4 len c.in-Read.body = got F S 4 (sym c.in-Read.is ∙ c.read_u32.ensures.same) in
     let value : len ≡ cpi_length F S = length-read.value in
-    let last : ℕ = c.last.given.0.0.pos in
-    let moved : (c.len.given.0.1.0.pos + len ≤ length F) × (last ≡ c.len.given.0.1.0.pos + len) = went F (c.len.given.0.1.0.pos + len) (sym c.last.given.1 ∙ c.skip.ensures) in
+    let last : ℕ = c.in-At.last.pos in
+    let moved : (c.in-Read.body.pos + len ≤ length F) × (last ≡ c.in-Read.body.pos + len) = went F (c.in-Read.body.pos + len) (sym c.in-At.is ∙ c.skip.ensures) in
     let stop : last ≡ cpi_end F S = omega (arith, length-read.value, length-read.behind, moved.1) in
     let inside : cpi_end F S ≤ length F = omega (arith, stop, moved) in
-    let e4 : goal.Else-u16_at-ne1 = search in
+    let type-one : cpi_type F S ≡ 1 = rw (← c.u16_at.ensures.same) c.if-u16_at-ne1.false in
     let two : 2 ≤ cpi_length F S = omega (arith, value) in
-    head_four F S some near inside two (type-one e4) (omega (arith, value))
+    head_four F S some near inside two type-one (omega (arith, value))
 
 pub u8_at-count-requires : goal.u8_at-count-requires
 u8_at-count-requires c =
     let F : List ℕ = c.args.file.now in
     let S : ℕ = c.args.start in
-    let len : ℕ = c.len.given.0.0 in
-    let length-read : Got F S 4 len c.len.given.0.1.0 = got F S 4 (sym c.len.given.1 ∙ c.read_u32.ensures.same) in
+    let len : ℕ = c.in-Read.len in
+    let length-read : Got F S 4 len c.in-Read.body = got F S 4 (sym c.in-Read.is ∙ c.read_u32.ensures.same) in
     let value : len ≡ cpi_length F S = length-read.value in
-    let last : ℕ = c.last.given.0.0.pos in
-    let moved : (c.len.given.0.1.0.pos + len ≤ length F) × (last ≡ c.len.given.0.1.0.pos + len) = went F (c.len.given.0.1.0.pos + len) (sym c.last.given.1 ∙ c.skip.ensures) in
+    let last : ℕ = c.in-At.last.pos in
+    let moved : (c.in-Read.body.pos + len ≤ length F) × (last ≡ c.in-Read.body.pos + len) = went F (c.in-Read.body.pos + len) (sym c.in-At.is ∙ c.skip.ensures) in
     let stop : last ≡ cpi_end F S = omega (arith, length-read.value, length-read.behind, moved.1) in
     let inside : cpi_end F S ≤ length F = omega (arith, stop, moved) in omega (arith, value, inside)
 
@@ -113,17 +109,17 @@ returns-in_default-skip-2 c =
     let S : ℕ = c.args.start in
     let some : S ≡ 0 → ⊥ = c.if-start-eq0.false in
     let near : S < length F = c.if-file-start.false in
-    let len : ℕ = c.len.given.0.0 in
-    let length-read : Got F S 4 len c.len.given.0.1.0 = got F S 4 (sym c.len.given.1 ∙ c.read_u32.ensures.same) in
+    let len : ℕ = c.in-Read.len in
+    let length-read : Got F S 4 len c.in-Read.body = got F S 4 (sym c.in-Read.is ∙ c.read_u32.ensures.same) in
     let value : len ≡ cpi_length F S = length-read.value in
-    let last : ℕ = c.last.given.0.0.pos in
-    let moved : (c.len.given.0.1.0.pos + len ≤ length F) × (last ≡ c.len.given.0.1.0.pos + len) = went F (c.len.given.0.1.0.pos + len) (sym c.last.given.1 ∙ c.skip.ensures) in
+    let last : ℕ = c.in-At.last.pos in
+    let moved : (c.in-Read.body.pos + len ≤ length F) × (last ≡ c.in-Read.body.pos + len) = went F (c.in-Read.body.pos + len) (sym c.in-At.is ∙ c.skip.ensures) in
     let stop : last ≡ cpi_end F S = omega (arith, length-read.value, length-read.behind, moved.1) in
     let inside : cpi_end F S ≤ length F = omega (arith, stop, moved) in
-    let e4 : goal.Else-u16_at-ne1 = search in
+    let type-one : cpi_type F S ≡ 1 = rw (← c.u16_at.ensures.same) c.if-u16_at-ne1.false in
     let four : 4 ≤ cpi_length F S = omega (arith, value) in
-    head_headers F S some near inside (type-one e4) four
-    (omega (arith, stayed F (S + 8 + 12 * c.u8_at-count.result) (sym c.enum_told-in_default-skip-2-1.given.1 ∙ c.skip-2.ensures), c.u8_at-count.ensures.same))
+    head_headers F S some near inside type-one four
+    (omega (arith, stayed F (S + 8 + 12 * c.u8_at-count.result) (sym c.in_default-skip-2.is ∙ c.skip-2.ensures), c.u8_at-count.ensures.same))
 
 pub returns : goal.returns
 returns c =
@@ -131,14 +127,14 @@ returns c =
     let S : ℕ = c.args.start in
     let some : S ≡ 0 → ⊥ = c.if-start-eq0.false in
     let near : S < length F = c.if-file-start.false in
-    let len : ℕ = c.len.given.0.0 in
-    let length-read : Got F S 4 len c.len.given.0.1.0 = got F S 4 (sym c.len.given.1 ∙ c.read_u32.ensures.same) in
+    let len : ℕ = c.in-Read.len in
+    let length-read : Got F S 4 len c.in-Read.body = got F S 4 (sym c.in-Read.is ∙ c.read_u32.ensures.same) in
     let value : len ≡ cpi_length F S = length-read.value in
-    let last : ℕ = c.last.given.0.0.pos in
-    let moved : (c.len.given.0.1.0.pos + len ≤ length F) × (last ≡ c.len.given.0.1.0.pos + len) = went F (c.len.given.0.1.0.pos + len) (sym c.last.given.1 ∙ c.skip.ensures) in
+    let last : ℕ = c.in-At.last.pos in
+    let moved : (c.in-Read.body.pos + len ≤ length F) × (last ≡ c.in-Read.body.pos + len) = went F (c.in-Read.body.pos + len) (sym c.in-At.is ∙ c.skip.ensures) in
     let stop : last ≡ cpi_end F S = omega (arith, length-read.value, length-read.behind, moved.1) in
     let inside : cpi_end F S ≤ length F = omega (arith, stop, moved) in
-    let e4 : goal.Else-u16_at-ne1 = search in
+    let type-one : cpi_type F S ≡ 1 = rw (← c.u16_at.ensures.same) c.if-u16_at-ne1.false in
     let four : 4 ≤ cpi_length F S = omega (arith, value) in
-    let m = went F (S + 8 + 12 * c.u8_at-count.result) (sym c.enum_told-in-At-skip-1.given.1 ∙ c.skip-2.ensures) in
-    rw (c.u8_at-count.ensures.same, stop) (head_maps F S some near inside (type-one e4) four (omega (arith, m.0, c.u8_at-count.ensures.same)))
+    let m = went F (S + 8 + 12 * c.u8_at-count.result) (sym c.in-At-skip.is ∙ c.skip-2.ensures) in
+    rw (c.u8_at-count.ensures.same, stop) (head_maps F S some near inside type-one four (omega (arith, m.0, c.u8_at-count.ensures.same)))

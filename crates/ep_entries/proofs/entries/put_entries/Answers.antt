@@ -1,10 +1,10 @@
 -- Each turn stores the entries before the next coarse row's first fine row and steps to that row; those that are left are stored behind the loop.
 use Prim.Native.Nat.{◌≤◌}
-use mathlib.Core.Logic.{⊎_elim}
 use native.Mathlib.Omega.{arith}
 use Rattle.ep_entries.proofs.Walks.{steps_on, walking_less}
 use Rattle.ep_entries.proofs.Joined.{Filled, filled_first, filled_stretch, filled_step, filled_done}
 use Rattle.ep_entries.proofs.entries.put_entries.Goals as goal
+use Rattle.ep_entries.proofs.entries.put_entries.Goals.{then-k-end, else-k-end}
 
 pub loop-w-init : goal.loop-w-init
 loop-w-init c =
@@ -37,10 +37,10 @@ loop-w-preserved c =
     let l = c.loop-w in
     let e = l.w.next in
     let met : Filled f a.m t₀ a.at c.if-k-end.table l.w c.if-k-end.k × (e ≤ c.if-k-end.k) =
-    ⊎_elim
-    (λ x. (rw (x.5, x.6) (filled_stretch f a.m t₀ a.at l.table l.w l.k l.invariant e (omega arith) (omega arith) (omega arith) x.2.kept.1.1.1.1.1.0 x.2.ensures), omega arith))
-    (λ x. (rw (x.1, x.2) l.invariant, omega arith))
-    c.if-k-end.came
+    elim c.if-k-end.branch [
+      | then-k-end w ↦ (rw (w.table-is, w.k-is) (filled_stretch f a.m t₀ a.at l.table l.w l.k l.invariant e (omega arith) (omega arith) (omega arith) w.put_stretch.auto.table w.put_stretch.ensures), omega arith)
+      | else-k-end w ↦ (rw (w.table-is, w.k-is) l.invariant, omega arith)
+    ]
     in
     filled_step f a.m t₀ a.at c.if-k-end.table l.w c.if-k-end.k met.0 c.requires.rows.few met.1 c.at_row-w.ensures
 
@@ -60,5 +60,5 @@ returns c =
     let l = c.loop-w in
     let n = a.m.num_fine in
     let p = c.put_stretch-2 in
-    filled_done f a.m t₀ a.at p.last.1.1.1.1.1.0 l.w
-    (filled_stretch f a.m t₀ a.at l.table l.w l.k l.invariant n l.invariant.within c.loop-w-test.false (omega arith) p.kept.1.1.1.1.1.0 p.ensures)
+    filled_done f a.m t₀ a.at p.new.table l.w
+    (filled_stretch f a.m t₀ a.at l.table l.w l.k l.invariant n l.invariant.within c.loop-w-test.false (omega arith) p.auto.table p.ensures)

@@ -14,7 +14,7 @@ loop-k-preserved c =
     let put = c.put_entry in (
       omega arith,
       omega arith,
-      put.kept.1.1.1.0 ∙ l.invariant.2,
+      put.auto.table ∙ l.invariant.2,
       stretch_turn a.file.now a.m.kind a.w.time a.w.packet a.m.fine a.end l.k l.table a.at word.result (omega arith) word.ensures.same put.ensures l.invariant.3,
     )
 

@@ -20,7 +20,7 @@ pub returns-then-not-row_fits : goal.returns-then-not-row_fits
 returns-then-not-row_fits c =
     let a = c.args in
     let l = c.loop-k in
-    tested_fails (fits_by a.kind) (table_cells a.kind) a.t.now a.p a.n l.k l.at c.loop-k-test.true l.invariant c.row_fits.ensures c.if-not-row_fits.true
+    tested_fails (fits_by a.kind) (table_cells a.kind) a.t.now a.p a.n l.k l.at c.loop-k-test.true l.invariant c.row_fits.ensures c.if-not-row_fits.true-raw
 
 pub overflow_add-at : goal.overflow_add-at
 overflow_add-at c =
@@ -32,7 +32,7 @@ pub loop-k-preserved : goal.loop-k-preserved
 loop-k-preserved c =
     let a = c.args in
     let l = c.loop-k in
-    tested_turn (fits_by a.kind) (table_cells a.kind) a.t.now a.p a.n l.k l.at c.loop-k-test.true l.invariant c.row_fits.ensures c.if-not-row_fits.false c.row_bytes-size.ensures
+    tested_turn (fits_by a.kind) (table_cells a.kind) a.t.now a.p a.n l.k l.at c.loop-k-test.true l.invariant c.row_fits.ensures c.if-not-row_fits.false-raw c.row_bytes-size.ensures
 
 pub returns : goal.returns
 returns c =

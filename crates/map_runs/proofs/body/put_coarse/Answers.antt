@@ -1,5 +1,5 @@
 -- Each turn stores the coarse row of one run and goes to the next; what is left goes behind it.
-use Prim.Native.Nat.{◌+◌, ◌-◌, ◌≤◌}
+use Prim.Native.Nat.{◌+◌, ◌≤◌}
 use native.Mathlib.Omega.{arith}
 use lib.ListN.{length}
 use Rattle.map_runs.proofs.Turns.{end_past}
@@ -31,18 +31,14 @@ put_coarse_row-requires c =
     let room : c.loop-k.to + 8 ≤ length c.loop-k.out = let a = c.args in
     let l = c.loop-k in
     coarse_room a.file.now a.m a.out.now a.at l.out l.walk l.to l.k l.invariant c.loop-k-test.true c.requires.room in
-    let t : goal.In-loop-k = search in
-    let s = S t in
-    (omega (arith, s.pre.rows.few, t.loop-k-test.true), met_below s.args.file.now s.args.m c.loop-k.k c.meet-first.result c.meet-first.ensures, room t)
+    (omega (arith, c.requires.rows.few, c.loop-k-test.true), met_below c.args.file.now c.args.m c.loop-k.k c.meet-first.result c.meet-first.ensures, room)
 
 pub overflow_add-to : goal.overflow_add-to
 overflow_add-to c =
     let room : c.loop-k.to + 8 ≤ length c.loop-k.out = let a = c.args in
     let l = c.loop-k in
     coarse_room a.file.now a.m a.out.now a.at l.out l.walk l.to l.k l.invariant c.loop-k-test.true c.requires.room in
-    let t : goal.In-loop-k = search in
-    let s = S t in
-    let inside : c.loop-k.to + 8 ≤ length s.args.out.now = omega (arith, room t, c.loop-k.invariant.long) in
+    let inside : c.loop-k.to + 8 ≤ length c.args.out.now = omega (arith, room, c.loop-k.invariant.long) in
     omega (arith, inside)
 
 pub loop-k-smaller : goal.loop-k-smaller
@@ -64,4 +60,5 @@ pub returns : goal.returns
 returns c =
     let a = c.args in
     let l = c.loop-k in
-    coarse_done a.file.now a.m a.out.now a.at l.out l.walk l.to l.k l.invariant c.loop-k-test.false
+    let r = coarse_done a.file.now a.m a.out.now a.at l.out l.walk l.to l.k l.invariant c.loop-k-test.false in
+    record { value = r.0; out_after = r.1 }

@@ -1,5 +1,4 @@
 -- Each turn stores the fine row of the entry that it meets; what is left goes behind it.
-use Prim.Native.Nat.{◌-◌}
 use mathlib.Core.Path.{refl}
 use native.Mathlib.Omega.{arith}
 use Rattle.map_runs.proofs.Bodies.{met_narrow, fine_first, fine_turn, fine_done}

@@ -1,5 +1,4 @@
 -- Each turn goes from a run to the next.
-use Prim.Native.Nat.{◌-◌}
 use native.Mathlib.Omega.{arith}
 use Rattle.map_runs.proofs.Turns.{counted_first, counted_turn, counted_done, end_past}
 use Rattle.map_runs.proofs.walked.count_runs.Goals as goal

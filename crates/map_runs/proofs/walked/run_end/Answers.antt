@@ -1,5 +1,4 @@
 -- Each turn meets an entry that is in the run of the first.
-use Prim.Native.Nat.{◌-◌}
 use native.Mathlib.Omega.{arith}
 use Rattle.map_runs.proofs.Turns.{along_first, along_turn, along_stop, along_done}
 use Rattle.map_runs.proofs.walked.run_end.Goals as goal

@@ -19,43 +19,79 @@ use Rattle.rewrite.proofs.Refusals.{reading_refuses, runs_refuse, runs_pass, non
 use Rattle.rewrite.proofs.Rooms.{sequences_size, programs_size}
 use Rattle.rewrite.proofs.measure.plan.Goals as goal
 
--- what stands before the CPI fits
-sums : (m : goal.In-Bytes-2) → 226 + 6 * (K m).atcs.given.0.0 + 14 * (K m).atcs.given.0.1.0 ≤ 402515706
-sums m = omega (arith, short m, programs_at (K m))
-
 pub read-starts-requires : goal.read-starts-requires
 read-starts-requires c =
     let F : List ℕ = c.args.file.now in
-    let sections : SectionsAre F c.atcs.given.0.0 c.atcs.given.0.1.0 c.atcs.given.0.1.1.0 c.atcs.given.0.1.1.1.0 c.atcs.given.0.1.1.1.1.0 c.atcs.given.0.1.1.1.1.1.0 = sections_are F _ _ _ _ _ _ (sym c.measure.ensures ∙ c.atcs.given.1) in omega (arith, accepted_bounds F sections.accepts)
+    let sections : SectionsAre F c.in-Counts.atcs c.in-Counts.stcs c.in-Counts.programs c.in-Counts.streams c.in-Counts.maps c.in-Counts.entries = sections_are F _ _ _ _ _ _ (sym c.measure.ensures ∙ c.in-Counts.is) in omega (arith, accepted_bounds F sections.accepts)
 
 pub cpi_length-requires : goal.cpi_length-requires
 cpi_length-requires c =
     let F : List ℕ = c.args.file.now in
-    let sections : SectionsAre F c.atcs.given.0.0 c.atcs.given.0.1.0 c.atcs.given.0.1.1.0 c.atcs.given.0.1.1.1.0 c.atcs.given.0.1.1.1.1.0 c.atcs.given.0.1.1.1.1.1.0 = sections_are F _ _ _ _ _ _ (sym c.measure.ensures ∙ c.atcs.given.1) in
+    let sections : SectionsAre F c.in-Counts.atcs c.in-Counts.stcs c.in-Counts.programs c.in-Counts.streams c.in-Counts.maps c.in-Counts.entries = sections_are F _ _ _ _ _ _ (sym c.measure.ensures ∙ c.in-Counts.is) in
     cpi_section F sections.accepts c.read-starts.ensures.cpi sections.maps_are
 
 pub returns-in_default : goal.returns-in_default
 returns-in_default c =
     let F : List ℕ = c.args.file.now in
-    let sections : SectionsAre F c.atcs.given.0.0 c.atcs.given.0.1.0 c.atcs.given.0.1.1.0 c.atcs.given.0.1.1.1.0 c.atcs.given.0.1.1.1.1.0 c.atcs.given.0.1.1.1.1.1.0 = sections_are F _ _ _ _ _ _ (sym c.measure.ensures ∙ c.atcs.given.1) in
-    runs_refuse F sections.accepts c.read-starts.ensures.cpi c.cpi_length.ensures c.enum_told.given.1
+    let sections : SectionsAre F c.in-Counts.atcs c.in-Counts.stcs c.in-Counts.programs c.in-Counts.streams c.in-Counts.maps c.in-Counts.entries = sections_are F _ _ _ _ _ _ (sym c.measure.ensures ∙ c.in-Counts.is) in
+    runs_refuse F sections.accepts c.read-starts.ensures.cpi c.cpi_length.ensures c.in_default.is
 
 pub overflow_mul-programs_at : goal.overflow_mul-programs_at
-overflow_mul-programs_at c = let m : goal.In-Bytes-2 = search in record { fits = omega (arith, sums m) }
+overflow_mul-programs_at c =
+    let F : List ℕ = c.args.file.now in
+    let C : Clip = clip_of F in
+    let is-bytes : IsBytes F = (λ i. (c.shared_slice_known-1.given i).fits) in
+    let sections : SectionsAre F c.in-Counts.atcs c.in-Counts.stcs c.in-Counts.programs c.in-Counts.streams c.in-Counts.maps c.in-Counts.entries = let m : goal.After-measure = search in sections_are F _ _ _ _ _ _ (sym m.measure.ensures ∙ c.in-Counts.is) in
+    let programs_at : 226 + 6 * c.in-Counts.atcs + 14 * c.in-Counts.stcs ≡ programs_place C = omega (arith, sequences_size F is-bytes sections.accepts sections.atcs_are sections.stcs_are, place_programs C) in
+    let few : (runs_fit C ≡ true) × (c.in-Bytes.len ≡ length (cpi_bytes C)) =
+    runs_pass F c.read-starts.ensures.cpi c.cpi_length.ensures c.in-Bytes.is in
+    let none_here : rewrite_refusal F ≡ 0 = none F sections.accepts few.0 in
+    let short : programs_place C + length (programs_bytes C) + c.in-Bytes.len + 6 ≤ 402515706 = omega (arith, few.1, marks_short F is-bytes none_here, place_cpi C, place_marks C) in
+    let sums : 226 + 6 * c.in-Counts.atcs + 14 * c.in-Counts.stcs ≤ 402515706 = omega (arith, short, programs_at) in record { fits = omega (arith, sums) }
 
 pub overflow_add-programs_at : goal.overflow_add-programs_at
-overflow_add-programs_at c = let m : goal.In-Bytes-2 = search in record { fits = omega (arith, sums m) }
+overflow_add-programs_at c =
+    let F : List ℕ = c.args.file.now in
+    let C : Clip = clip_of F in
+    let is-bytes : IsBytes F = (λ i. (c.shared_slice_known-1.given i).fits) in
+    let sections : SectionsAre F c.in-Counts.atcs c.in-Counts.stcs c.in-Counts.programs c.in-Counts.streams c.in-Counts.maps c.in-Counts.entries = let m : goal.After-measure = search in sections_are F _ _ _ _ _ _ (sym m.measure.ensures ∙ c.in-Counts.is) in
+    let programs_at : 226 + 6 * c.in-Counts.atcs + 14 * c.in-Counts.stcs ≡ programs_place C = omega (arith, sequences_size F is-bytes sections.accepts sections.atcs_are sections.stcs_are, place_programs C) in
+    let few : (runs_fit C ≡ true) × (c.in-Bytes.len ≡ length (cpi_bytes C)) =
+    runs_pass F c.read-starts.ensures.cpi c.cpi_length.ensures c.in-Bytes.is in
+    let none_here : rewrite_refusal F ≡ 0 = none F sections.accepts few.0 in
+    let short : programs_place C + length (programs_bytes C) + c.in-Bytes.len + 6 ≤ 402515706 = omega (arith, few.1, marks_short F is-bytes none_here, place_cpi C, place_marks C) in
+    let sums : 226 + 6 * c.in-Counts.atcs + 14 * c.in-Counts.stcs ≤ 402515706 = omega (arith, short, programs_at) in record { fits = omega (arith, sums) }
 
 pub overflow_mul-programs_at-in-Counts : goal.overflow_mul-programs_at-in-Counts
-overflow_mul-programs_at-in-Counts c = let m : goal.In-Bytes-2 = search in record { fits = omega (arith, sums m) }
+overflow_mul-programs_at-in-Counts c =
+    let F : List ℕ = c.args.file.now in
+    let C : Clip = clip_of F in
+    let is-bytes : IsBytes F = (λ i. (c.shared_slice_known-1.given i).fits) in
+    let sections : SectionsAre F c.in-Counts.atcs c.in-Counts.stcs c.in-Counts.programs c.in-Counts.streams c.in-Counts.maps c.in-Counts.entries = let m : goal.After-measure = search in sections_are F _ _ _ _ _ _ (sym m.measure.ensures ∙ c.in-Counts.is) in
+    let programs_at : 226 + 6 * c.in-Counts.atcs + 14 * c.in-Counts.stcs ≡ programs_place C = omega (arith, sequences_size F is-bytes sections.accepts sections.atcs_are sections.stcs_are, place_programs C) in
+    let few : (runs_fit C ≡ true) × (c.in-Bytes.len ≡ length (cpi_bytes C)) =
+    runs_pass F c.read-starts.ensures.cpi c.cpi_length.ensures c.in-Bytes.is in
+    let none_here : rewrite_refusal F ≡ 0 = none F sections.accepts few.0 in
+    let short : programs_place C + length (programs_bytes C) + c.in-Bytes.len + 6 ≤ 402515706 = omega (arith, few.1, marks_short F is-bytes none_here, place_cpi C, place_marks C) in
+    let sums : 226 + 6 * c.in-Counts.atcs + 14 * c.in-Counts.stcs ≤ 402515706 = omega (arith, short, programs_at) in record { fits = omega (arith, sums) }
 
 pub overflow_add-programs_at-in-Counts : goal.overflow_add-programs_at-in-Counts
-overflow_add-programs_at-in-Counts c = let m : goal.In-Bytes-2 = search in record { fits = omega (arith, sums m) }
+overflow_add-programs_at-in-Counts c =
+    let F : List ℕ = c.args.file.now in
+    let C : Clip = clip_of F in
+    let is-bytes : IsBytes F = (λ i. (c.shared_slice_known-1.given i).fits) in
+    let sections : SectionsAre F c.in-Counts.atcs c.in-Counts.stcs c.in-Counts.programs c.in-Counts.streams c.in-Counts.maps c.in-Counts.entries = let m : goal.After-measure = search in sections_are F _ _ _ _ _ _ (sym m.measure.ensures ∙ c.in-Counts.is) in
+    let programs_at : 226 + 6 * c.in-Counts.atcs + 14 * c.in-Counts.stcs ≡ programs_place C = omega (arith, sequences_size F is-bytes sections.accepts sections.atcs_are sections.stcs_are, place_programs C) in
+    let few : (runs_fit C ≡ true) × (c.in-Bytes.len ≡ length (cpi_bytes C)) =
+    runs_pass F c.read-starts.ensures.cpi c.cpi_length.ensures c.in-Bytes.is in
+    let none_here : rewrite_refusal F ≡ 0 = none F sections.accepts few.0 in
+    let short : programs_place C + length (programs_bytes C) + c.in-Bytes.len + 6 ≤ 402515706 = omega (arith, few.1, marks_short F is-bytes none_here, place_cpi C, place_marks C) in
+    let sums : 226 + 6 * c.in-Counts.atcs + 14 * c.in-Counts.stcs ≤ 402515706 = omega (arith, short, programs_at) in record { fits = omega (arith, sums) }
 
 pub programs_length-requires : goal.programs_length-requires
 programs_length-requires c =
     let F : List ℕ = c.args.file.now in
-    let sections : SectionsAre F c.atcs.given.0.0 c.atcs.given.0.1.0 c.atcs.given.0.1.1.0 c.atcs.given.0.1.1.1.0 c.atcs.given.0.1.1.1.1.0 c.atcs.given.0.1.1.1.1.1.0 = sections_are F _ _ _ _ _ _ (sym c.measure.ensures ∙ c.atcs.given.1) in
+    let sections : SectionsAre F c.in-Counts.atcs c.in-Counts.stcs c.in-Counts.programs c.in-Counts.streams c.in-Counts.maps c.in-Counts.entries = sections_are F _ _ _ _ _ _ (sym c.measure.ensures ∙ c.in-Counts.is) in
     rw c.read-starts.ensures.programs (sound F sections.accepts).programs_in
 
 pub overflow_add-cpi_at : goal.overflow_add-cpi_at
@@ -63,46 +99,44 @@ overflow_add-cpi_at c =
     let F : List ℕ = c.args.file.now in
     let C : Clip = clip_of F in
     let is-bytes : IsBytes F = (λ i. (c.shared_slice_known-1.given i).fits) in
-    let sections : SectionsAre F c.atcs.given.0.0 c.atcs.given.0.1.0 c.atcs.given.0.1.1.0 c.atcs.given.0.1.1.1.0 c.atcs.given.0.1.1.1.1.0 c.atcs.given.0.1.1.1.1.1.0 = sections_are F _ _ _ _ _ _ (sym c.measure.ensures ∙ c.atcs.given.1) in
-    let programs_at : 226 + 6 * c.atcs.given.0.0 + 14 * c.atcs.given.0.1.0 ≡ programs_place C = omega (arith, sequences_size F is-bytes sections.accepts sections.atcs_are sections.stcs_are, place_programs C) in
-    let few : (runs_fit C ≡ true) × (c.len.given.0.0 ≡ length (cpi_bytes C)) = let r : goal.After-read-starts = search in
-    runs_pass F r.read-starts.ensures.cpi c.cpi_length.ensures c.len.given.1 in
+    let sections : SectionsAre F c.in-Counts.atcs c.in-Counts.stcs c.in-Counts.programs c.in-Counts.streams c.in-Counts.maps c.in-Counts.entries = sections_are F _ _ _ _ _ _ (sym c.measure.ensures ∙ c.in-Counts.is) in
+    let programs_at : 226 + 6 * c.in-Counts.atcs + 14 * c.in-Counts.stcs ≡ programs_place C = omega (arith, sequences_size F is-bytes sections.accepts sections.atcs_are sections.stcs_are, place_programs C) in
+    let few : (runs_fit C ≡ true) × (c.in-Bytes.len ≡ length (cpi_bytes C)) = let r : goal.After-read-starts = search in
+    runs_pass F r.read-starts.ensures.cpi c.cpi_length.ensures c.in-Bytes.is in
     let none_here : rewrite_refusal F ≡ 0 = none F sections.accepts few.0 in
-    let short : programs_place C + length (programs_bytes C) + c.len.given.0.0 + 6 ≤ 402515706 = omega (arith, few.1, marks_short F (is-bytes) none_here, place_cpi C, place_marks C) in
-    let own : c.programs_length.result ≡ length (programs_bytes C) = programs_size F c.read-starts.ensures.programs c.programs_length.ensures in
-    let p : goal.After-programs_length = search in record { fits = omega (arith, short (M p), programs_at (K (M p)), own p) }
+    let short : programs_place C + length (programs_bytes C) + c.in-Bytes.len + 6 ≤ 402515706 = omega (arith, few.1, marks_short F is-bytes none_here, place_cpi C, place_marks C) in
+    let own : c.programs_length.result ≡ length (programs_bytes C) = programs_size F c.read-starts.ensures.programs c.programs_length.ensures in record { fits = omega (arith, short, programs_at, own) }
 
 pub overflow_add-marks_at : goal.overflow_add-marks_at
 overflow_add-marks_at c =
     let F : List ℕ = c.args.file.now in
     let C : Clip = clip_of F in
     let is-bytes : IsBytes F = (λ i. (c.shared_slice_known-1.given i).fits) in
-    let sections : SectionsAre F c.atcs.given.0.0 c.atcs.given.0.1.0 c.atcs.given.0.1.1.0 c.atcs.given.0.1.1.1.0 c.atcs.given.0.1.1.1.1.0 c.atcs.given.0.1.1.1.1.1.0 = sections_are F _ _ _ _ _ _ (sym c.measure.ensures ∙ c.atcs.given.1) in
-    let programs_at : 226 + 6 * c.atcs.given.0.0 + 14 * c.atcs.given.0.1.0 ≡ programs_place C = omega (arith, sequences_size F is-bytes sections.accepts sections.atcs_are sections.stcs_are, place_programs C) in
-    let few : (runs_fit C ≡ true) × (c.len.given.0.0 ≡ length (cpi_bytes C)) = let r : goal.After-read-starts = search in
-    runs_pass F r.read-starts.ensures.cpi c.cpi_length.ensures c.len.given.1 in
+    let sections : SectionsAre F c.in-Counts.atcs c.in-Counts.stcs c.in-Counts.programs c.in-Counts.streams c.in-Counts.maps c.in-Counts.entries = sections_are F _ _ _ _ _ _ (sym c.measure.ensures ∙ c.in-Counts.is) in
+    let programs_at : 226 + 6 * c.in-Counts.atcs + 14 * c.in-Counts.stcs ≡ programs_place C = omega (arith, sequences_size F is-bytes sections.accepts sections.atcs_are sections.stcs_are, place_programs C) in
+    let few : (runs_fit C ≡ true) × (c.in-Bytes.len ≡ length (cpi_bytes C)) = let r : goal.After-read-starts = search in
+    runs_pass F r.read-starts.ensures.cpi c.cpi_length.ensures c.in-Bytes.is in
     let none_here : rewrite_refusal F ≡ 0 = none F sections.accepts few.0 in
-    let short : programs_place C + length (programs_bytes C) + c.len.given.0.0 + 6 ≤ 402515706 = omega (arith, few.1, marks_short F (is-bytes) none_here, place_cpi C, place_marks C) in
-    let own : c.programs_length.result ≡ length (programs_bytes C) = programs_size F c.read-starts.ensures.programs c.programs_length.ensures in
-    let p : goal.After-programs_length = search in record { fits = omega (arith, short (M p), programs_at (K (M p)), own p) }
+    let short : programs_place C + length (programs_bytes C) + c.in-Bytes.len + 6 ≤ 402515706 = omega (arith, few.1, marks_short F is-bytes none_here, place_cpi C, place_marks C) in
+    let own : c.programs_length.result ≡ length (programs_bytes C) = programs_size F c.read-starts.ensures.programs c.programs_length.ensures in record { fits = omega (arith, short, programs_at, own) }
 
 pub returns-in-Refused : goal.returns-in-Refused
 returns-in-Refused c =
-    reading_refuses c.args.file.now (sym c.measure.ensures ∙ c.n.given.1)
+    reading_refuses c.args.file.now (sym c.measure.ensures ∙ c.in-Refused.is)
 
 pub returns-in-Bytes : goal.returns-in-Bytes
 returns-in-Bytes c =
     let F : List ℕ = c.args.file.now in
     let C : Clip = clip_of F in
-    let sections : SectionsAre F c.atcs.given.0.0 c.atcs.given.0.1.0 c.atcs.given.0.1.1.0 c.atcs.given.0.1.1.1.0 c.atcs.given.0.1.1.1.1.0 c.atcs.given.0.1.1.1.1.1.0 = let m : goal.After-measure = search in sections_are F _ _ _ _ _ _ (sym m.measure.ensures ∙ c.atcs.given.1) in
+    let sections : SectionsAre F c.in-Counts.atcs c.in-Counts.stcs c.in-Counts.programs c.in-Counts.streams c.in-Counts.maps c.in-Counts.entries = let m : goal.After-measure = search in sections_are F _ _ _ _ _ _ (sym m.measure.ensures ∙ c.in-Counts.is) in
     let is-bytes : IsBytes F = (λ i. (c.shared_slice_known-1.given i).fits) in
-    let programs_at : 226 + 6 * c.atcs.given.0.0 + 14 * c.atcs.given.0.1.0 ≡ programs_place C = omega (arith, sequences_size F is-bytes sections.accepts sections.atcs_are sections.stcs_are, place_programs C) in
-    let few : (runs_fit C ≡ true) × (c.len.given.0.0 ≡ length (cpi_bytes C)) = let r : goal.After-read-starts = search in
-    runs_pass F r.read-starts.ensures.cpi c.cpi_length.ensures c.len.given.1 in
+    let programs_at : 226 + 6 * c.in-Counts.atcs + 14 * c.in-Counts.stcs ≡ programs_place C = omega (arith, sequences_size F is-bytes sections.accepts sections.atcs_are sections.stcs_are, place_programs C) in
+    let few : (runs_fit C ≡ true) × (c.in-Bytes.len ≡ length (cpi_bytes C)) = let r : goal.After-read-starts = search in
+    runs_pass F r.read-starts.ensures.cpi c.cpi_length.ensures c.in-Bytes.is in
     let none_here : rewrite_refusal F ≡ 0 = none F sections.accepts few.0 in
     let own : c.programs_length.result ≡ length (programs_bytes C) = programs_size F c.read-starts.ensures.programs c.programs_length.ensures in
     let p : goal.After-programs_length = search in
     let m = M p in
     let k = K m in
     let at = sections in
-    planned_by F none_here at.atcs_are at.stcs_are at.maps_are programs_at (omega (arith, programs_at, own p, place_cpi C)) (omega (arith, programs_at, own p, few.1, place_cpi C, place_marks C))
+    planned_by F (none_here m) at.atcs_are at.stcs_are at.maps_are programs_at (omega (arith, programs_at, own, place_cpi C)) (omega (arith, programs_at, own, (few m).1, place_cpi C, place_marks C))

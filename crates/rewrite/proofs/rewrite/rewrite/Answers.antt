@@ -13,8 +13,8 @@ use Rattle.rewrite.proofs.rewrite.rewrite.Goals as goal
 pub overflow_add-len : goal.overflow_add-len
 overflow_add-len c =
     let F : List ℕ = c.args.file.now in
-    let ready : (size : ℕ) → c.atcs.given.0.1.1.1.1.1.0 + 6 ≤ size → Ready F c.atcs.given.0.0 c.atcs.given.0.1.0 c.atcs.given.0.1.1.0 c.atcs.given.0.1.1.1.0 c.atcs.given.0.1.1.1.1.0 c.atcs.given.0.1.1.1.1.1.0 size = (λ size room. ready_told F c.plan.ensures size c.atcs.given.1 room) in
-    let r = ready (c.atcs.given.0.1.1.1.1.1.0 + 6) (omega arith) in
+    let ready : (size : ℕ) → c.in-Places.marks + 6 ≤ size → Ready F c.in-Places.atcs c.in-Places.stcs c.in-Places.maps c.in-Places.programs c.in-Places.cpi c.in-Places.marks size = (λ size room. ready_told F c.plan.ensures size c.in-Places.is room) in
+    let r = ready (c.in-Places.marks + 6) (omega arith) in
     record { fits = omega (arith, r.placed.marks_at, marks_short F (λ i. (c.shared_slice_known-1.given i).fits) r.rewritable) }
 
 pub returns-then-out-len : goal.returns-then-out-len
@@ -22,28 +22,28 @@ unfolding rewrite_answer
 returns-then-out-len c =
     let F : List ℕ = c.args.file.now in
     let O : List ℕ = c.args.out.now in
-    let ready : (size : ℕ) → c.atcs.given.0.1.1.1.1.1.0 + 6 ≤ size → Ready F c.atcs.given.0.0 c.atcs.given.0.1.0 c.atcs.given.0.1.1.0 c.atcs.given.0.1.1.1.0 c.atcs.given.0.1.1.1.1.0 c.atcs.given.0.1.1.1.1.1.0 size = (λ size room. ready_told F c.plan.ensures size c.atcs.given.1 room) in
-    let r = ready (c.atcs.given.0.1.1.1.1.1.0 + 6) (omega arith) in
+    let ready : (size : ℕ) → c.in-Places.marks + 6 ≤ size → Ready F c.in-Places.atcs c.in-Places.stcs c.in-Places.maps c.in-Places.programs c.in-Places.cpi c.in-Places.marks size = (λ size room. ready_told F c.plan.ensures size c.in-Places.is room) in
+    let r = ready (c.in-Places.marks + 6) (omega arith) in
     record { result_value = answer_short (rewrite_refusal F) (clip_of F) O r.rewritable r.placed.marks_at (omega arith); out_after = refl }
 
 pub put_sections-requires : goal.put_sections-requires
 put_sections-requires c =
     let O : List ℕ = c.args.out.now in
     let F : List ℕ = c.args.file.now in
-    let ready : (size : ℕ) → c.atcs.given.0.1.1.1.1.1.0 + 6 ≤ size → Ready F c.atcs.given.0.0 c.atcs.given.0.1.0 c.atcs.given.0.1.1.0 c.atcs.given.0.1.1.1.0 c.atcs.given.0.1.1.1.1.0 c.atcs.given.0.1.1.1.1.1.0 size = (λ size room. ready_told F c.plan.ensures size c.atcs.given.1 room) in
+    let ready : (size : ℕ) → c.in-Places.marks + 6 ≤ size → Ready F c.in-Places.atcs c.in-Places.stcs c.in-Places.maps c.in-Places.programs c.in-Places.cpi c.in-Places.marks size = (λ size room. ready_told F c.plan.ensures size c.in-Places.is room) in
     ready (length O) (omega arith)
 
 pub returns-in-Refused : goal.returns-in-Refused
 unfolding rewrite_answer
 returns-in-Refused c =
     let f = c.args.file.now in
-    record { result_value = answer_refused (rewrite_refusal f) (clip_of f) c.args.out.now (refusal_told f c.plan.ensures c.n.given.1); out_after = refl }
+    record { result_value = answer_refused (rewrite_refusal f) (clip_of f) c.args.out.now (refusal_told f c.plan.ensures c.in-Refused.is); out_after = refl }
 
 pub returns-else-out-len : goal.returns-else-out-len
 unfolding rewrite_answer
 returns-else-out-len c =
     let F : List ℕ = c.args.file.now in
     let O : List ℕ = c.args.out.now in
-    let ready : (size : ℕ) → c.atcs.given.0.1.1.1.1.1.0 + 6 ≤ size → Ready F c.atcs.given.0.0 c.atcs.given.0.1.0 c.atcs.given.0.1.1.0 c.atcs.given.0.1.1.1.0 c.atcs.given.0.1.1.1.1.0 c.atcs.given.0.1.1.1.1.1.0 size = (λ size room. ready_told F c.plan.ensures size c.atcs.given.1 room) in
+    let ready : (size : ℕ) → c.in-Places.marks + 6 ≤ size → Ready F c.in-Places.atcs c.in-Places.stcs c.in-Places.maps c.in-Places.programs c.in-Places.cpi c.in-Places.marks size = (λ size room. ready_told F c.plan.ensures size c.in-Places.is room) in
     let r = ready (length O) (omega arith) in
     record { result_value = answer_written (rewrite_refusal F) (clip_of F) O r.rewritable r.placed.marks_at r.placed.room; out_after = output_written (rewrite_refusal F) (clip_of F) O r.placed.marks_at r.placed.room c.put_sections.ensures }

@@ -9,14 +9,14 @@ use Rattle.rewrite.proofs.rewrite.rewritten_length.Goals as goal
 pub overflow_add-bytes : goal.overflow_add-bytes
 overflow_add-bytes c =
     let F : List ℕ = c.args.file.now in
-    let ready : Ready F c.marks.given.0.0 c.marks.given.0.1.0 c.marks.given.0.1.1.0 c.marks.given.0.1.1.1.0 c.marks.given.0.1.1.1.1.0 c.marks.given.0.1.1.1.1.1.0 (c.marks.given.0.1.1.1.1.1.0 + 6) = ready_told F c.plan.ensures _ c.marks.given.1 (omega arith) in
+    let ready : Ready F c.in-Places.atcs c.in-Places.stcs c.in-Places.maps c.in-Places.programs c.in-Places.cpi c.in-Places.marks (c.in-Places.marks + 6) = ready_told F c.plan.ensures _ c.in-Places.is (omega arith) in
     record { fits = omega (arith, ready.placed.marks_at, marks_short F (λ i. (c.shared_slice_known-1.given i).fits) ready.rewritable) }
 
 pub returns-in-Refused : goal.returns-in-Refused
 returns-in-Refused c =
-    length_refuses c.args.file.now (refusal_told c.args.file.now c.plan.ensures c.n.given.1)
+    length_refuses c.args.file.now (refusal_told c.args.file.now c.plan.ensures c.in-Refused.is)
 
 pub returns-in-Places : goal.returns-in-Places
 returns-in-Places c =
     let F : List ℕ = c.args.file.now in
-    let ready : Ready F c.marks.given.0.0 c.marks.given.0.1.0 c.marks.given.0.1.1.0 c.marks.given.0.1.1.1.0 c.marks.given.0.1.1.1.1.0 c.marks.given.0.1.1.1.1.1.0 (c.marks.given.0.1.1.1.1.1.0 + 6) = ready_told F c.plan.ensures _ c.marks.given.1 (omega arith) in length_tells F ready.rewritable ready.placed.marks_at
+    let ready : Ready F c.in-Places.atcs c.in-Places.stcs c.in-Places.maps c.in-Places.programs c.in-Places.cpi c.in-Places.marks (c.in-Places.marks + 6) = ready_told F c.plan.ensures _ c.in-Places.is (omega arith) in length_tells F ready.rewritable ready.placed.marks_at

@@ -12,11 +12,6 @@ overflow_add-end c =
     let a = c.args in
     omega (arith, passed (a.self.pos + a.n) (length a.buf.now) c.within.ensures c.if-within.true)
 
-pub slice-bounds-result-end : goal.slice-bounds-result-end
-slice-bounds-result-end c =
-    let a = c.args in
-    omega (arith, passed (a.self.pos + a.n) (length a.buf.now) c.within.ensures c.if-within.true)
-
 pub returns-then-within : goal.returns-then-within
 returns-then-within c = simp (sym c.within.ensures ∙ c.if-within.true, add-sub_cancel_left)
 
