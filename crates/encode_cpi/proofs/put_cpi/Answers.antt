@@ -16,7 +16,8 @@ put_u32-requires c =
 pub returns-then-n-eq0 : goal.returns-then-n-eq0
 returns-then-n-eq0 c =
     let a = c.args in
-    cpi_none a.maps.now a.n a.entries.now a.m a.out.now a.at a.len c.if-n-eq0.true c.requires.long c.put_u32.ensures
+    let r = cpi_none a.maps.now a.n a.entries.now a.m a.out.now a.at a.len c.if-n-eq0.true c.requires.long c.put_u32.ensures in
+    record { value = r.0; out_after = r.1 }
 
 pub overflow_sub-len : goal.overflow_sub-len
 overflow_sub-len c =
@@ -31,18 +32,16 @@ overflow_cast-len c =
 pub put_top-requires : goal.put_top-requires
 put_top-requires c =
     let long : let a = c.args in a.len ≡ 8 + 12 * a.n + length (bodies (map_rows_of a.maps.now a.n) (entry_rows_of a.entries.now a.m)) = let a = c.args in cpi_long a.maps.now a.n a.entries.now a.m a.out.now a.at a.len c.requires c.if-n-eq0.false in
-    let e : goal.Else-n-eq0 = search in
-    omega (arith, long e, c.requires.room)
+    omega (arith, long, c.requires.room)
 
 pub put_maps-requires : goal.put_maps-requires
 put_maps-requires c =
     let long : let a = c.args in a.len ≡ 8 + 12 * a.n + length (bodies (map_rows_of a.maps.now a.n) (entry_rows_of a.entries.now a.m)) = let a = c.args in cpi_long a.maps.now a.n a.entries.now a.m a.out.now a.at a.len c.requires c.if-n-eq0.false in
-    let e : goal.Else-n-eq0 = search in
     record {
       rows_there = c.requires.rows_there;
       writable = c.requires.writable;
-      long = omega (arith, long e);
-      room = omega (arith, c.requires.room, c.put_top.kept);
+      long = omega (arith, long);
+      room = omega (arith, c.requires.room, c.put_top.auto);
     }
 
 pub returns : goal.returns
