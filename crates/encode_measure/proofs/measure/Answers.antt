@@ -57,7 +57,7 @@ cpi_length-requires c =
     let fields : fields_of tables ≡ true = let f : goal.After-fields_fit = search in
     passes_by f.fields_fit.ensures c.if-not-fields_fit.false-raw in
     let l = tables in
-    (cpi_there l counted, cpi_counted l counted fields)
+    (cpi_there l (counted e), cpi_counted l (counted e) fields)
 
 pub returns-in_default : goal.returns-in_default
 returns-in_default c =
@@ -83,8 +83,7 @@ returns-in_default-length c =
     passes_by c.fields_fit.ensures c.if-not-fields_fit.false-raw in
     let fit : (cells_fit (clip_in handed) ≡ true) × (c.in-Fit.length ≡ length_in handed) =
     entries_fit_lem handed fields (sym c.cpi_length.ensures ∙ c.in-Fit.is) in
-    let t : goal.In-Fit-2 = search in
-    let l = handed t in
+    let l = handed in
     refused_by (refusal_in l) (clip_in l) 31 refl (runs_refused l counted lettered fit.0 (sym fit.1 ∙ c.in_default-length.is))
 
 pub section_length-programs_at-requires : goal.section_length-programs_at-requires
@@ -179,9 +178,8 @@ returns c =
     let lettered : are_letters tables.scalars.letters ≡ true =
     passes_by c.is_clip.ensures c.if-not-is_clip.false-raw in
     let none : refusal_in writable ≡ 0 = none_refused writable (record { counted = counted; letters = lettered; fit = fit.0; runs_fit_lem = few.0 }) in
-    let b : goal.In-Bytes-2 = search in
     let first = sequences_long writable c.section_length-programs_at.ensures in
     let second = programs_long writable c.section_length.ensures in
     let third = few.1 in
-    let c₀ = clip b in
+    let c₀ = clip in
     places_by (refusal_in writable) c₀ none (omega (arith, first, place_programs c₀)) (omega (arith, first, second, place_programs c₀, place_cpi c₀)) (omega (arith, first, second, third, place_programs c₀, place_cpi c₀, place_marks c₀))

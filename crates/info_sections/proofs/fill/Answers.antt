@@ -28,8 +28,7 @@ own_count-n-requires c =
 
 pub put_group-p-requires : goal.put_group-p-requires
 put_group-p-requires c =
-    let there : let a = c.args in let l = c.loop-k in GroupThere a.section a.file.now l.p c.own_count-n.result l.heads l.at l.rows l.to = group_there c.requires c.u8_at-count.ensures.same c.loop-k.invariant c.loop-k-test.true c.own_count-n.ensures.same in
-    let own_count : goal.After-own_count-n = search in there own_count
+    let there : let a = c.args in let l = c.loop-k in GroupThere a.section a.file.now l.p c.own_count-n.result l.heads l.at l.rows l.to = group_there c.requires c.u8_at-count.ensures.same c.loop-k.invariant c.loop-k-test.true c.own_count-n.ensures.same in there
 
 pub overflow_add-at : goal.overflow_add-at
 overflow_add-at c =

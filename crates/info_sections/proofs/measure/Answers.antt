@@ -55,8 +55,7 @@ own_count-requires c =
 pub overflow_add-rows : goal.overflow_add-rows
 overflow_add-rows c =
     let small : c.in-Read.count < 256 = rw c.in-Read.is at c.read_count.ensures.below in
-    let n : goal.In-At-2 = search in
-    omega (arith, c.loop-k.invariant.1.small, small (K n))
+    omega (arith, c.loop-k.invariant.1.small, small)
 
 pub loop-k-preserved : goal.loop-k-preserved
 loop-k-preserved c =
@@ -66,10 +65,9 @@ loop-k-preserved c =
     let file : List ℕ = bytes in
     let place : ℕ = c.loop-k.pos in
     let passed : (next_head own file place ≤ length file) × (c.in-At.next.pos ≡ next_head own file place) = went file (next_head own file place) (sym c.in-At.is ∙ c.skip_group.ensures) in
-    let n : goal.In-At-2 = search in
     let l = c.loop-k in
     let more = c.loop-k-test.true in
-    let next = passed n in (
+    let next = passed in (
       along_turn l.invariant.0 more next.1 (omega (arith, next.0, next.1)),
       counted_turn l.invariant.1 more next.1 (c.own_count.ensures.same ∙ sym (own_length own file l.pos)) c.own_count.ensures.below,
     )

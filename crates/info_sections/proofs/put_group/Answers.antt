@@ -14,9 +14,8 @@ pub put_atc-requires : goal.put_atc-requires
 put_atc-requires c =
     let atc-there : let a = c.args in
     GroupThere Section.Sequences a.file.now a.p a.n a.heads.now a.at a.rows.now a.to = rw c.in-Sequences.is at c.requires in
-    let t : goal.In-Sequences = search in
     let a = c.args in
-    let g = atc-there t in
+    let g = atc-there in
     (omega (arith, g.ends, atc_head a.file.now a.p), g.head_room)
 
 pub overflow_add-p : goal.overflow_add-p
@@ -30,17 +29,15 @@ pub put_stcs-requires : goal.put_stcs-requires
 put_stcs-requires c =
     let atc-there : let a = c.args in
     GroupThere Section.Sequences a.file.now a.p a.n a.heads.now a.at a.rows.now a.to = rw c.in-Sequences.is at c.requires in
-    let t : goal.In-Sequences = search in
-    let g = atc-there t in
+    let g = atc-there in
     (rw g.says g.ends, g.rows_room)
 
 pub put_program-requires : goal.put_program-requires
 put_program-requires c =
     let program-there : let a = c.args in
     GroupThere Section.Programs a.file.now a.p a.n a.heads.now a.at a.rows.now a.to = rw c.in-Programs.is at c.requires in
-    let t : goal.In-Programs = search in
     let a = c.args in
-    let g = program-there t in
+    let g = program-there in
     (omega (arith, g.ends, program_head a.file.now a.p), g.head_room)
 
 pub overflow_add-p-in-Programs : goal.overflow_add-p-in-Programs
@@ -54,8 +51,7 @@ pub put_streams-requires : goal.put_streams-requires
 put_streams-requires c =
     let program-there : let a = c.args in
     GroupThere Section.Programs a.file.now a.p a.n a.heads.now a.at a.rows.now a.to = rw c.in-Programs.is at c.requires in
-    let t : goal.In-Programs = search in
-    let g = program-there t in
+    let g = program-there in
     (rw g.says g.ends, g.rows_room)
 
 pub returns-in-Sequences : goal.returns-in-Sequences

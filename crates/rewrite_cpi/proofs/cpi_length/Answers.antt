@@ -25,18 +25,15 @@ loop-k-init c = measured_first c.args.file.now c.args.start c.args.count c.requi
 
 pub overflow_add-start : goal.overflow_add-start
 overflow_add-start c =
-    let bound : c.args.start + 8 + 12 * c.args.count ≤ 536870912 = omega (arith, (there c.args.file.now c.args.start c.args.count c.requires (omega (arith, c.if-count-eq0.false))).headers, c.requires.small) in
-    let e : goal.Else-count-eq0 = search in omega (arith, bound e)
+    let bound : c.args.start + 8 + 12 * c.args.count ≤ 536870912 = omega (arith, (there c.args.file.now c.args.start c.args.count c.requires (omega (arith, c.if-count-eq0.false))).headers, c.requires.small) in omega (arith, bound)
 
 pub overflow_mul-k : goal.overflow_mul-k
 overflow_mul-k c =
-    let bound : c.args.start + 8 + 12 * c.args.count ≤ 536870912 = omega (arith, (there c.args.file.now c.args.start c.args.count c.requires (omega (arith, c.if-count-eq0.false))).headers, c.requires.small) in
-    let e : goal.Else-count-eq0 = search in omega (arith, bound e, c.loop-k-test.true)
+    let bound : c.args.start + 8 + 12 * c.args.count ≤ 536870912 = omega (arith, (there c.args.file.now c.args.start c.args.count c.requires (omega (arith, c.if-count-eq0.false))).headers, c.requires.small) in omega (arith, bound, c.loop-k-test.true)
 
 pub overflow_add-start-in-loop-k : goal.overflow_add-start-in-loop-k
 overflow_add-start-in-loop-k c =
-    let bound : c.args.start + 8 + 12 * c.args.count ≤ 536870912 = omega (arith, (there c.args.file.now c.args.start c.args.count c.requires (omega (arith, c.if-count-eq0.false))).headers, c.requires.small) in
-    let e : goal.Else-count-eq0 = search in omega (arith, bound e, c.loop-k-test.true)
+    let bound : c.args.start + 8 + 12 * c.args.count ≤ 536870912 = omega (arith, (there c.args.file.now c.args.start c.args.count c.requires (omega (arith, c.if-count-eq0.false))).headers, c.requires.small) in omega (arith, bound, c.loop-k-test.true)
 
 pub map_body-m-requires : goal.map_body-m-requires
 map_body-m-requires c =
@@ -90,14 +87,12 @@ overflow_add-len-in-loop-k-3 c =
     let l = turn.loop-k in
     rows_in_lem a.file.now a.start (a.start + 8 + 12 * l.k) c.map_body-m.result c.map_body-m.ensures
     (left_map a.file.now a.start a.count l.k t.loop-k-test.true c.requires l.invariant.left) in
-    let e : goal.Else-count-eq0 = search in
-    omega (arith, rows.few, c.if-runs-gt-MOST_RUNS.false, c.loop-k.invariant.small, bound e, c.loop-k-test.true)
+    omega (arith, rows.few, c.if-runs-gt-MOST_RUNS.false, c.loop-k.invariant.small, bound, c.loop-k-test.true)
 
 pub overflow_add-k : goal.overflow_add-k
 overflow_add-k c =
     let bound : c.args.start + 8 + 12 * c.args.count ≤ 536870912 = omega (arith, (there c.args.file.now c.args.start c.args.count c.requires (omega (arith, c.if-count-eq0.false))).headers, c.requires.small) in
-    let e : goal.Else-count-eq0 = search in
-    omega (arith, bound e, c.loop-k-test.true)
+    omega (arith, bound, c.loop-k-test.true)
 
 pub loop-k-smaller : goal.loop-k-smaller
 loop-k-smaller c = omega (arith, c.loop-k-test.true)

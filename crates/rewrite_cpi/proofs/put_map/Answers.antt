@@ -20,15 +20,13 @@ pub overflow_cast-runs : goal.overflow_cast-runs
 overflow_cast-runs c =
     let m : MapBody = c.map_body-m.result in
     let q : ℕ = c.args.start + 8 + 12 * c.args.k in
-    let runs-small : c.put_body-runs.result ≤ 65535 = omega (arith, own_runs c.args.file.now c.args.start q m c.map_body-m.ensures c.put_body-runs.ensures.value, c.requires.runs_fit_lem) in
-    let b : goal.After-put_body-runs = search in omega (arith, runs-small b)
+    let runs-small : c.put_body-runs.result ≤ 65535 = omega (arith, own_runs c.args.file.now c.args.start q m c.map_body-m.ensures c.put_body-runs.ensures.value, c.requires.runs_fit_lem) in omega (arith, runs-small)
 
 pub overflow_cast-m : goal.overflow_cast-m
 overflow_cast-m c =
     let m : MapBody = c.map_body-m.result in
     let q : ℕ = c.args.start + 8 + 12 * c.args.k in
-    let fine-small : m.num_fine < 2 ^ 18 = count_fits c.args.file.now c.args.start q m c.map_body-m.ensures c.put_body-runs.ensures.value in
-    let b : goal.After-put_body-runs = search in omega (arith, fine-small b)
+    let fine-small : m.num_fine < 2 ^ 18 = count_fits c.args.file.now c.args.start q m c.map_body-m.ensures c.put_body-runs.ensures.value in omega (arith, fine-small)
 
 pub put_header-requires : goal.put_header-requires
 put_header-requires c =
@@ -39,44 +37,41 @@ put_header-requires c =
     let fine-small : m.num_fine < 2 ^ 18 = count_fits c.args.file.now c.args.start q m c.map_body-m.ensures c.put_body-runs.ensures.value in
     let b : goal.After-put_body-runs = search in
     let s = S b in
-    (kind-small b, omega (arith, runs-small b), fine-small b, omega (arith, s.pre.header_room, s.pre.room, b.put_body-runs.kept))
+    (kind-small, omega (arith, runs-small), fine-small, omega (arith, s.pre.header_room, s.pre.room, b.put_body-runs.kept))
 
 pub overflow_mul-result : goal.overflow_mul-result
 overflow_mul-result c =
     let m : MapBody = c.map_body-m.result in
     let q : ℕ = c.args.start + 8 + 12 * c.args.k in
-    let runs-small : c.put_body-runs.result ≤ 65535 = omega (arith, own_runs c.args.file.now c.args.start q m c.map_body-m.ensures c.put_body-runs.ensures.value, c.requires.runs_fit_lem) in
-    let b : goal.After-put_body-runs = search in omega (arith, runs-small b)
+    let runs-small : c.put_body-runs.result ≤ 65535 = omega (arith, own_runs c.args.file.now c.args.start q m c.map_body-m.ensures c.put_body-runs.ensures.value, c.requires.runs_fit_lem) in omega (arith, runs-small)
 
 pub overflow_add-result-2 : goal.overflow_add-result-2
 overflow_add-result-2 c =
     let m : MapBody = c.map_body-m.result in
     let q : ℕ = c.args.start + 8 + 12 * c.args.k in
     let behind : c.args.body + 4 + 8 * c.put_body-runs.result + 4 * m.num_fine ≡ c.args.body + length (body_bytes (entries_of c.args.file.now c.args.start q)) = place_is c.args.file.now c.args.start q m c.map_body-m.ensures c.put_body-runs.ensures.value c.args.body in
-    let b : goal.After-put_body-runs = search in let s = S b in omega (arith, behind b, s.pre.room)
+    let b : goal.After-put_body-runs = search in let s = S b in omega (arith, behind, s.pre.room)
 
 pub overflow_mul-result-2 : goal.overflow_mul-result-2
 overflow_mul-result-2 c =
     let m : MapBody = c.map_body-m.result in
     let q : ℕ = c.args.start + 8 + 12 * c.args.k in
-    let fine-small : m.num_fine < 2 ^ 18 = count_fits c.args.file.now c.args.start q m c.map_body-m.ensures c.put_body-runs.ensures.value in
-    let b : goal.After-put_body-runs = search in omega (arith, fine-small b)
+    let fine-small : m.num_fine < 2 ^ 18 = count_fits c.args.file.now c.args.start q m c.map_body-m.ensures c.put_body-runs.ensures.value in omega (arith, fine-small)
 
 pub overflow_add-result-3 : goal.overflow_add-result-3
 overflow_add-result-3 c =
     let m : MapBody = c.map_body-m.result in
     let q : ℕ = c.args.start + 8 + 12 * c.args.k in
     let behind : c.args.body + 4 + 8 * c.put_body-runs.result + 4 * m.num_fine ≡ c.args.body + length (body_bytes (entries_of c.args.file.now c.args.start q)) = place_is c.args.file.now c.args.start q m c.map_body-m.ensures c.put_body-runs.ensures.value c.args.body in
-    let b : goal.After-put_body-runs = search in let s = S b in omega (arith, behind b, s.pre.room)
+    let b : goal.After-put_body-runs = search in let s = S b in omega (arith, behind, s.pre.room)
 
 pub returns : goal.returns
 returns c =
     let m : MapBody = c.map_body-m.result in
     let q : ℕ = c.args.start + 8 + 12 * c.args.k in
     let behind : c.args.body + 4 + 8 * c.put_body-runs.result + 4 * m.num_fine ≡ c.args.body + length (body_bytes (entries_of c.args.file.now c.args.start q)) = place_is c.args.file.now c.args.start q m c.map_body-m.ensures c.put_body-runs.ensures.value c.args.body in
-    let b : goal.After-put_body-runs = search in
     let a = c.args in record {
-      value = behind b;
-      out_after = map_put a.file.now a.start q m c.map_body-m.ensures b.put_body-runs.ensures.value a.out.now a.body (a.at + 8 + 12 * a.k) (a.body - (a.at + 6)) c.u16_at-pid.result
-          c.u16_at-pid.ensures.same b.put_body-runs.ensures.out_after c.put_header.ensures;
+      value = behind;
+      out_after = map_put a.file.now a.start q m c.map_body-m.ensures c.put_body-runs.ensures.value a.out.now a.body (a.at + 8 + 12 * a.k) (a.body - (a.at + 6)) c.u16_at-pid.result
+          c.u16_at-pid.ensures.same c.put_body-runs.ensures.out_after c.put_header.ensures;
     }

@@ -27,7 +27,7 @@ pub loop-k-preserved : goal.loop-k-preserved
 loop-k-preserved c =
     let duration-fits : (as45 c.row_duration.result).ticks < 2 ^ 32 = c.row_duration.type_inv.1.1.0.1 in
     let a = c.args in
-    λ whole i. added_turn a.stcs.now a.rows whole c.loop-k.k (omega arith) c.row_duration.ensures duration-fits c.doubled.ensures c.plus-left-in-loop-k.ensures (c.loop-k.invariant whole i)
+    λ whole i. added_turn a.stcs.now a.rows whole c.loop-k.k (omega arith) c.row_duration.ensures (duration-fits c) c.doubled.ensures c.plus-left-in-loop-k.ensures (c.loop-k.invariant whole i)
 
 pub returns : goal.returns
 returns c =

@@ -89,4 +89,4 @@ returns-in-Ready c =
     let ready : ReadyIs F (lengths_of L) c.in-Ready.rows c.in-Ready.list c.in-Ready.has_list = prepared_ready F L prepared c.in-Ready.is in
     let p = P k in
     let s = c.fill_sections.ensures in
-    rw c.accepted.ensures record { result_value = stated F L ready ∙ prepared_answer_lem F L prepared c.in-Ready.is; atcs_after = s.0; stcs_after = s.1.0; programs_after = s.1.1.0; streams_after = s.1.1.1.0; maps_after = s.1.1.1.1.0; entries_after = s.1.1.1.1.1; extensions_after = filled_from (extension_rows F) L.extensions c.read.ensures.extensions c.fill.ensures; programs2_after = c.fill_list.ensures.programs_after; streams2_after = c.fill_list.ensures.streams_after }
+    rw c.accepted.ensures record { result_value = stated (F p) (L p) ready ∙ prepared_answer_lem (F p) (L p) (prepared p) c.in-Ready.is; atcs_after = s.0; stcs_after = s.1.0; programs_after = s.1.1.0; streams_after = s.1.1.1.0; maps_after = s.1.1.1.1.0; entries_after = s.1.1.1.1.1; extensions_after = filled_from (extension_rows (F p)) (L p).extensions c.read.ensures.extensions c.fill.ensures; programs2_after = c.fill_list.ensures.programs_after; streams2_after = c.fill_list.ensures.streams_after }

@@ -44,7 +44,7 @@ returns-then-end-fine c =
     let fine-at : body + c.u32_at-2.result ≡ fine_start F C P = fine_is F C P body c.u32_at-2.result body_is c.u32_at-2.ensures.same in
     let u : goal.After-u32_at-2 = search in
     let k = K u in
-    fine_address_past F C P address coarse (omega (arith, fine-at u, ends))
+    fine_address_past F C P address coarse (omega (arith, fine-at, ends))
 
 pub returns-then-file-fine : goal.returns-then-file-fine
 returns-then-file-fine c =
@@ -60,8 +60,8 @@ returns-then-file-fine c =
     let fine-at : body + c.u32_at-2.result ≡ fine_start F C P = fine_is F C P body c.u32_at-2.result body_is c.u32_at-2.ensures.same in
     let u : goal.After-u32_at-2 = search in
     let k = K u in
-    let fine : fine_start F C P ≤ cpi_end F C = omega (arith, fine-at u, ends) in
-    fine_past F C P address coarse fine (omega (arith, fine-at u, counts.2))
+    let fine : fine_start F C P ≤ cpi_end F C = omega (arith, fine-at, ends) in
+    fine_past F C P address coarse fine (omega (arith, fine-at, counts.2))
 
 pub returns : goal.returns
 returns c =
@@ -77,6 +77,6 @@ returns c =
     let fine-at : body + c.u32_at-2.result ≡ fine_start F C P = fine_is F C P body c.u32_at-2.result body_is c.u32_at-2.ensures.same in
     let u : goal.After-u32_at-2 = search in
     let k = K u in
-    let fine : fine_start F C P ≤ cpi_end F C = omega (arith, fine-at u, ends) in
+    let fine : fine_start F C P ≤ cpi_end F C = omega (arith, fine-at, ends) in
     let n = counts.2 in
-    ap MapRows.Entries n ∙ map_fits_lem F C P address coarse fine (omega (arith, fine-at u, n))
+    ap MapRows.Entries n ∙ map_fits_lem F C P address coarse fine (omega (arith, fine-at, n))

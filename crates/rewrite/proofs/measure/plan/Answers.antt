@@ -47,8 +47,7 @@ overflow_mul-programs_at c =
     runs_pass F c.read-starts.ensures.cpi c.cpi_length.ensures c.in-Bytes.is in
     let none_here : rewrite_refusal F ≡ 0 = none F sections.accepts few.0 in
     let short : programs_place C + length (programs_bytes C) + c.in-Bytes.len + 6 ≤ 402515706 = omega (arith, few.1, marks_short F is-bytes none_here, place_cpi C, place_marks C) in
-    let sums : 226 + 6 * (K c).atcs.given.0.0 + 14 * (K c).atcs.given.0.1.0 ≤ 402515706 = omega (arith, short, programs_at (K c)) in
-    let m : goal.In-Bytes-2 = search in record { fits = omega (arith, sums m) }
+    let sums : 226 + 6 * c.in-Counts.atcs + 14 * c.in-Counts.stcs ≤ 402515706 = omega (arith, short, programs_at) in record { fits = omega (arith, sums) }
 
 pub overflow_add-programs_at : goal.overflow_add-programs_at
 overflow_add-programs_at c =
@@ -61,8 +60,7 @@ overflow_add-programs_at c =
     runs_pass F c.read-starts.ensures.cpi c.cpi_length.ensures c.in-Bytes.is in
     let none_here : rewrite_refusal F ≡ 0 = none F sections.accepts few.0 in
     let short : programs_place C + length (programs_bytes C) + c.in-Bytes.len + 6 ≤ 402515706 = omega (arith, few.1, marks_short F is-bytes none_here, place_cpi C, place_marks C) in
-    let sums : 226 + 6 * (K c).atcs.given.0.0 + 14 * (K c).atcs.given.0.1.0 ≤ 402515706 = omega (arith, short, programs_at (K c)) in
-    let m : goal.In-Bytes-2 = search in record { fits = omega (arith, sums m) }
+    let sums : 226 + 6 * c.in-Counts.atcs + 14 * c.in-Counts.stcs ≤ 402515706 = omega (arith, short, programs_at) in record { fits = omega (arith, sums) }
 
 pub overflow_mul-programs_at-in-Counts : goal.overflow_mul-programs_at-in-Counts
 overflow_mul-programs_at-in-Counts c =
@@ -75,8 +73,7 @@ overflow_mul-programs_at-in-Counts c =
     runs_pass F c.read-starts.ensures.cpi c.cpi_length.ensures c.in-Bytes.is in
     let none_here : rewrite_refusal F ≡ 0 = none F sections.accepts few.0 in
     let short : programs_place C + length (programs_bytes C) + c.in-Bytes.len + 6 ≤ 402515706 = omega (arith, few.1, marks_short F is-bytes none_here, place_cpi C, place_marks C) in
-    let sums : 226 + 6 * (K c).atcs.given.0.0 + 14 * (K c).atcs.given.0.1.0 ≤ 402515706 = omega (arith, short, programs_at (K c)) in
-    let m : goal.In-Bytes-2 = search in record { fits = omega (arith, sums m) }
+    let sums : 226 + 6 * c.in-Counts.atcs + 14 * c.in-Counts.stcs ≤ 402515706 = omega (arith, short, programs_at) in record { fits = omega (arith, sums) }
 
 pub overflow_add-programs_at-in-Counts : goal.overflow_add-programs_at-in-Counts
 overflow_add-programs_at-in-Counts c =
@@ -89,8 +86,7 @@ overflow_add-programs_at-in-Counts c =
     runs_pass F c.read-starts.ensures.cpi c.cpi_length.ensures c.in-Bytes.is in
     let none_here : rewrite_refusal F ≡ 0 = none F sections.accepts few.0 in
     let short : programs_place C + length (programs_bytes C) + c.in-Bytes.len + 6 ≤ 402515706 = omega (arith, few.1, marks_short F is-bytes none_here, place_cpi C, place_marks C) in
-    let sums : 226 + 6 * (K c).atcs.given.0.0 + 14 * (K c).atcs.given.0.1.0 ≤ 402515706 = omega (arith, short, programs_at (K c)) in
-    let m : goal.In-Bytes-2 = search in record { fits = omega (arith, sums m) }
+    let sums : 226 + 6 * c.in-Counts.atcs + 14 * c.in-Counts.stcs ≤ 402515706 = omega (arith, short, programs_at) in record { fits = omega (arith, sums) }
 
 pub programs_length-requires : goal.programs_length-requires
 programs_length-requires c =
@@ -109,8 +105,7 @@ overflow_add-cpi_at c =
     runs_pass F r.read-starts.ensures.cpi c.cpi_length.ensures c.in-Bytes.is in
     let none_here : rewrite_refusal F ≡ 0 = none F sections.accepts few.0 in
     let short : programs_place C + length (programs_bytes C) + c.in-Bytes.len + 6 ≤ 402515706 = omega (arith, few.1, marks_short F is-bytes none_here, place_cpi C, place_marks C) in
-    let own : c.programs_length.result ≡ length (programs_bytes C) = programs_size F c.read-starts.ensures.programs c.programs_length.ensures in
-    let p : goal.After-programs_length = search in record { fits = omega (arith, short (M p), programs_at (K (M p)), own p) }
+    let own : c.programs_length.result ≡ length (programs_bytes C) = programs_size F c.read-starts.ensures.programs c.programs_length.ensures in record { fits = omega (arith, short, programs_at, own) }
 
 pub overflow_add-marks_at : goal.overflow_add-marks_at
 overflow_add-marks_at c =
@@ -123,8 +118,7 @@ overflow_add-marks_at c =
     runs_pass F r.read-starts.ensures.cpi c.cpi_length.ensures c.in-Bytes.is in
     let none_here : rewrite_refusal F ≡ 0 = none F sections.accepts few.0 in
     let short : programs_place C + length (programs_bytes C) + c.in-Bytes.len + 6 ≤ 402515706 = omega (arith, few.1, marks_short F is-bytes none_here, place_cpi C, place_marks C) in
-    let own : c.programs_length.result ≡ length (programs_bytes C) = programs_size F c.read-starts.ensures.programs c.programs_length.ensures in
-    let p : goal.After-programs_length = search in record { fits = omega (arith, short (M p), programs_at (K (M p)), own p) }
+    let own : c.programs_length.result ≡ length (programs_bytes C) = programs_size F c.read-starts.ensures.programs c.programs_length.ensures in record { fits = omega (arith, short, programs_at, own) }
 
 pub returns-in-Refused : goal.returns-in-Refused
 returns-in-Refused c =
@@ -145,4 +139,4 @@ returns-in-Bytes c =
     let m = M p in
     let k = K m in
     let at = sections in
-    planned_by F none_here at.atcs_are at.stcs_are at.maps_are programs_at (omega (arith, programs_at, own p, place_cpi C)) (omega (arith, programs_at, own p, few.1, place_cpi C, place_marks C))
+    planned_by F (none_here m) at.atcs_are at.stcs_are at.maps_are programs_at (omega (arith, programs_at, own, place_cpi C)) (omega (arith, programs_at, own, (few m).1, place_cpi C, place_marks C))

@@ -15,49 +15,43 @@ pub read-starts-requires : goal.read-starts-requires
 read-starts-requires c =
     let F : List ℕ = c.args.file.now in
     let is-bytes : IsBytes F = (λ i. (c.shared_slice_known-1.given i).fits) in
-    let long : 194 ≤ length F = (accepted_bounds F (accepted F is-bytes c.requires)).1 in
-    let n : goal.After-shared_slice_known-1 = search in omega (arith, long n)
+    let long : 194 ≤ length F = (accepted_bounds F (accepted F is-bytes c.requires)).1 in omega (arith, long)
 
 pub clip_info-requires : goal.clip_info-requires
 clip_info-requires c =
     let F : List ℕ = c.args.file.now in
     let is-bytes : IsBytes F = (λ i. (c.shared_slice_known-1.given i).fits) in
-    let long : 194 ≤ length F = (accepted_bounds F (accepted F is-bytes c.requires)).1 in
-    let n : goal.After-shared_slice_known-1 = search in long n
+    let long : 194 ≤ length F = (accepted_bounds F (accepted F is-bytes c.requires)).1 in long
 
 pub overflow_cast-programs_at : goal.overflow_cast-programs_at
 overflow_cast-programs_at c =
     let F : List ℕ = c.args.file.now in
     let is-bytes : IsBytes F = (λ i. (c.shared_slice_known-1.given i).fits) in
-    let order : InOrder c.args.programs_at c.args.cpi_at c.args.marks_at (length c.args.out.now) = in_order F is-bytes c.requires in
-    let n : goal.After-shared_slice_known-1 = search in record { fits = omega (arith, order n) }
+    let order : InOrder c.args.programs_at c.args.cpi_at c.args.marks_at (length c.args.out.now) = in_order F is-bytes c.requires in record { fits = omega (arith, order) }
 
 pub overflow_cast-cpi_at : goal.overflow_cast-cpi_at
 overflow_cast-cpi_at c =
     let F : List ℕ = c.args.file.now in
     let is-bytes : IsBytes F = (λ i. (c.shared_slice_known-1.given i).fits) in
-    let order : InOrder c.args.programs_at c.args.cpi_at c.args.marks_at (length c.args.out.now) = in_order F is-bytes c.requires in
-    let n : goal.After-shared_slice_known-1 = search in record { fits = omega (arith, order n) }
+    let order : InOrder c.args.programs_at c.args.cpi_at c.args.marks_at (length c.args.out.now) = in_order F is-bytes c.requires in record { fits = omega (arith, order) }
 
 pub overflow_cast-marks_at : goal.overflow_cast-marks_at
 overflow_cast-marks_at c =
     let F : List ℕ = c.args.file.now in
     let is-bytes : IsBytes F = (λ i. (c.shared_slice_known-1.given i).fits) in
-    let order : InOrder c.args.programs_at c.args.cpi_at c.args.marks_at (length c.args.out.now) = in_order F is-bytes c.requires in
-    let n : goal.After-shared_slice_known-1 = search in record { fits = omega (arith, order n) }
+    let order : InOrder c.args.programs_at c.args.cpi_at c.args.marks_at (length c.args.out.now) = in_order F is-bytes c.requires in record { fits = omega (arith, order) }
 
 pub put_head-requires : goal.put_head-requires
 put_head-requires c =
     let F : List ℕ = c.args.file.now in
     let is-bytes : IsBytes F = (λ i. (c.shared_slice_known-1.given i).fits) in
-    let order : InOrder c.args.programs_at c.args.cpi_at c.args.marks_at (length c.args.out.now) = in_order F is-bytes c.requires in
-    let n : goal.After-shared_slice_known-1 = search in omega (arith, order n)
+    let order : InOrder c.args.programs_at c.args.cpi_at c.args.marks_at (length c.args.out.now) = in_order F is-bytes c.requires in omega (arith, order)
 
 pub put_sequences-requires : goal.put_sequences-requires
 put_sequences-requires c =
     let F : List ℕ = c.args.file.now in
     let is-bytes : IsBytes F = (λ i. (c.shared_slice_known-1.given i).fits) in
-    sequences_room F is-bytes c.requires _ c.read-starts.ensures.sequences c.put_head.kept.1.1.1.1.0
+    sequences_room (F n) (is-bytes n) (S n).pre _ c.read-starts.ensures.sequences c.put_head.kept.1.1.1.1.0
 
 pub overflow_sub-cpi_at : goal.overflow_sub-cpi_at
 overflow_sub-cpi_at c =
@@ -70,7 +64,7 @@ pub put_programs-requires : goal.put_programs-requires
 put_programs-requires c =
     let F : List ℕ = c.args.file.now in
     let is-bytes : IsBytes F = (λ i. (c.shared_slice_known-1.given i).fits) in
-    programs_room F is-bytes c.requires _ c.read-starts.ensures.programs (c.put_sequences.kept.1.1.1.1.0 ∙ c.put_head.kept.1.1.1.1.0)
+    programs_room (F n) (is-bytes n) (S n).pre _ c.read-starts.ensures.programs (c.put_sequences.kept.1.1.1.1.0 ∙ c.put_head.kept.1.1.1.1.0)
 
 pub overflow_sub-marks_at : goal.overflow_sub-marks_at
 overflow_sub-marks_at c =
@@ -83,7 +77,7 @@ pub put_cpi-requires : goal.put_cpi-requires
 put_cpi-requires c =
     let F : List ℕ = c.args.file.now in
     let is-bytes : IsBytes F = (λ i. (c.shared_slice_known-1.given i).fits) in
-    cpi_room F is-bytes c.requires _ c.read-starts.ensures.cpi (c.put_programs.kept.1.1.1.0 ∙ c.put_sequences.kept.1.1.1.1.0 ∙ c.put_head.kept.1.1.1.1.0)
+    cpi_room (F n) (is-bytes n) (S n).pre _ c.read-starts.ensures.cpi (c.put_programs.kept.1.1.1.0 ∙ c.put_sequences.kept.1.1.1.1.0 ∙ c.put_head.kept.1.1.1.1.0)
 
 pub put_marks-requires : goal.put_marks-requires
 put_marks-requires c =
