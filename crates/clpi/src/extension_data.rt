@@ -12,26 +12,14 @@ use extension_entry::data_place;
 use extension_queries::entry;
 
 // The place of the data of a row of table 7, for any rows stated to be in it and any row number.
-#[unsafe(no_mangle)]
-pub extern "C" fn clpi_extension_data(
-    file: &[u8],
-    extensions: &[u8],
-    rows: u32,
-    row: u32,
-) -> ClpiPart
+pub fn clpi_extension_data(file: &[u8], extensions: &[u8], rows: u32, row: u32) -> ClpiPart
     ensures { part_numbers result ≡ data_numbers file.now (stated extensions.now rows) row }
 {
     part_of(data_place(file, extensions, rows, row))
 }
 
 // The row of the first extension with two ids.
-#[unsafe(no_mangle)]
-pub extern "C" fn clpi_extension_entry(
-    extensions: &[u8],
-    rows: u32,
-    id1: u16,
-    id2: u16,
-) -> ClpiAnswer
+pub fn clpi_extension_entry(extensions: &[u8], rows: u32, id1: u16, id2: u16) -> ClpiAnswer
     ensures { found_numbers result ≡ answer_numbers (ask_entry (stated extensions.now rows) id1 id2) }
 {
     answer_of(entry(extensions, rows, id1, id2))

@@ -1,4 +1,4 @@
-// The C interface: exported calls on numbers and byte slices, declared in include/clpi.h.
+// The calls of the C interface, on numbers and byte slices; `clpi_c` exports them, and include/clpi.h declares them.
 #![tactic(auto)]
 
 pub mod clips;

@@ -20,8 +20,7 @@ use ep_map_times::{first_pts, indexed_span_90k, last_pts};
 use ticks::Pts90;
 
 // The entry of a map with the greatest time not above the one given.
-#[unsafe(no_mangle)]
-pub extern "C" fn clpi_entry_point_at_or_before(
+pub fn clpi_entry_point_at_or_before(
     maps: &[u8],
     map_rows: u32,
     entries: &[u8],
@@ -35,8 +34,7 @@ pub extern "C" fn clpi_entry_point_at_or_before(
 }
 
 // The entry of a map with the least time above the one given.
-#[unsafe(no_mangle)]
-pub extern "C" fn clpi_entry_point_after(
+pub fn clpi_entry_point_after(
     maps: &[u8],
     map_rows: u32,
     entries: &[u8],
@@ -50,8 +48,7 @@ pub extern "C" fn clpi_entry_point_after(
 }
 
 // The packet to read from for a time: that of the entry at or before it.
-#[unsafe(no_mangle)]
-pub extern "C" fn clpi_seek_spn(
+pub fn clpi_seek_spn(
     maps: &[u8],
     map_rows: u32,
     entries: &[u8],
@@ -65,8 +62,7 @@ pub extern "C" fn clpi_seek_spn(
 }
 
 // The packet of the entry after a time.
-#[unsafe(no_mangle)]
-pub extern "C" fn clpi_next_seek_spn(
+pub fn clpi_next_seek_spn(
     maps: &[u8],
     map_rows: u32,
     entries: &[u8],
@@ -80,8 +76,7 @@ pub extern "C" fn clpi_next_seek_spn(
 }
 
 // The time of the first entry of a map.
-#[unsafe(no_mangle)]
-pub extern "C" fn clpi_first_pts(
+pub fn clpi_first_pts(
     maps: &[u8],
     map_rows: u32,
     entries: &[u8],
@@ -94,8 +89,7 @@ pub extern "C" fn clpi_first_pts(
 }
 
 // The time of the last entry of a map.
-#[unsafe(no_mangle)]
-pub extern "C" fn clpi_last_pts(
+pub fn clpi_last_pts(
     maps: &[u8],
     map_rows: u32,
     entries: &[u8],
@@ -108,8 +102,7 @@ pub extern "C" fn clpi_last_pts(
 }
 
 // The last time of a map less its first.
-#[unsafe(no_mangle)]
-pub extern "C" fn clpi_indexed_span_90k(
+pub fn clpi_indexed_span_90k(
     maps: &[u8],
     map_rows: u32,
     entries: &[u8],
@@ -122,8 +115,7 @@ pub extern "C" fn clpi_indexed_span_90k(
 }
 
 // The entries of a map: the first and how many.
-#[unsafe(no_mangle)]
-pub extern "C" fn clpi_entries_of_map(
+pub fn clpi_entries_of_map(
     maps: &[u8],
     map_rows: u32,
     entries: &[u8],
@@ -136,16 +128,14 @@ pub extern "C" fn clpi_entries_of_map(
 }
 
 // The row of the primary map.
-#[unsafe(no_mangle)]
-pub extern "C" fn clpi_primary_video_ep_map(maps: &[u8], rows: u32) -> ClpiAnswer
+pub fn clpi_primary_video_ep_map(maps: &[u8], rows: u32) -> ClpiAnswer
     ensures { found_numbers result ≡ answer_numbers (ask primary_video_ep_map (only_maps (stated maps.now rows))) }
 {
     answer_of(primary_video_ep_map(maps, rows))
 }
 
 // The packet to read from for a time, by the primary map.
-#[unsafe(no_mangle)]
-pub extern "C" fn clpi_primary_seek_spn(
+pub fn clpi_primary_seek_spn(
     maps: &[u8],
     map_rows: u32,
     entries: &[u8],
@@ -158,8 +148,7 @@ pub extern "C" fn clpi_primary_seek_spn(
 }
 
 // The packet of the entry after a time, by the primary map.
-#[unsafe(no_mangle)]
-pub extern "C" fn clpi_primary_next_seek_spn(
+pub fn clpi_primary_next_seek_spn(
     maps: &[u8],
     map_rows: u32,
     entries: &[u8],
@@ -172,16 +161,14 @@ pub extern "C" fn clpi_primary_next_seek_spn(
 }
 
 // The row of the first map of a type.
-#[unsafe(no_mangle)]
-pub extern "C" fn clpi_ep_map_by_kind(maps: &[u8], rows: u32, kind: u8) -> ClpiAnswer
+pub fn clpi_ep_map_by_kind(maps: &[u8], rows: u32, kind: u8) -> ClpiAnswer
     ensures { found_numbers result ≡ answer_numbers (ask (ep_map_by_kind kind) (only_maps (stated maps.now rows))) }
 {
     answer_of(ep_map_by_kind(maps, rows, kind))
 }
 
 // The row of the first video map from a row on, by the low four bits of the type.
-#[unsafe(no_mangle)]
-pub extern "C" fn clpi_next_video_ep_map(maps: &[u8], rows: u32, from: u32) -> ClpiAnswer
+pub fn clpi_next_video_ep_map(maps: &[u8], rows: u32, from: u32) -> ClpiAnswer
     ensures { found_numbers result ≡ answer_numbers (ask (next_video_ep_map «from») (only_maps (stated maps.now rows))) }
 {
     answer_of(next_video_ep_map(maps, rows, from))

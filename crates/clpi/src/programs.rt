@@ -13,32 +13,28 @@ use program_queries::{
 };
 
 // The row of the first stream with this PID.
-#[unsafe(no_mangle)]
-pub extern "C" fn clpi_stream_by_pid(streams: &[u8], rows: u32, pid: u16) -> ClpiAnswer
+pub fn clpi_stream_by_pid(streams: &[u8], rows: u32, pid: u16) -> ClpiAnswer
     ensures { found_numbers result ≡ answer_numbers (ask (stream_by_pid pid) (only_streams (stated streams.now rows))) }
 {
     answer_of(stream_by_pid(streams, rows, pid))
 }
 
 // The PID of the first stream that is video.
-#[unsafe(no_mangle)]
-pub extern "C" fn clpi_primary_video_pid(streams: &[u8], rows: u32) -> ClpiAnswer
+pub fn clpi_primary_video_pid(streams: &[u8], rows: u32) -> ClpiAnswer
     ensures { found_numbers result ≡ answer_numbers (ask primary_video_pid (only_streams (stated streams.now rows))) }
 {
     answer_of(primary_video_pid(streams, rows))
 }
 
 // The row of the first program whose map table has this PID.
-#[unsafe(no_mangle)]
-pub extern "C" fn clpi_program_by_pmt_pid(programs: &[u8], rows: u32, pid: u16) -> ClpiAnswer
+pub fn clpi_program_by_pmt_pid(programs: &[u8], rows: u32, pid: u16) -> ClpiAnswer
     ensures { found_numbers result ≡ answer_numbers (ask (program_by_pmt_pid pid) (only_programs (stated programs.now rows))) }
 {
     answer_of(program_by_pmt_pid(programs, rows, pid))
 }
 
 // The streams of a program: the first and how many.
-#[unsafe(no_mangle)]
-pub extern "C" fn clpi_streams_of_program(
+pub fn clpi_streams_of_program(
     programs: &[u8],
     program_rows: u32,
     streams: &[u8],
@@ -51,16 +47,14 @@ pub extern "C" fn clpi_streams_of_program(
 }
 
 // The row of the first video stream from a row on.
-#[unsafe(no_mangle)]
-pub extern "C" fn clpi_next_video_stream(streams: &[u8], rows: u32, from: u32) -> ClpiAnswer
+pub fn clpi_next_video_stream(streams: &[u8], rows: u32, from: u32) -> ClpiAnswer
     ensures { found_numbers result ≡ answer_numbers (ask (next_video_stream «from») (only_streams (stated streams.now rows))) }
 {
     answer_of(next_video_stream(streams, rows, from))
 }
 
 // The row of the first audio stream from a row on.
-#[unsafe(no_mangle)]
-pub extern "C" fn clpi_next_audio_stream(streams: &[u8], rows: u32, from: u32) -> ClpiAnswer
+pub fn clpi_next_audio_stream(streams: &[u8], rows: u32, from: u32) -> ClpiAnswer
     ensures { found_numbers result ≡ answer_numbers (ask (next_audio_stream «from») (only_streams (stated streams.now rows))) }
 {
     answer_of(next_audio_stream(streams, rows, from))

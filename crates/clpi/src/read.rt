@@ -8,8 +8,7 @@ use clip_information::read::read;
 use clpi_reading::{ClpiReading, reading_of};
 
 // Reads a clip file into nine tables; a refusal leaves every table as it was.
-#[unsafe(no_mangle)]
-pub extern "C" fn clpi_read(
+pub fn clpi_read(
     file: &[u8],
     atcs: &mut [u8],
     stcs: &mut [u8],

@@ -14,53 +14,42 @@ use sequence_queries::{
 use ticks::Ticks90;
 
 // Minutes remaining at a 90 kHz time of an STC, with all later STCs.
-#[unsafe(no_mangle)]
-pub extern "C" fn clpi_minutes_remaining(
-    stcs: &[u8],
-    rows: u32,
-    stc: u32,
-    at_90k: u64,
-) -> ClpiAnswer
+pub fn clpi_minutes_remaining(stcs: &[u8], rows: u32, stc: u32, at_90k: u64) -> ClpiAnswer
     ensures { found_numbers result ≡ answer_numbers (ask (minutes_remaining stc (record { ticks = at_90k })) (only_stcs (stated stcs.now rows))) }
 {
     answer_of(minutes_remaining(stcs, rows, stc, Ticks90(at_90k)))
 }
 
 // The presentation span in 90 kHz ticks.
-#[unsafe(no_mangle)]
-pub extern "C" fn clpi_presentation_span_90k(stcs: &[u8], rows: u32) -> ClpiAnswer
+pub fn clpi_presentation_span_90k(stcs: &[u8], rows: u32) -> ClpiAnswer
     ensures { found_numbers result ≡ answer_numbers (ask presentation_span_90k (only_stcs (stated stcs.now rows))) }
 {
     answer_of_90(presentation_span_90k(stcs, rows))
 }
 
 // How long an STC is, in 45 kHz ticks.
-#[unsafe(no_mangle)]
-pub extern "C" fn clpi_duration_45k(stcs: &[u8], rows: u32, stc: u32) -> ClpiAnswer
+pub fn clpi_duration_45k(stcs: &[u8], rows: u32, stc: u32) -> ClpiAnswer
     ensures { found_numbers result ≡ answer_numbers (ask (duration45k stc) (only_stcs (stated stcs.now rows))) }
 {
     answer_of_45(duration_45k(stcs, rows, stc))
 }
 
 // How long an STC is, in 90 kHz ticks.
-#[unsafe(no_mangle)]
-pub extern "C" fn clpi_duration_90k(stcs: &[u8], rows: u32, stc: u32) -> ClpiAnswer
+pub fn clpi_duration_90k(stcs: &[u8], rows: u32, stc: u32) -> ClpiAnswer
     ensures { found_numbers result ≡ answer_numbers (ask (duration90k stc) (only_stcs (stated stcs.now rows))) }
 {
     answer_of_90(duration_90k(stcs, rows, stc))
 }
 
 // The row of the first STC.
-#[unsafe(no_mangle)]
-pub extern "C" fn clpi_first_stc_sequence(stcs: &[u8], rows: u32) -> ClpiAnswer
+pub fn clpi_first_stc_sequence(stcs: &[u8], rows: u32) -> ClpiAnswer
     ensures { found_numbers result ≡ answer_numbers (ask first_stc_sequence (only_stcs (stated stcs.now rows))) }
 {
     answer_of(first_stc_sequence(stcs, rows))
 }
 
 // The STCs of an ATC: the first and how many.
-#[unsafe(no_mangle)]
-pub extern "C" fn clpi_stcs_of_atc(
+pub fn clpi_stcs_of_atc(
     atcs: &[u8],
     atc_rows: u32,
     stcs: &[u8],
@@ -73,8 +62,7 @@ pub extern "C" fn clpi_stcs_of_atc(
 }
 
 // The row of the STC with an id, through all ATCs.
-#[unsafe(no_mangle)]
-pub extern "C" fn clpi_stc_sequence_by_id(
+pub fn clpi_stc_sequence_by_id(
     atcs: &[u8],
     atc_rows: u32,
     stcs: &[u8],
@@ -87,8 +75,7 @@ pub extern "C" fn clpi_stc_sequence_by_id(
 }
 
 // The row of the STC of a packet in one ATC, through all ATCs.
-#[unsafe(no_mangle)]
-pub extern "C" fn clpi_stc_sequence_for_spn(
+pub fn clpi_stc_sequence_for_spn(
     atcs: &[u8],
     atc_rows: u32,
     stcs: &[u8],

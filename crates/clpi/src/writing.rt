@@ -16,8 +16,7 @@ use limits::tables::StatedRows;
 use rewrite::rewrite::{rewrite, rewritten_length};
 
 // Writes the record of six tables with their stated rows into the output; a refusal leaves it as it was.
-#[unsafe(no_mangle)]
-pub extern "C" fn clpi_write(
+pub fn clpi_write(
     info: ClipInfo,
     atcs: &[u8],
     atc_rows: u32,
@@ -50,8 +49,7 @@ pub extern "C" fn clpi_write(
 }
 
 // Rewrites a file into the output; a refusal leaves it as it was.
-#[unsafe(no_mangle)]
-pub extern "C" fn clpi_rewrite(file: &[u8], output: &mut [u8]) -> ClpiWriting
+pub fn clpi_rewrite(file: &[u8], output: &mut [u8]) -> ClpiWriting
     ensures result_value { writing_numbers result ≡ write_numbers (rewrite_answer file.now output.old) }
     ensures output_after { output.new ≡ output_by (rewrite_answer file.now output.old) (encode (clip_of file.now)) output.old }
 {
@@ -59,8 +57,7 @@ pub extern "C" fn clpi_rewrite(file: &[u8], output: &mut [u8]) -> ClpiWriting
 }
 
 // How long the new file of a file is.
-#[unsafe(no_mangle)]
-pub extern "C" fn clpi_rewritten_length(file: &[u8]) -> ClpiLength
+pub fn clpi_rewritten_length(file: &[u8]) -> ClpiLength
     ensures { new_length_numbers result ≡ length_numbers (length_answer file.now) }
 {
     length_of(rewritten_length(file))

@@ -37,40 +37,35 @@ fn look_up(rows: &[EpEntry], is_after: bool, is_packet: bool, at: u32) -> ClpiAn
 }
 
 // The entry with the greatest time not above the one given, the earliest among equals; row 0 if all are later; nothing without entries.
-#[unsafe(no_mangle)]
-pub extern "C" fn entry_point_at_or_before(rows: &[EpEntry], at: u32) -> ClpiAnswer
+pub fn entry_point_at_or_before(rows: &[EpEntry], at: u32) -> ClpiAnswer
     ensures { found_numbers result ≡ answer_numbers (at_or_before (map time (as_rows rows.now)) at) }
 {
     look_up(rows, false, false, at)
 }
 
 // The entry with the least time above the one given, the earliest among equals, or nothing.
-#[unsafe(no_mangle)]
-pub extern "C" fn entry_point_after(rows: &[EpEntry], at: u32) -> ClpiAnswer
+pub fn entry_point_after(rows: &[EpEntry], at: u32) -> ClpiAnswer
     ensures { found_numbers result ≡ answer_numbers (after (map time (as_rows rows.now)) at) }
 {
     look_up(rows, true, false, at)
 }
 
 // The packet to read from for a time: that of the entry at or before it; nothing without entries.
-#[unsafe(no_mangle)]
-pub extern "C" fn seek_spn(rows: &[EpEntry], at: u32) -> ClpiAnswer
+pub fn seek_spn(rows: &[EpEntry], at: u32) -> ClpiAnswer
     ensures { found_numbers result ≡ answer_numbers (seek (as_rows rows.now) at) }
 {
     look_up(rows, false, true, at)
 }
 
 // The packet of the entry after a time, or nothing.
-#[unsafe(no_mangle)]
-pub extern "C" fn next_seek_spn(rows: &[EpEntry], at: u32) -> ClpiAnswer
+pub fn next_seek_spn(rows: &[EpEntry], at: u32) -> ClpiAnswer
     ensures { found_numbers result ≡ answer_numbers (next_seek (as_rows rows.now) at) }
 {
     look_up(rows, true, true, at)
 }
 
 // The span of the entries: the last time less the first, not below 0; 0 without entries.
-#[unsafe(no_mangle)]
-pub extern "C" fn indexed_span_90k(rows: &[EpEntry]) -> ClpiAnswer
+pub fn indexed_span_90k(rows: &[EpEntry]) -> ClpiAnswer
     ensures { found_numbers result ≡ answer_numbers (ticks90 (span_of (as_rows rows.now))) }
 {
     let first = entry_at(rows, 0);

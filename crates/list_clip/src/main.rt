@@ -1,12 +1,18 @@
 // Prints the listing of the clip file on standard input.
 #![tactic(auto)]
 
-use libc::STDIN_FILENO;
 use listing_io::{INPUT, TEXT, list_input};
+use std::io;
 
 // One listing, from standard input.
-fn main() {
+fn main(rt: HostRuntime) -> anyhow::Result<()> {
     let mut input = [0; INPUT];
     let mut text = [0; TEXT];
-    list_input(STDIN_FILENO, b"standard input", &mut input, &mut text);
+    list_input(
+        &mut rt.reader(),
+        &mut io::writer(&rt),
+        &mut input,
+        &mut text,
+    )?;
+    Ok(())
 }

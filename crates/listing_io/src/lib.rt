@@ -1,13 +1,18 @@
-// The listing program's reading and writing: an input's listing on standard output. The text is `clip_listing::list`'s.
+// The listing program's reading and writing: the listing of a reader's bytes, written to a writer. The text is
+// `clip_listing::list`'s.
 #![tactic(auto)]
 
-ghost use Rattle.std.specs.Prelude.{◌≤◌, length};
+ghost use Rattle.std.specs.Prelude.{◌≤◌, ◌<◌, length, take, IfOk};
+ghost use Rattle.std.specs.Io.KnownBytes.{Appends, Consumes, IsAtEnd};
+ghost use Rattle.format.specs.Listing.{listing};
 ghost use Rattle.clip_listing.specs.Told.{listing_room};
 ghost use Rattle.listing_io.specs.ShownInput.{ShowsInput};
 
 use clip_listing::list;
-use input::{Input, read_input};
-use libc::STDOUT_FILENO;
+use input::read_input;
+use std::io;
+use std::io::{Read, Write};
+use thiserror::Error;
 
 // The bytes that an input is read into: one over the listing's limit, which tells that there are more.
 pub const INPUT: usize = 65537;
@@ -15,25 +20,43 @@ pub const INPUT: usize = 65537;
 // The bytes that every listing has room in.
 pub const TEXT: usize = 262144;
 
-// How many bytes were read, and the length of their listing; or a read that failed.
+// How many bytes were read, and the length of their listing.
 #[derive(Clone, Copy)]
-pub enum ListedInput {
-    Text { read: usize, len: usize },
-    Failed,
+pub struct ListedInput {
+    pub read: usize,
+    pub len: usize,
 }
 
-// Reads a descriptor to its end, or until the input's buffer is full, and writes the listing of what was read. Both stand in the buffers afterwards. A read that fails is told on standard error, and nothing is listed.
-pub fn list_input(fd: i32, name: &[u8], input: &mut [u8], out: &mut [u8]) -> ListedInput
+// The read that failed, or the write.
+#[derive(Debug, Drop, Error)]
+pub enum ListError {
+    #[error("reading: {0}")]
+    Read(io::Error),
+    #[error("writing: {0}")]
+    Write(io::Error),
+}
+
+// Reads to the end, or until the input's buffer is full, and writes the listing of what was read. Both stand in the buffers afterwards. Where a read fails nothing is listed.
+pub fn list_input<R: Read, W: Write>(
+    reader: &mut R,
+    writer: &mut W,
+    input: &mut [u8],
+    out: &mut [u8],
+) -> Result<ListedInput, ListError>
     requires { listing_room ≤ length out.old }
-    ensures { ShowsInput input.new out.old out.new result }
+    ensures shown { ShowsInput input.new out.old out.new result }
+    ensures bytes { IfOk result (λ l. Consumes (R.remaining reader.old) (R.remaining reader.new) (take l.read input.new)) }
+    ensures end { IfOk result (λ l. l.read < length input.new → IsAtEnd (R.remaining reader.new)) }
+    ensures written { IfOk result (λ l. Appends (W.contents writer.old) (W.contents writer.new)
+        (listing (take l.read input.new))) }
 {
-    let Input::Bytes(read) = read_input(fd, input) else {
-        os::fail(name);
-        return ListedInput::Failed;
+    let read = match read_input(reader, input) {
+        Ok(n) => n,
+        Err(e) => return Err(ListError::Read(e)),
     };
     let len = list(&input[..read], out);
-    if !io::write_all(STDOUT_FILENO, &out[..len]) {
-        os::fail(b"standard output");
+    match writer.write_all(&out[..len]) {
+        Ok(()) => Ok(ListedInput { read, len }),
+        Err(e) => Err(ListError::Write(e)),
     }
-    ListedInput::Text { read, len }
 }

@@ -1,38 +1,26 @@
 // Prints the listing of each file that its arguments name, each behind a line with the file's name.
 #![tactic(auto)]
 
-use libc::STDOUT_FILENO;
 use listing_io::{INPUT, TEXT, list_input};
+use std::rt::Files;
+use std::{env, fs, io};
 
 // The name of a file, and its listing.
-fn list_file(path: &[u8]) {
-    io::write_all(STDOUT_FILENO, b"file ");
-    io::write_all(STDOUT_FILENO, path);
-    io::write_all(STDOUT_FILENO, b"\n");
-    let fd = os::open_read(path);
-    if fd < 0 {
-        os::fail(path);
-        return;
-    }
+fn list_file(rt: &(impl Files + Print), path: &str) -> anyhow::Result<()> {
+    println!(rt; "file {path}")?;
+    let mut file = fs::open(rt, path)?;
     let mut input = [0; INPUT];
     let mut text = [0; TEXT];
-    list_input(fd, path, &mut input, &mut text);
-    libc::close(fd);
+    list_input(&mut file, &mut io::writer(rt), &mut input, &mut text)?;
+    Ok(())
 }
 
-// The same of the file that an argument names.
-fn list_argument(i: usize) {
-    let mut path = io::buffer();
-    let length = os::arg(i, &mut path);
-    list_file(&path[..length]);
-}
-
-// Each argument in its turn.
-fn main() {
-    let count = os::arg_count();
-    let mut i = 1;
-    while i < count {
-        list_argument(i);
-        i += 1;
+// Each argument in its turn. A file that can't be listed is told, and those behind it are listed all the same.
+fn main(rt: HostRuntime) -> io::Result<()> {
+    for path in env::args(&rt)?.skip(1) {
+        if let Err(e) = list_file(&rt, path.as_str()) {
+            eprintln!(rt; "{path}: {e}")?;
+        }
     }
+    Ok(())
 }

@@ -40,6 +40,7 @@ passes_member x (a ∷ rest) h = go (eqb x a) refl h (passes_member x rest)
 
 -- what all of a list have, each member has
 each_of : (P : ℕ → Type 0) {x : ℕ} {xs : List ℕ} → All P xs → Memᴰ x xs → P x
+each_of P none m = elim m [ ]
 each_of P (more h hs) (Memᴰ.head e) = subst P (sym e) h
 each_of P (more h hs) (Memᴰ.tail m) = each_of P hs m
 

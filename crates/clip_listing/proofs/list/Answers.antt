@@ -22,12 +22,12 @@ put_answer-requires c =
     let bytes : IsBytes F = (λ i. (c.shared_slice_known-1.given i).fits) in
     let answered : read_answer_of c.read_answer.result ≡ read_answer F listing_tables = c.read_answer.ensures.0 in
     rw (c.read_answer.ensures.1.1.1.1.1.0, c.read_answer.ensures.1.1.1.1.1.1.0)
-    (tellable (F c) (bytes c) (rows4096 map_cells) (rows4096 entry_cells) c.read_answer.result c.args.out.now (answered c) c.requires)
+    (tellable F bytes (rows4096 map_cells) (rows4096 entry_cells) c.read_answer.result c.args.out.now answered c.requires)
 
 pub returns : goal.returns
 returns c =
     let F : List ℕ = c.args.input.now in
     let bytes : IsBytes F = (λ i. (c.shared_slice_known-1.given i).fits) in
     let answered : read_answer_of c.read_answer.result ≡ read_answer F listing_tables = c.read_answer.ensures.0 in
-    shows_as (rw (c.read_answer.ensures.1.1.1.1.1.0, c.read_answer.ensures.1.1.1.1.1.1.0) (told (F c) (bytes c) (rows4096 map_cells) (rows4096 entry_cells) c.read_answer.result (answered c) ∙ sym (listing_within (F c) (search rules))))
+    shows_as (rw (c.read_answer.ensures.1.1.1.1.1.0, c.read_answer.ensures.1.1.1.1.1.1.0) (told F bytes (rows4096 map_cells) (rows4096 entry_cells) c.read_answer.result answered ∙ sym (listing_within F (search rules))))
     c.put_answer.ensures

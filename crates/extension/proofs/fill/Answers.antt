@@ -12,7 +12,7 @@ pub fill_entries-requires : goal.fill_entries-requires
 fill_entries-requires c =
     let f = c.args.file.now in
     let e = sym c.in-Entries.is ∙ c.head_at.ensures in
-    (block f c.args.start (λ i. (c.shared_slice_known-1.given i).fits) c.requires.0 e, table_room f c.args.start c.in-Entries.n c.args.table.now (rows_are f c.args.start e) c.requires.1)
+    (block f c.args.start (λ i. (c.type_inv.file i).fits) c.requires.0 e, table_room f c.args.start c.in-Entries.n c.args.table.now (rows_are f c.args.start e) c.requires.1)
 
 pub returns : goal.returns
 returns c =

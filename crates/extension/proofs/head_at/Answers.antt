@@ -49,34 +49,27 @@ returns-in_default-read_u8 c =
     let file : List ℕ = c.args.file.now in
     let start : ℕ = c.args.start in
     let at_front : c.in-At.front.pos ≡ start = (went file start (sym c.in-At.is ∙ c.seek.ensures)).1 in
-    let got-length : Got file start 4 c.in-Read.length c.in-Read.ignored = let b : goal.In-At-2 = search in
-    let r : goal.After-read_u32 = search in
-    got file start 4 (rw at_front at (sym c.in-Read.is ∙ r.read_u32.ensures.same)) in
-    let at_count : c.in-At-skip.count.pos ≡ start + 11 = let b : goal.In-At-2 = search in
+    let got-length : Got file start 4 c.in-Read.length c.in-Read.ignored =
+    got file start 4 (rw at_front at (sym c.in-Read.is ∙ c.read_u32.ensures.same)) in
+    let at_count : c.in-At-skip.count.pos ≡ start + 11 =
     (went file (start + 11) (rw (got-length.behind, seven start) at (sym c.in-At-skip.is ∙ c.skip.ensures))).1 in
-    let b = B c in
-    too_short_lem (file b) (start b) (omega (arith, not_got (file b) (start b + 11) 1 (rw at_count at (sym c.in_default-read_u8.is ∙ c.read_u8.ensures.same))))
+    too_short_lem file start (omega (arith, not_got file (start + 11) 1 (rw at_count at (sym c.in_default-read_u8.is ∙ c.read_u8.ensures.same))))
 
 pub overflow_mul-n : goal.overflow_mul-n
-overflow_mul-n c =
-    omega (arith, rw c.in-Read-read_u8.is at c.read_u8.ensures.below)
+overflow_mul-n c = omega (arith, rw c.in-Read-read_u8.is at c.read_u8.ensures.below)
 
 pub returns-in_default-skip-2 : goal.returns-in_default-skip-2
 returns-in_default-skip-2 c =
     let file : List ℕ = c.args.file.now in
     let start : ℕ = c.args.start in
     let at_front : c.in-At.front.pos ≡ start = (went file start (sym c.in-At.is ∙ c.seek.ensures)).1 in
-    let got-length : Got file start 4 c.in-Read.length c.in-Read.ignored = let b : goal.In-At-2 = search in
-    let r : goal.After-read_u32 = search in
-    got file start 4 (rw at_front at (sym c.in-Read.is ∙ r.read_u32.ensures.same)) in
-    let at_count : c.in-At-skip.count.pos ≡ start + 11 = let b : goal.In-At-2 = search in
-    let p : goal.After-skip = search in
-    (went file (start + 11) (rw (got-length.behind, seven start) at (sym c.in-At-skip.is ∙ p.skip.ensures))).1 in
-    let got-count : Got (file (c c)) (start (c c) + 11) 1 c.in-Read-read_u8.n c.in-Read-read_u8.entries =
-    got (file (c c)) (start (c c) + 11) 1 (rw at_count at (sym c.in-Read-read_u8.is ∙ c.read_u8.ensures.same)) in
-    let b = B c in
-    let count = got-count in
-    too_short_lem (file b) (start b) (omega (arith, count.value, count.behind, stayed (file b) (c.in-Read-read_u8.entries.pos + 12 * c.in-Read-read_u8.n) (sym c.in_default-skip-2.is ∙ c.skip-2.ensures)))
+    let got-length : Got file start 4 c.in-Read.length c.in-Read.ignored =
+    got file start 4 (rw at_front at (sym c.in-Read.is ∙ c.read_u32.ensures.same)) in
+    let at_count : c.in-At-skip.count.pos ≡ start + 11 =
+    (went file (start + 11) (rw (got-length.behind, seven start) at (sym c.in-At-skip.is ∙ c.skip.ensures))).1 in
+    let count : Got file (start + 11) 1 c.in-Read-read_u8.n c.in-Read-read_u8.entries =
+    got file (start + 11) 1 (rw at_count at (sym c.in-Read-read_u8.is ∙ c.read_u8.ensures.same)) in
+    too_short_lem file start (omega (arith, count.value, count.behind, stayed file (c.in-Read-read_u8.entries.pos + 12 * c.in-Read-read_u8.n) (sym c.in_default-skip-2.is ∙ c.skip-2.ensures)))
 
 pub overflow_add-start : goal.overflow_add-start
 overflow_add-start c =
@@ -85,8 +78,7 @@ overflow_add-start c =
     let at_front : c.in-At.front.pos ≡ start = (went file start (sym c.in-At.is ∙ c.seek.ensures)).1 in
     let got-length : Got file start 4 c.in-Read.length c.in-Read.ignored =
     got file start 4 (rw at_front at (sym c.in-Read.is ∙ c.read_u32.ensures.same)) in
-    let l = L c in
-    omega (arith, (got-length l).inside, (S (B l)).pre)
+    omega (arith, got-length.inside, c.requires)
 
 pub overflow_add-start-2 : goal.overflow_add-start-2
 overflow_add-start-2 c =
@@ -94,28 +86,20 @@ overflow_add-start-2 c =
     let start : ℕ = c.args.start in
     let at_front : c.in-At.front.pos ≡ start = (went file start (sym c.in-At.is ∙ c.seek.ensures)).1 in
     let got-length : Got file start 4 c.in-Read.length c.in-Read.ignored =
-    let r : goal.After-read_u32 = search in
-    got file start 4 (rw at_front at (sym c.in-Read.is ∙ r.read_u32.ensures.same)) in
+    got file start 4 (rw at_front at (sym c.in-Read.is ∙ c.read_u32.ensures.same)) in
     let length-below : c.in-Read.length < 4294967296 = rw c.in-Read.is at c.read_u32.ensures.below in
-    let l = L c in
-    omega (arith, (got-length l).inside, length-below l, (S (B l)).pre)
+    omega (arith, got-length.inside, length-below, c.requires)
 
 pub returns : goal.returns
 returns c =
     let file : List ℕ = c.args.file.now in
     let start : ℕ = c.args.start in
     let at_front : c.in-At.front.pos ≡ start = (went file start (sym c.in-At.is ∙ c.seek.ensures)).1 in
-    let got-length : Got file start 4 c.in-Read.length c.in-Read.ignored = let b : goal.In-At-2 = search in
-    let r : goal.After-read_u32 = search in
-    got file start 4 (rw at_front at (sym c.in-Read.is ∙ r.read_u32.ensures.same)) in
-    let at_count : c.in-At-skip.count.pos ≡ start + 11 = let b : goal.In-At-2 = search in
-    let l : goal.In-Read-2 = search in
-    let p : goal.After-skip = search in
-    (went file (start + 11) (rw (got-length.behind, seven start) at (sym c.in-At-skip.is ∙ p.skip.ensures))).1 in
-    let got-count : Got (file (c c)) (start (c c) + 11) 1 c.in-Read-read_u8.n c.in-Read-read_u8.entries =
-    got (file (c c)) (start (c c) + 11) 1 (rw at_count at (sym c.in-Read-read_u8.is ∙ c.read_u8.ensures.same)) in
-    let l = L c in
-    let b = B l in
-    let count = got-count in
-    let all = went (file b) (c.in-Read-read_u8.entries.pos + 12 * c.in-Read-read_u8.n) (sym c.in-At-skip-2.is ∙ c.skip-2.ensures) in
-    entries (file b) (start b) c.if-start-eq0.false c.if-start-file.false (got-length l).value c.if-length-eq0.false count.value (omega (arith, count.behind, all.0)) c.smaller.ensures
+    let got-length : Got file start 4 c.in-Read.length c.in-Read.ignored =
+    got file start 4 (rw at_front at (sym c.in-Read.is ∙ c.read_u32.ensures.same)) in
+    let at_count : c.in-At-skip.count.pos ≡ start + 11 =
+    (went file (start + 11) (rw (got-length.behind, seven start) at (sym c.in-At-skip.is ∙ c.skip.ensures))).1 in
+    let count : Got file (start + 11) 1 c.in-Read-read_u8.n c.in-Read-read_u8.entries =
+    got file (start + 11) 1 (rw at_count at (sym c.in-Read-read_u8.is ∙ c.read_u8.ensures.same)) in
+    let all = went file (c.in-Read-read_u8.entries.pos + 12 * c.in-Read-read_u8.n) (sym c.in-At-skip-2.is ∙ c.skip-2.ensures) in
+    entries file start c.if-start-eq0.false c.if-start-file.false got-length.value c.if-length-eq0.false count.value (omega (arith, count.behind, all.0)) c.smaller.ensures

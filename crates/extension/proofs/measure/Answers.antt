@@ -10,7 +10,7 @@ returns-in_default c =
 
 pub measure_entries-requires : goal.measure_entries-requires
 measure_entries-requires c =
-    block c.args.file.now c.args.start (λ i. (c.shared_slice_known-1.given i).fits) c.requires (sym c.in-Entries.is ∙ c.head_at.ensures)
+    block c.args.file.now c.args.start (λ i. (c.type_inv.file i).fits) c.requires (sym c.in-Entries.is ∙ c.head_at.ensures)
 
 pub returns : goal.returns
 returns c =

@@ -5,6 +5,11 @@ use Rattle.format.specs.Tables.{row_room, extension_cells, stated}
 use Rattle.queries.proofs.Asking.{room}
 use Rattle.extension_queries.proofs.Search.{searched_all, not_stated, row_fails, row_is, no_row}
 use Rattle.extension_queries.proofs.entry.Goals as goal
+use Rattle.extension_queries.proofs.entry.Goals.{Else-not-is_stated}
+
+-- the rows are there
+rows_fit : (e : Else-not-is_stated) → let a = e.args in a.rows ≤ row_room extension_cells a.extensions.now
+rows_fit e = let a = e.args in room extension_cells (stated a.extensions.now a.rows) e.is_stated.ensures e.if-not-is_stated.false-raw
 
 pub returns-then-not-is_stated : goal.returns-then-not-is_stated
 returns-then-not-is_stated c =
@@ -15,14 +20,10 @@ pub loop-k-init : goal.loop-k-init
 loop-k-init c = let a = c.args in (omega arith, searched_all a.extensions.now a.rows a.id1 a.id2)
 
 pub cell_at-requires : goal.cell_at-requires
-cell_at-requires c =
-    let rows_fit : let a = c.args in a.rows ≤ row_room extension_cells a.extensions.now = let a = c.args in room extension_cells (stated a.extensions.now a.rows) c.is_stated.ensures c.if-not-is_stated.false-raw in
-    omega (arith, rows_fit)
+cell_at-requires c = omega (arith, rows_fit (goal.at.cell_at-requires c).Else-not-is_stated)
 
 pub cell_at-requires-in-loop-k : goal.cell_at-requires-in-loop-k
-cell_at-requires-in-loop-k c =
-    let rows_fit : let a = c.args in a.rows ≤ row_room extension_cells a.extensions.now = let a = c.args in room extension_cells (stated a.extensions.now a.rows) c.is_stated.ensures c.if-not-is_stated.false-raw in
-    omega (arith, rows_fit)
+cell_at-requires-in-loop-k c = omega (arith, rows_fit (goal.at.cell_at-requires-in-loop-k c).Else-not-is_stated)
 
 pub returns-then-are_ids : goal.returns-then-are_ids
 returns-then-are_ids c =

@@ -81,10 +81,10 @@ loop-k-preserved c =
     let more = c.loop-k-test.true in
     (along_within l.invariant.0 (up_stream f) more c.requires.0, row_room_lem (stream_at f) (next_stream f) l.invariant.1 more) in
     let l = c.loop-k in
-    let f = bytes c in
+    let f = bytes in
     let more = c.loop-k-test.true in
     let next : l.q + 3 + c.u8_at.result ≡ next_stream f l.q = rw c.u8_at.ensures.same in (
-      along_turn l.invariant.0 more next (omega (arith, next, room c)),
+      along_turn l.invariant.0 more next (omega (arith, next, room)),
       row_put (stream_at f) (next_stream f) l.invariant.1 more c.put_stream.ensures next,
     )
 

@@ -59,7 +59,7 @@ loop-k-preserved c =
     let bytes : List ℕ = c.args.file.now in
     let within : next_stream bytes c.loop-k.q ≤ length bytes = along_within c.loop-k.invariant.0 (up_stream bytes) c.loop-k-test.true c.requires.0 in
     let next = c.next_stream-q.ensures in
-    (along_turn c.loop-k.invariant.0 c.loop-k-test.true next (omega (arith, next, within c)), added c next)
+    (along_turn c.loop-k.invariant.0 c.loop-k-test.true next (omega (arith, next, within)), added c next)
 
 pub returns : goal.returns
 returns c =

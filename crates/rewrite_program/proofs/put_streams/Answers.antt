@@ -54,11 +54,11 @@ loop-k-preserved c =
     let bytes : List ℕ = c.args.file.now in
     let within : next_stream bytes c.loop-k.q ≤ length bytes = along_within c.loop-k.invariant.0 (up_stream bytes) c.loop-k-test.true c.requires.0 in
     let l = c.loop-k in
-    let f = bytes c in
+    let f = bytes in
     let next = c.next_stream-q.ensures in
     let row = c.stream_row.ensures in
     let put = row_as stream_bytes l.out l.to row c.put_row-to.ensures in (
-      along_turn l.invariant.0 c.loop-k-test.true next (omega (arith, next, within c)),
+      along_turn l.invariant.0 c.loop-k-test.true next (omega (arith, next, within)),
       row_put (stream_at f) (next_stream f) stream_bytes l.q c.args.n l.k l.invariant.1 c.loop-k-test.true put.1 put.0 next,
     )
 

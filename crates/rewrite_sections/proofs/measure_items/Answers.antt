@@ -49,7 +49,7 @@ loop-k-preserved c =
     let within : next_program bytes c.loop-k.q ≤ length bytes = along_within c.loop-k.invariant.0 (up_program bytes) c.loop-k-test.true c.requires.0 in
     let next = ap (λ (r : Places). r.file) c.measure_program-behind.ensures in
     let place = ap (λ (r : Places). r.out) c.measure_program-behind.ensures in
-    (along_turn c.loop-k.invariant.0 c.loop-k-test.true next (omega (arith, next, within c)), added c next place)
+    (along_turn c.loop-k.invariant.0 c.loop-k-test.true next (omega (arith, next, within)), added c next place)
 
 pub returns : goal.returns
 returns c =

@@ -32,19 +32,19 @@ put_program-behind-requires c =
     let bytes : List ℕ = c.args.file.now in
     let within : next_program bytes c.loop-k.q ≤ length bytes = along_within c.loop-k.invariant.0 (up_program bytes) c.loop-k-test.true c.requires.0 in
     let l = c.loop-k in
-    let f = bytes c in
-    (within c, row_room_lem (new_program f) (next_program f) as_is l.q c.args.n l.k l.invariant.1 c.loop-k-test.true)
+    let f = bytes in
+    (within, row_room_lem (new_program f) (next_program f) as_is l.q c.args.n l.k l.invariant.1 c.loop-k-test.true)
 
 pub loop-k-preserved : goal.loop-k-preserved
 loop-k-preserved c =
     let bytes : List ℕ = c.args.file.now in
     let within : next_program bytes c.loop-k.q ≤ length bytes = along_within c.loop-k.invariant.0 (up_program bytes) c.loop-k-test.true c.requires.0 in
     let l = c.loop-k in
-    let f = bytes c in
+    let f = bytes in
     let put = c.put_program-behind.ensures in
     let next = ap (λ (r : Places). r.file) put.0 in
     let place = ap (λ (r : Places). r.out) put.0 in (
-      along_turn l.invariant.0 c.loop-k-test.true next (omega (arith, next, within c)),
+      along_turn l.invariant.0 c.loop-k-test.true next (omega (arith, next, within)),
       row_put (new_program f) (next_program f) as_is l.q c.args.n l.k l.invariant.1 c.loop-k-test.true put.1 place next,
     )
 

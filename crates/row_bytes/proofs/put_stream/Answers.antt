@@ -35,7 +35,7 @@ returns-then-is_video c =
     let a = c.args in
     let r = a.row in
     let is = video_bytes r.cell0 r.cell1 r.cell2 r.cell3 r.cell4 c.is_video.ensures c.if-is_video.true in
-    let head = stream_head r.cell0 3 r.cell1 r.cell2 in record { value = rw (video-long c); out_after = rw is (part_then a.out.now a.at 5 head (bytes_of 1 (r.cell3 % 16 * 16)) (head_length r.cell0 3 r.cell1 r.cell2) refl c.put_stream_head.ensures c.put_u8.ensures) }
+    let head = stream_head r.cell0 3 r.cell1 r.cell2 in record { value = rw video-long; out_after = rw is (part_then a.out.now a.at 5 head (bytes_of 1 (r.cell3 % 16 * 16)) (head_length r.cell0 3 r.cell1 r.cell2) refl c.put_stream_head.ensures c.put_u8.ensures) }
 
 pub put_stream_head-requires-then-row-eq0 : goal.put_stream_head-requires-then-row-eq0
 put_stream_head-requires-then-row-eq0 c =
@@ -50,7 +50,7 @@ returns-then-row-eq0 c =
     let a = c.args in
     let r = a.row in
     let is = short_bytes r.cell0 r.cell1 r.cell2 r.cell3 r.cell4 c.is_video.ensures c.if-is_video.false c.if-row-eq0.true in
-    record { value = rw (short-long c); out_after = rw is c.put_stream_head-then-row-eq0.ensures }
+    record { value = rw short-long; out_after = rw is c.put_stream_head-then-row-eq0.ensures }
 
 pub put_stream_head-requires-2 : goal.put_stream_head-requires-2
 put_stream_head-requires-2 c =
@@ -81,7 +81,7 @@ returns c =
     let r = a.row in
     let is = tagged_bytes r.cell0 r.cell1 r.cell2 r.cell3 r.cell4 c.is_video.ensures c.if-is_video.false c.if-row-eq0.false in
     let head = stream_head r.cell0 5 r.cell1 r.cell2 in record {
-      value = rw (tagged-long c);
+      value = rw tagged-long;
       out_after = rw is
           (part_then a.out.now a.at 5 head (bytes_of 1 (r.cell4 / 65536) ++ bytes_of 2 r.cell4) (head_length r.cell0 5 r.cell1 r.cell2) refl c.put_stream_head-2.ensures
           (field_then _ (a.at + 5) 1 (r.cell4 / 65536) _ (sym (add_assoc a.at 5 1)) c.put_u8-2.ensures c.put_u16.ensures));

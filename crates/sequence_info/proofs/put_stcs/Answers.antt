@@ -47,7 +47,7 @@ loop-k-preserved c =
     let l = c.loop-k in
     let f = c.args.file.now in
     let more = c.loop-k-test.true in (
-      along_turn l.invariant.0 more refl (room c).0,
+      along_turn l.invariant.0 more refl room.0,
       row_put (stc_at f) next_stc l.invariant.1 more c.put_stc.ensures refl,
     )
 

@@ -21,13 +21,13 @@ plus-left-requires-in-loop-k c =
     Added a.stcs.now a.rows (whole_from a.stcs.now a.rows a.stc (as90 a.at)) (a.stc + 1) c.plus-left.result = let a = c.args in
     added_first a.stcs.now a.rows a.stc (as90 a.at) c.none.ensures c.row_left.ensures left-fits c.plus-left.ensures in
     let a = c.args in
-    few_minutes a.stcs.now a.rows (omega arith) (c.loop-k.invariant _ (first c))
+    few_minutes a.stcs.now a.rows (omega arith) (c.loop-k.invariant _ first)
 
 pub loop-k-preserved : goal.loop-k-preserved
 loop-k-preserved c =
     let duration-fits : (as45 c.row_duration.result).ticks < 2 ^ 32 = c.row_duration.type_inv.1.1.0.1 in
     let a = c.args in
-    λ whole i. added_turn a.stcs.now a.rows whole c.loop-k.k (omega arith) c.row_duration.ensures (duration-fits c) c.doubled.ensures c.plus-left-in-loop-k.ensures (c.loop-k.invariant whole i)
+    λ whole i. added_turn a.stcs.now a.rows whole c.loop-k.k (omega arith) c.row_duration.ensures duration-fits c.doubled.ensures c.plus-left-in-loop-k.ensures (c.loop-k.invariant whole i)
 
 pub returns : goal.returns
 returns c =
@@ -36,4 +36,4 @@ returns c =
     Added a.stcs.now a.rows (whole_from a.stcs.now a.rows a.stc (as90 a.at)) (a.stc + 1) c.plus-left.result = let a = c.args in
     added_first a.stcs.now a.rows a.stc (as90 a.at) c.none.ensures c.row_left.ensures left-fits c.plus-left.ensures in
     let a = c.args in
-    added_done a.stcs.now a.rows c.loop-k.k a.stc (as90 a.at) c.loop-k-test.false (c.loop-k.invariant _ (first c))
+    added_done a.stcs.now a.rows c.loop-k.k a.stc (as90 a.at) c.loop-k-test.false (c.loop-k.invariant _ first)

@@ -26,7 +26,7 @@ latest_end-requires c =
 
 pub cell_at-requires : goal.cell_at-requires
 cell_at-requires c =
-    let rows_fit : let a = c.args in a.rows ≤ row_room stc_cells a.stcs.now = let a = c.args in room stc_cells (stated a.stcs.now a.rows) c.is_stated.ensures c.if-not-is_stated.false-raw in omega (arith, rows_fit c, c.if-rows-eq0.false)
+    let rows_fit : let a = c.args in a.rows ≤ row_room stc_cells a.stcs.now = let a = c.args in room stc_cells (stated a.stcs.now a.rows) c.is_stated.ensures c.if-not-is_stated.false-raw in omega (arith, rows_fit, c.if-rows-eq0.false)
 
 pub least_start-requires : goal.least_start-requires
 least_start-requires c =

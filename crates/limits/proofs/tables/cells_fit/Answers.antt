@@ -22,10 +22,10 @@ pub returns-then-not-groups_fit-2 : goal.returns-then-not-groups_fit-2
 returns-then-not-groups_fit-2 c =
     let tables : ClipTables = let a = c.args in
     stated_tables no_scalars a.rows a.atcs.now a.stcs.now a.programs.now a.streams.now a.maps.now [] in
-    programs_fail (tables c) c.groups_fit.ensures c.if-not-groups_fit.false-raw c.groups_fit-2.ensures c.if-not-groups_fit-2.true-raw
+    programs_fail tables c.groups_fit.ensures c.if-not-groups_fit.false-raw c.groups_fit-2.ensures c.if-not-groups_fit-2.true-raw
 
 pub returns : goal.returns
 returns c =
     let tables : ClipTables = let a = c.args in
     stated_tables no_scalars a.rows a.atcs.now a.stcs.now a.programs.now a.streams.now a.maps.now [] in
-    maps_decide (tables c) c.groups_fit.ensures c.if-not-groups_fit.false-raw c.groups_fit-2.ensures c.if-not-groups_fit-2.false-raw c.heads_fit.ensures
+    maps_decide tables c.groups_fit.ensures c.if-not-groups_fit.false-raw c.groups_fit-2.ensures c.if-not-groups_fit-2.false-raw c.heads_fit.ensures

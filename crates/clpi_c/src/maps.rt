@@ -1,0 +1,178 @@
+// Questions about the maps and their entries.
+ghost use Rattle.std.specs.Prelude.{◌≡◌};
+ghost use Rattle.format.specs.Questions.{answer_numbers, ask, entry_point_at_or_before, entry_point_after, indexed_span_90k, primary_video_ep_map, seek_spn, next_seek_spn, primary_seek_spn, primary_next_seek_spn, first_pts, last_pts, ep_map_by_kind, next_video_ep_map};
+ghost use Rattle.format.specs.ClipRecord.{entry_cells};
+ghost use Rattle.format.specs.Tables.{stated};
+ghost use Rattle.queries.specs.Asked.{only_maps, maps_and_entries};
+ghost use Rattle.table_rows.specs.OwnRows.{owned_rows, owned_numbers};
+ghost use Rattle.clpi_answers.specs.Numbers.{found_numbers, rows_numbers};
+
+use clpi_answers::{ClpiAnswer, ClpiRows};
+
+// The entry of a map with the greatest time not above the one given.
+#[unsafe(no_mangle)]
+pub extern "C" fn clpi_entry_point_at_or_before(
+    maps: &[u8],
+    map_rows: u32,
+    entries: &[u8],
+    entry_rows: u32,
+    map: u32,
+    at_90k: u32,
+) -> ClpiAnswer
+    ensures { found_numbers result ≡ answer_numbers (ask (entry_point_at_or_before map (record { ticks = at_90k })) (maps_and_entries (stated maps.now map_rows) (stated entries.now entry_rows))) }
+{
+    clpi::maps::clpi_entry_point_at_or_before(maps, map_rows, entries, entry_rows, map, at_90k)
+}
+
+// The entry of a map with the least time above the one given.
+#[unsafe(no_mangle)]
+pub extern "C" fn clpi_entry_point_after(
+    maps: &[u8],
+    map_rows: u32,
+    entries: &[u8],
+    entry_rows: u32,
+    map: u32,
+    at_90k: u32,
+) -> ClpiAnswer
+    ensures { found_numbers result ≡ answer_numbers (ask (entry_point_after map (record { ticks = at_90k })) (maps_and_entries (stated maps.now map_rows) (stated entries.now entry_rows))) }
+{
+    clpi::maps::clpi_entry_point_after(maps, map_rows, entries, entry_rows, map, at_90k)
+}
+
+// The packet to read from for a time: that of the entry at or before it.
+#[unsafe(no_mangle)]
+pub extern "C" fn clpi_seek_spn(
+    maps: &[u8],
+    map_rows: u32,
+    entries: &[u8],
+    entry_rows: u32,
+    map: u32,
+    at_90k: u32,
+) -> ClpiAnswer
+    ensures { found_numbers result ≡ answer_numbers (ask (seek_spn map (record { ticks = at_90k })) (maps_and_entries (stated maps.now map_rows) (stated entries.now entry_rows))) }
+{
+    clpi::maps::clpi_seek_spn(maps, map_rows, entries, entry_rows, map, at_90k)
+}
+
+// The packet of the entry after a time.
+#[unsafe(no_mangle)]
+pub extern "C" fn clpi_next_seek_spn(
+    maps: &[u8],
+    map_rows: u32,
+    entries: &[u8],
+    entry_rows: u32,
+    map: u32,
+    at_90k: u32,
+) -> ClpiAnswer
+    ensures { found_numbers result ≡ answer_numbers (ask (next_seek_spn map (record { ticks = at_90k })) (maps_and_entries (stated maps.now map_rows) (stated entries.now entry_rows))) }
+{
+    clpi::maps::clpi_next_seek_spn(maps, map_rows, entries, entry_rows, map, at_90k)
+}
+
+// The time of the first entry of a map.
+#[unsafe(no_mangle)]
+pub extern "C" fn clpi_first_pts(
+    maps: &[u8],
+    map_rows: u32,
+    entries: &[u8],
+    entry_rows: u32,
+    map: u32,
+) -> ClpiAnswer
+    ensures { found_numbers result ≡ answer_numbers (ask (first_pts map) (maps_and_entries (stated maps.now map_rows) (stated entries.now entry_rows))) }
+{
+    clpi::maps::clpi_first_pts(maps, map_rows, entries, entry_rows, map)
+}
+
+// The time of the last entry of a map.
+#[unsafe(no_mangle)]
+pub extern "C" fn clpi_last_pts(
+    maps: &[u8],
+    map_rows: u32,
+    entries: &[u8],
+    entry_rows: u32,
+    map: u32,
+) -> ClpiAnswer
+    ensures { found_numbers result ≡ answer_numbers (ask (last_pts map) (maps_and_entries (stated maps.now map_rows) (stated entries.now entry_rows))) }
+{
+    clpi::maps::clpi_last_pts(maps, map_rows, entries, entry_rows, map)
+}
+
+// The last time of a map less its first.
+#[unsafe(no_mangle)]
+pub extern "C" fn clpi_indexed_span_90k(
+    maps: &[u8],
+    map_rows: u32,
+    entries: &[u8],
+    entry_rows: u32,
+    map: u32,
+) -> ClpiAnswer
+    ensures { found_numbers result ≡ answer_numbers (ask (indexed_span_90k map) (maps_and_entries (stated maps.now map_rows) (stated entries.now entry_rows))) }
+{
+    clpi::maps::clpi_indexed_span_90k(maps, map_rows, entries, entry_rows, map)
+}
+
+// The entries of a map: the first and how many.
+#[unsafe(no_mangle)]
+pub extern "C" fn clpi_entries_of_map(
+    maps: &[u8],
+    map_rows: u32,
+    entries: &[u8],
+    entry_rows: u32,
+    map: u32,
+) -> ClpiRows
+    ensures { rows_numbers result ≡ owned_numbers (owned_rows 2 entry_cells (stated maps.now map_rows) (stated entries.now entry_rows) map) }
+{
+    clpi::maps::clpi_entries_of_map(maps, map_rows, entries, entry_rows, map)
+}
+
+// The row of the primary map.
+#[unsafe(no_mangle)]
+pub extern "C" fn clpi_primary_video_ep_map(maps: &[u8], rows: u32) -> ClpiAnswer
+    ensures { found_numbers result ≡ answer_numbers (ask primary_video_ep_map (only_maps (stated maps.now rows))) }
+{
+    clpi::maps::clpi_primary_video_ep_map(maps, rows)
+}
+
+// The packet to read from for a time, by the primary map.
+#[unsafe(no_mangle)]
+pub extern "C" fn clpi_primary_seek_spn(
+    maps: &[u8],
+    map_rows: u32,
+    entries: &[u8],
+    entry_rows: u32,
+    at_90k: u32,
+) -> ClpiAnswer
+    ensures { found_numbers result ≡ answer_numbers (ask (primary_seek_spn (record { ticks = at_90k })) (maps_and_entries (stated maps.now map_rows) (stated entries.now entry_rows))) }
+{
+    clpi::maps::clpi_primary_seek_spn(maps, map_rows, entries, entry_rows, at_90k)
+}
+
+// The packet of the entry after a time, by the primary map.
+#[unsafe(no_mangle)]
+pub extern "C" fn clpi_primary_next_seek_spn(
+    maps: &[u8],
+    map_rows: u32,
+    entries: &[u8],
+    entry_rows: u32,
+    at_90k: u32,
+) -> ClpiAnswer
+    ensures { found_numbers result ≡ answer_numbers (ask (primary_next_seek_spn (record { ticks = at_90k })) (maps_and_entries (stated maps.now map_rows) (stated entries.now entry_rows))) }
+{
+    clpi::maps::clpi_primary_next_seek_spn(maps, map_rows, entries, entry_rows, at_90k)
+}
+
+// The row of the first map of a type.
+#[unsafe(no_mangle)]
+pub extern "C" fn clpi_ep_map_by_kind(maps: &[u8], rows: u32, kind: u8) -> ClpiAnswer
+    ensures { found_numbers result ≡ answer_numbers (ask (ep_map_by_kind kind) (only_maps (stated maps.now rows))) }
+{
+    clpi::maps::clpi_ep_map_by_kind(maps, rows, kind)
+}
+
+// The row of the first video map from a row on, by the low four bits of the type.
+#[unsafe(no_mangle)]
+pub extern "C" fn clpi_next_video_ep_map(maps: &[u8], rows: u32, from: u32) -> ClpiAnswer
+    ensures { found_numbers result ≡ answer_numbers (ask (next_video_ep_map «from») (only_maps (stated maps.now rows))) }
+{
+    clpi::maps::clpi_next_video_ep_map(maps, rows, from)
+}

@@ -1,0 +1,69 @@
+// Writing a record that tables hold, and rewriting a file.
+ghost use Rattle.std.specs.Prelude.{◌≡◌};
+ghost use Rattle.format.specs.Reading.{clip_of};
+ghost use Rattle.format.specs.Refusals.{write_answer, write_numbers, output_by, output_after};
+ghost use Rattle.format.specs.Rewriting.{encode};
+ghost use Rattle.format.specs.Tables.{stated};
+ghost use Rattle.clip_information.specs.Read.{scalars_by};
+ghost use Rattle.queries.specs.Asked.{tables_with};
+ghost use Rattle.rewrite.specs.Rewrite.{rewrite_answer, length_answer, length_numbers};
+ghost use Rattle.clpi_writing.specs.Numbers.{writing_numbers, new_length_numbers};
+
+use clip_sections::info::ClipInfo;
+use clpi_writing::{ClpiLength, ClpiWriting};
+
+// Writes the record of six tables with their stated rows into the output; a refusal leaves it as it was.
+#[unsafe(no_mangle)]
+pub extern "C" fn clpi_write(
+    info: ClipInfo,
+    atcs: &[u8],
+    atc_rows: u32,
+    stcs: &[u8],
+    stc_rows: u32,
+    programs: &[u8],
+    program_rows: u32,
+    streams: &[u8],
+    stream_rows: u32,
+    maps: &[u8],
+    map_rows: u32,
+    entries: &[u8],
+    entry_rows: u32,
+    output: &mut [u8],
+) -> ClpiWriting
+    ensures result_value { writing_numbers result ≡ write_numbers (write_answer (tables_with (scalars_by info) (stated atcs.now atc_rows) (stated stcs.now stc_rows) (stated programs.now program_rows) (stated streams.now stream_rows) (stated maps.now map_rows) (stated entries.now entry_rows)) output.old) }
+    ensures output_after { output.new ≡ output_after (tables_with (scalars_by info) (stated atcs.now atc_rows) (stated stcs.now stc_rows) (stated programs.now program_rows) (stated streams.now stream_rows) (stated maps.now map_rows) (stated entries.now entry_rows)) output.old }
+{
+    clpi::writing::clpi_write(
+        info,
+        atcs,
+        atc_rows,
+        stcs,
+        stc_rows,
+        programs,
+        program_rows,
+        streams,
+        stream_rows,
+        maps,
+        map_rows,
+        entries,
+        entry_rows,
+        output,
+    )
+}
+
+// Rewrites a file into the output; a refusal leaves it as it was.
+#[unsafe(no_mangle)]
+pub extern "C" fn clpi_rewrite(file: &[u8], output: &mut [u8]) -> ClpiWriting
+    ensures result_value { writing_numbers result ≡ write_numbers (rewrite_answer file.now output.old) }
+    ensures output_after { output.new ≡ output_by (rewrite_answer file.now output.old) (encode (clip_of file.now)) output.old }
+{
+    clpi::writing::clpi_rewrite(file, output)
+}
+
+// How long the new file of a file is.
+#[unsafe(no_mangle)]
+pub extern "C" fn clpi_rewritten_length(file: &[u8]) -> ClpiLength
+    ensures { new_length_numbers result ≡ length_numbers (length_answer file.now) }
+{
+    clpi::writing::clpi_rewritten_length(file)
+}

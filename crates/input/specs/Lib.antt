@@ -1,2 +1,0 @@
--- What is promised of an input that was read.
-pub mod Got
