@@ -2,9 +2,8 @@
 use Prim.Native.Nat.{ℕ, ◌+◌, ◌*◌, ◌<◌, ◌≤◌}
 use mathlib.Core.Path.{◌≡◌, refl, sym, ap, ◌∙◌}
 use mathlib.Core.List.{List, [], ◌∷◌, ◌++◌}
-use mathlib.Core.Bool.{Bool, true, false, not}
+use mathlib.Core.Bool.{Bool, true, false}
 use native.Mathlib.Omega.{arith}
-use borrow.Author.Tests.{not-true, not-false}
 use lib.Dec.{leb}
 use lib.ListN.{length, length-append}
 use Rattle.format.specs.Bytes.{both, every, field_bytes}
@@ -133,19 +132,19 @@ module _ (maps : List ℕ) (n : ℕ) (entries : List ℕ) (m : ℕ) where
     few_is = sym (before_true few) ∙ rw (left_done map_cells maps n k h) at i.runs_few
 
     -- one has
-    pub measured_many : not few ≡ true → Tested.Fit Length.TooManyRuns ≡ tested_of (map_rows_of maps n) (entry_rows_of entries m)
+    pub measured_many : few ≡ false → Tested.Fit Length.TooManyRuns ≡ tested_of (map_rows_of maps n) (entry_rows_of entries m)
     unfolding tested_of cpi_length_of
-    measured_many y = rw (all_fit, ← few_is, not-true few y)
+    measured_many y = rw (all_fit, ← few_is, y)
 
     -- none has
-    pub measured_done : not few ≡ false → (n ≡ 0 → ⊥) → Tested.Fit (Length.Bytes len) ≡ tested_of (map_rows_of maps n) (entry_rows_of entries m)
+    pub measured_done : few ≡ true → (n ≡ 0 → ⊥) → Tested.Fit (Length.Bytes len) ≡ tested_of (map_rows_of maps n) (entry_rows_of entries m)
     unfolding tested_of cpi_length_of
     measured_done y some =
         let rest = rw (left_done map_cells maps n k h) at i.rest in
         let count = maps_count maps n entries m in
         let size = cpi_size (map_rows_of maps n) (entry_rows_of entries m) (omega arith) in
         let long : len ≡ length (cpi_bytes_by (map_rows_of maps n) (entry_rows_of entries m)) = omega arith in
-        rw (all_fit, ← few_is, not-false few y, long)
+        rw (all_fit, ← few_is, y, long)
 
   -- without maps there are four bytes
   pub measured_none : n ≡ 0 → Tested.Fit (Length.Bytes 4) ≡ tested_of (map_rows_of maps n) (entry_rows_of entries m)

@@ -16,7 +16,8 @@ put_u32-requires c =
 pub returns-then-n-eq0 : goal.returns-then-n-eq0
 returns-then-n-eq0 c =
     let a = c.args in
-    cpi_none a.maps.now a.n a.entries.now a.m a.out.now a.at a.len c.if-n-eq0.true c.requires.long c.put_u32.ensures
+    let r = cpi_none a.maps.now a.n a.entries.now a.m a.out.now a.at a.len c.if-n-eq0.true c.requires.long c.put_u32.ensures in
+    record { value = r.0; out_after = r.1 }
 
 pub overflow_sub-len : goal.overflow_sub-len
 overflow_sub-len c =
@@ -40,7 +41,7 @@ put_maps-requires c =
       rows_there = c.requires.rows_there;
       writable = c.requires.writable;
       long = omega (arith, long);
-      room = omega (arith, c.requires.room, c.put_top.kept);
+      room = omega (arith, c.requires.room, c.put_top.auto);
     }
 
 pub returns : goal.returns

@@ -17,17 +17,20 @@ overflow_sub-k c = omega (arith, c.loop-k-test.true)
 pub overflow_mul-k : goal.overflow_mul-k
 overflow_mul-k c =
     let less : c.loop-k.k - 1 < c.args.n = omega (arith, c.loop-k-test.true, c.loop-k.invariant.reached.walk.turns) in
-    let row_there : 12 * (c.loop-k.k - 1) + 12 ≤ length c.args.maps.now = let a = c.args in map_room a.maps.now a.n a.entries.now a.m c.requires.rows_there (c.loop-k.k - 1) less in omega (arith, row_there)
+    let row_there : 12 * (c.loop-k.k - 1) + 12 ≤ length c.args.maps.now = let a = c.args in map_room a.maps.now a.n a.entries.now a.m c.requires.rows_there (c.loop-k.k - 1) less in
+    omega (arith, row_there)
 
 pub overflow_add-k : goal.overflow_add-k
 overflow_add-k c =
     let less : c.loop-k.k - 1 < c.args.n = omega (arith, c.loop-k-test.true, c.loop-k.invariant.reached.walk.turns) in
-    let row_there : 12 * (c.loop-k.k - 1) + 12 ≤ length c.args.maps.now = let a = c.args in map_room a.maps.now a.n a.entries.now a.m c.requires.rows_there (c.loop-k.k - 1) less in omega (arith, row_there)
+    let row_there : 12 * (c.loop-k.k - 1) + 12 ≤ length c.args.maps.now = let a = c.args in map_room a.maps.now a.n a.entries.now a.m c.requires.rows_there (c.loop-k.k - 1) less in
+    omega (arith, row_there)
 
 pub cell_at-count-requires : goal.cell_at-count-requires
 cell_at-count-requires c =
     let less : c.loop-k.k - 1 < c.args.n = omega (arith, c.loop-k-test.true, c.loop-k.invariant.reached.walk.turns) in
-    let row_there : 12 * (c.loop-k.k - 1) + 12 ≤ length c.args.maps.now = let a = c.args in map_room a.maps.now a.n a.entries.now a.m c.requires.rows_there (c.loop-k.k - 1) less in omega (arith, row_there)
+    let row_there : 12 * (c.loop-k.k - 1) + 12 ≤ length c.args.maps.now = let a = c.args in map_room a.maps.now a.n a.entries.now a.m c.requires.rows_there (c.loop-k.k - 1) less in
+    omega (arith, row_there)
 
 pub overflow_sub-row : goal.overflow_sub-row
 overflow_sub-row c =

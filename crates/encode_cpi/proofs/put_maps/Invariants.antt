@@ -1,5 +1,4 @@
 -- Each turn stores one map, whose header and body stand before those of the maps behind it.
-use Prim.Native.Nat.{◌-◌}
 use Rattle.encode_cpi.proofs.Section.{Putting}
 use Rattle.encode_cpi.proofs.put_maps.Given as goal
 

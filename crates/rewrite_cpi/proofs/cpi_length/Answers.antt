@@ -1,5 +1,5 @@
 -- Each turn measures a map's body; the first map with too many runs ends the loop.
-use Prim.Native.Nat.{◌+◌, ◌*◌, ◌-◌, ◌≤◌}
+use Prim.Native.Nat.{◌+◌, ◌*◌, ◌≤◌}
 use native.Mathlib.Omega.{arith}
 use Rattle.ep_entries.specs.Body.{RowsIn}
 use Rattle.ep_entries.proofs.Bodies.{rows_in_lem, there, left_map}
@@ -81,12 +81,10 @@ overflow_add-len-in-loop-k-2 c =
 pub overflow_add-len-in-loop-k-3 : goal.overflow_add-len-in-loop-k-3
 overflow_add-len-in-loop-k-3 c =
     let bound : c.args.start + 8 + 12 * c.args.count ≤ 536870912 = omega (arith, (there c.args.file.now c.args.start c.args.count c.requires (omega (arith, c.if-count-eq0.false))).headers, c.requires.small) in
-    let rows : RowsIn c.args.file.now c.map_body-m.result = let turn : goal.At-loop-k = search in
-    let t : goal.In-loop-k = search in
-    let a = c.args in
-    let l = turn.loop-k in
+    let rows : RowsIn c.args.file.now c.map_body-m.result = let a = c.args in
+    let l = c.loop-k in
     rows_in_lem a.file.now a.start (a.start + 8 + 12 * l.k) c.map_body-m.result c.map_body-m.ensures
-    (left_map a.file.now a.start a.count l.k t.loop-k-test.true c.requires l.invariant.left) in
+    (left_map a.file.now a.start a.count l.k c.loop-k-test.true c.requires l.invariant.left) in
     omega (arith, rows.few, c.if-runs-gt-MOST_RUNS.false, c.loop-k.invariant.small, bound, c.loop-k-test.true)
 
 pub overflow_add-k : goal.overflow_add-k

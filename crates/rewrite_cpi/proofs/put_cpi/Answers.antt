@@ -15,7 +15,8 @@ put_u32-requires c =
 pub returns-then-count-eq0 : goal.returns-then-count-eq0
 returns-then-count-eq0 c =
     let a = c.args in
-    cpi_none a.file.now a.start a.count a.len a.out.now a.at c.requires c.if-count-eq0.true c.put_u32.ensures
+    let r = cpi_none a.file.now a.start a.count a.len a.out.now a.at c.requires c.if-count-eq0.true c.put_u32.ensures in
+    record { value = r.0; out_after = r.1 }
 
 pub overflow_add-start : goal.overflow_add-start
 overflow_add-start c =
@@ -67,7 +68,7 @@ put_maps-requires c =
     let room : CpiRoom c.args.file.now c.args.start c.u8_at-n.result c.args.len (length c.args.out.now) c.args.at = let a = c.args in
     room_by a.file.now a.start a.count a.len (length a.out.now) a.at is c.requires in
     let a = c.args in
-    maps_room a.file.now a.start c.u8_at-n.result a.len a.out.now a.at room some few c.put_top.kept.1.1.0
+    maps_room a.file.now a.start c.u8_at-n.result a.len a.out.now a.at room some few c.put_top.auto.out
 
 pub returns : goal.returns
 returns c =
@@ -77,4 +78,5 @@ returns c =
     let room : CpiRoom c.args.file.now c.args.start c.u8_at-n.result c.args.len (length c.args.out.now) c.args.at = let a = c.args in
     room_by a.file.now a.start a.count a.len (length a.out.now) a.at is c.requires in
     let a = c.args in
-    cpi_put a.file.now a.start c.u8_at-n.result a.len a.out.now a.at room some c.put_top.ensures c.put_maps.ensures.value c.put_maps.ensures.out_after
+    let r = cpi_put a.file.now a.start c.u8_at-n.result a.len a.out.now a.at room some c.put_top.ensures c.put_maps.ensures.value c.put_maps.ensures.out_after in
+    record { value = r.0; out_after = r.1 }

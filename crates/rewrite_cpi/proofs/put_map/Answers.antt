@@ -35,9 +35,7 @@ put_header-requires c =
     let kind-small : m.kind < 2 ^ 4 = kind_fits c.args.file.now c.args.start q m c.map_body-m.ensures c.put_body-runs.ensures.value in
     let runs-small : c.put_body-runs.result ≤ 65535 = omega (arith, own_runs c.args.file.now c.args.start q m c.map_body-m.ensures c.put_body-runs.ensures.value, c.requires.runs_fit_lem) in
     let fine-small : m.num_fine < 2 ^ 18 = count_fits c.args.file.now c.args.start q m c.map_body-m.ensures c.put_body-runs.ensures.value in
-    let b : goal.After-put_body-runs = search in
-    let s = S b in
-    (kind-small, omega (arith, runs-small), fine-small, omega (arith, s.pre.header_room, s.pre.room, b.put_body-runs.kept))
+    (kind-small, omega (arith, runs-small), fine-small, omega (arith, c.requires.header_room, c.requires.room, c.put_body-runs.auto))
 
 pub overflow_mul-result : goal.overflow_mul-result
 overflow_mul-result c =
@@ -50,7 +48,7 @@ overflow_add-result-2 c =
     let m : MapBody = c.map_body-m.result in
     let q : ℕ = c.args.start + 8 + 12 * c.args.k in
     let behind : c.args.body + 4 + 8 * c.put_body-runs.result + 4 * m.num_fine ≡ c.args.body + length (body_bytes (entries_of c.args.file.now c.args.start q)) = place_is c.args.file.now c.args.start q m c.map_body-m.ensures c.put_body-runs.ensures.value c.args.body in
-    let b : goal.After-put_body-runs = search in let s = S b in omega (arith, behind, s.pre.room)
+    omega (arith, behind, c.requires.room)
 
 pub overflow_mul-result-2 : goal.overflow_mul-result-2
 overflow_mul-result-2 c =
@@ -63,7 +61,7 @@ overflow_add-result-3 c =
     let m : MapBody = c.map_body-m.result in
     let q : ℕ = c.args.start + 8 + 12 * c.args.k in
     let behind : c.args.body + 4 + 8 * c.put_body-runs.result + 4 * m.num_fine ≡ c.args.body + length (body_bytes (entries_of c.args.file.now c.args.start q)) = place_is c.args.file.now c.args.start q m c.map_body-m.ensures c.put_body-runs.ensures.value c.args.body in
-    let b : goal.After-put_body-runs = search in let s = S b in omega (arith, behind, s.pre.room)
+    omega (arith, behind, c.requires.room)
 
 pub returns : goal.returns
 returns c =

@@ -1,5 +1,4 @@
 -- Each turn stores a map's body and header; what is left goes behind them.
-use Prim.Native.Nat.{◌-◌}
 use native.Mathlib.Omega.{arith}
 use Rattle.rewrite_cpi.proofs.Sections.{putting_first, putting_room, putting_turn, putting_done}
 use Rattle.rewrite_cpi.proofs.put_maps.Goals as goal
@@ -44,4 +43,5 @@ pub returns : goal.returns
 returns c =
     let a = c.args in
     let l = c.loop-k in
-    putting_done a.file.now a.start a.count a.out.now a.at c.requires l.out l.body l.k l.invariant c.loop-k-test.false
+    let r = putting_done a.file.now a.start a.count a.out.now a.at c.requires l.out l.body l.k l.invariant c.loop-k-test.false in
+    record { value = r.0; out_after = r.1 }
