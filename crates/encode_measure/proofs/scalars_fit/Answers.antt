@@ -14,7 +14,6 @@ returns-then-info-ge256-2 c =
 
 pub returns : goal.returns
 returns c =
-    let fit = c.struct_known.given in
     rw (
       lt-ltb _ _ fit.1.0.fits,
       lt-ltb _ _ c.if-info-ge256.false,

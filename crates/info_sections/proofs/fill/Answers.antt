@@ -37,16 +37,12 @@ overflow_add-at c =
 pub overflow_mul-to : goal.overflow_mul-to
 overflow_mul-to c =
     let there : let a = c.args in let l = c.loop-k in GroupThere a.section a.file.now l.p c.own_count-n.result l.heads l.at l.rows l.to = group_there c.requires c.u8_at-count.ensures.same c.loop-k.invariant c.loop-k-test.true c.own_count-n.ensures.same in
-    let o : goal.After-own_count-n = search in
-    let s = S o in
     let room = there.rows_room in
     rw c.row_size-step.ensures (omega (arith, room))
 
 pub overflow_add-to : goal.overflow_add-to
 overflow_add-to c =
     let there : let a = c.args in let l = c.loop-k in GroupThere a.section a.file.now l.p c.own_count-n.result l.heads l.at l.rows l.to = group_there c.requires c.u8_at-count.ensures.same c.loop-k.invariant c.loop-k-test.true c.own_count-n.ensures.same in
-    let o : goal.After-own_count-n = search in
-    let s = S o in
     let room = there.rows_room in
     rw c.row_size-step.ensures (omega (arith, room))
 
@@ -54,7 +50,7 @@ pub loop-k-preserved : goal.loop-k-preserved
 loop-k-preserved c =
     let put = c.put_group-p.ensures in
     rw c.row_size-step.ensures
-    (passing_turn c.requires c.u8_at-count.ensures.same c.loop-k.invariant c.loop-k-test.true c.own_count-n.ensures.same put.0 put.1.0 put.1.1)
+    (passing_turn c.requires c.u8_at-count.ensures.same c.loop-k.invariant c.loop-k-test.true c.own_count-n.ensures.same put.value put.heads_after put.rows_after)
 
 pub shape_of-heads : goal.shape_of-heads
 shape_of-heads c = c.loop-k.invariant.heads_left_lem.long
@@ -64,4 +60,5 @@ shape_of-rows c = c.loop-k.invariant.rows_left_lem.long
 
 pub returns : goal.returns
 returns c =
-    passing_done c.requires c.u8_at-count.ensures.same c.loop-k.invariant c.loop-k-test.false
+    let done = passing_done c.requires c.u8_at-count.ensures.same c.loop-k.invariant c.loop-k-test.false in
+    record { heads_after = done.0; rows_after = done.1 }

@@ -60,7 +60,7 @@ returns-in-Sequences c =
     GroupThere Section.Sequences a.file.now a.p a.n a.heads.now a.at a.rows.now a.to = rw c.in-Sequences.is at c.requires in
     let says = atc-there.says in
     let put = c.put_stcs.ensures in
-    rw c.in-Sequences.is record { value = put.0 ∙ ap (end_of next_stc (c.args.p + 6)) says; heads_after = c.put_atc.ensures; rows_after = rw says at put.1 }
+    rw c.in-Sequences.is record { value = put.value ∙ ap (end_of next_stc (c.args.p + 6)) says; heads_after = c.put_atc.ensures; rows_after = rw says at put.table_after }
 
 pub returns-in-Programs : goal.returns-in-Programs
 returns-in-Programs c =
@@ -69,4 +69,4 @@ returns-in-Programs c =
     let a = c.args in
     let says = program-there.says in
     let put = c.put_streams.ensures in
-    rw c.in-Programs.is record { value = put.0 ∙ ap (end_of (next_stream a.file.now) (a.p + 8)) says; heads_after = c.put_program.ensures; rows_after = rw says at put.1 }
+    rw c.in-Programs.is record { value = put.value ∙ ap (end_of (next_stream a.file.now) (a.p + 8)) says; heads_after = c.put_program.ensures; rows_after = rw says at put.table_after }

@@ -14,10 +14,6 @@ use Rattle.clip_information.proofs.FillLaws.{filled_from}
 use Rattle.clip_information.proofs.ReadLaws.{prepared_answer_lem, prepared_ready, sections_fit, extensions_fit, list_fits, stated}
 use Rattle.clip_information.proofs.read.read.Goals as goal
 
--- tables 1 to 6 were filled
-abbrev filled_of : goal.After-fill_list → goal.After-fill_sections
-filled_of l = sections-of c
-
 pub fill_sections-requires : goal.fill_sections-requires
 fill_sections-requires c =
     let F : List ℕ = c.args.file.now in
@@ -51,7 +47,6 @@ fill_list-requires c =
     nine_tables_of a.atcs.now a.stcs.now a.programs.now a.streams.now a.maps.now a.entries.now a.extensions.now a.programs2.now a.streams2.now in
     let prepared : PreparedIs F (lengths_of L) c.prepare.result = rw (c.nine_lengths.ensures, c.six_lengths-six.ensures) at c.prepare.ensures in
     let ready : ReadyIs F (lengths_of L) c.in-Ready.rows c.in-Ready.list c.in-Ready.has_list = prepared_ready F L prepared c.in-Ready.is in
-    let k = ready_of c in
     list_fits F L ready
 
 pub accepted-requires : goal.accepted-requires
@@ -87,6 +82,5 @@ returns-in-Ready c =
     nine_tables_of a.atcs.now a.stcs.now a.programs.now a.streams.now a.maps.now a.entries.now a.extensions.now a.programs2.now a.streams2.now in
     let prepared : PreparedIs F (lengths_of L) c.prepare.result = rw (c.nine_lengths.ensures, c.six_lengths-six.ensures) at c.prepare.ensures in
     let ready : ReadyIs F (lengths_of L) c.in-Ready.rows c.in-Ready.list c.in-Ready.has_list = prepared_ready F L prepared c.in-Ready.is in
-    let p = P k in
     let s = c.fill_sections.ensures in
-    rw c.accepted.ensures record { result_value = stated (F p) (L p) ready ∙ prepared_answer_lem (F p) (L p) (prepared p) c.in-Ready.is; atcs_after = s.0; stcs_after = s.1.0; programs_after = s.1.1.0; streams_after = s.1.1.1.0; maps_after = s.1.1.1.1.0; entries_after = s.1.1.1.1.1; extensions_after = filled_from (extension_rows (F p)) (L p).extensions c.read.ensures.extensions c.fill.ensures; programs2_after = c.fill_list.ensures.programs_after; streams2_after = c.fill_list.ensures.streams_after }
+    rw c.accepted.ensures record { result_value = stated F L ready ∙ prepared_answer_lem F L prepared c.in-Ready.is; atcs_after = s.atcs_after; stcs_after = s.stcs_after; programs_after = s.programs_after; streams_after = s.streams_after; maps_after = s.maps_after; entries_after = s.entries_after; extensions_after = filled_from (extension_rows F) L.extensions c.read.ensures.extensions c.fill.ensures; programs2_after = c.fill_list.ensures.programs_after; streams2_after = c.fill_list.ensures.streams_after }

@@ -15,11 +15,6 @@ overflow_add-end c =
     let F : List ℕ = c.args.file.now in
     let inside : c.in-At.start + c.in-At.len ≤ length F = list_inside F c.args.list _ _ c.in-At.is c.requires in omega (arith, inside)
 
-pub slice-bounds-measure-end : goal.slice-bounds-measure-end
-slice-bounds-measure-end c =
-    let F : List ℕ = c.args.file.now in
-    let inside : c.in-At.start + c.in-At.len ≤ length F = list_inside F c.args.list _ _ c.in-At.is c.requires in omega (arith, inside)
-
 pub returns-in_default-measure : goal.returns-in_default-measure
 returns-in_default-measure c =
     let F : List ℕ = c.args.file.now in

@@ -39,8 +39,8 @@ pub returns-in_default-measure : goal.returns-in_default-measure
 returns-in_default-measure c =
     let F : List ℕ = c.args.file.now in
     let front : front_of F ≡ 0 = sym c.front-refusal.ensures ∙ c.if-refusal-ne0.false in
-    let sequences : section_measured Section.Sequences F (sequences_start F) ≡ c.measure.result = let r : goal.After-read-starts = search in sym (ap (section_measured Section.Sequences F) r.read-starts.ensures.sequences) ∙ sym c.measure.ensures in
-    let sequences_are : CountsAre Section.Sequences F (sequences_start F) c.in-Counts.atcs c.in-Counts.stcs = let m : goal.After-measure = search in counts_are Section.Sequences F (sequences_start F) (sequences ∙ c.in-Counts.is) in
+    let sequences : section_measured Section.Sequences F (sequences_start F) ≡ c.measure.result = sym (ap (section_measured Section.Sequences F) c.read-starts.ensures.sequences) ∙ sym c.measure.ensures in
+    let sequences_are : CountsAre Section.Sequences F (sequences_start F) c.in-Counts.atcs c.in-Counts.stcs = counts_are Section.Sequences F (sequences_start F) (sequences ∙ c.in-Counts.is) in
     let sequences_in : leb (sequences_end F (sequences_start F)) (length F) ≡ true = le-leb (sequences_end F (sequences_start F)) (length F) sequences_are.ends in
     let programs : section_measured Section.Programs F (programs_start F) ≡ c.measure-2.result = sym (ap (section_measured Section.Programs F) c.read-starts.ensures.programs) ∙ sym c.measure-2.ensures in
     programs_refused F front sequences_in (past_end Section.Programs F (programs_start F) (programs ∙ c.in_default-measure.is))
@@ -55,11 +55,11 @@ pub returns-in-Refused : goal.returns-in-Refused
 returns-in-Refused c =
     let F : List ℕ = c.args.file.now in
     let front : front_of F ≡ 0 = sym c.front-refusal.ensures ∙ c.if-refusal-ne0.false in
-    let sequences : section_measured Section.Sequences F (sequences_start F) ≡ c.measure.result = let r : goal.After-read-starts = search in sym (ap (section_measured Section.Sequences F) r.read-starts.ensures.sequences) ∙ sym c.measure.ensures in
-    let sequences_are : CountsAre Section.Sequences F (sequences_start F) c.in-Counts.atcs c.in-Counts.stcs = let m : goal.After-measure = search in counts_are Section.Sequences F (sequences_start F) (sequences ∙ c.in-Counts.is) in
+    let sequences : section_measured Section.Sequences F (sequences_start F) ≡ c.measure.result = sym (ap (section_measured Section.Sequences F) c.read-starts.ensures.sequences) ∙ sym c.measure.ensures in
+    let sequences_are : CountsAre Section.Sequences F (sequences_start F) c.in-Counts.atcs c.in-Counts.stcs = counts_are Section.Sequences F (sequences_start F) (sequences ∙ c.in-Counts.is) in
     let sequences_in : leb (sequences_end F (sequences_start F)) (length F) ≡ true = le-leb (sequences_end F (sequences_start F)) (length F) sequences_are.ends in
-    let programs : section_measured Section.Programs F (programs_start F) ≡ c.measure-2.result = let r : goal.After-read-starts = search in sym (ap (section_measured Section.Programs F) r.read-starts.ensures.programs) ∙ sym c.measure-2.ensures in
-    let programs_are : CountsAre Section.Programs F (programs_start F) c.in-Counts-measure.programs c.in-Counts-measure.streams = let m : goal.After-measure-2 = search in counts_are Section.Programs F (programs_start F) (programs ∙ c.in-Counts-measure.is) in
+    let programs : section_measured Section.Programs F (programs_start F) ≡ c.measure-2.result = sym (ap (section_measured Section.Programs F) c.read-starts.ensures.programs) ∙ sym c.measure-2.ensures in
+    let programs_are : CountsAre Section.Programs F (programs_start F) c.in-Counts-measure.programs c.in-Counts-measure.streams = counts_are Section.Programs F (programs_start F) (programs ∙ c.in-Counts-measure.is) in
     let programs_in : leb (programs_end F (programs_start F)) (length F) ≡ true = le-leb (programs_end F (programs_start F)) (length F) programs_are.ends in
     let index : cpi_measured F (cpi_start F) ≡ c.measure-3.result = sym (ap (cpi_measured F) c.read-starts.ensures.cpi) ∙ sym c.measure-3.ensures in
     let i = cpi_refused F (cpi_start F) (index ∙ c.in-Refused.is) in
@@ -69,13 +69,13 @@ pub returns-then-marks_in : goal.returns-then-marks_in
 returns-then-marks_in c =
     let F : List ℕ = c.args.file.now in
     let front : front_of F ≡ 0 = sym c.front-refusal.ensures ∙ c.if-refusal-ne0.false in
-    let sequences : section_measured Section.Sequences F (sequences_start F) ≡ c.measure.result = let r : goal.After-read-starts = search in sym (ap (section_measured Section.Sequences F) r.read-starts.ensures.sequences) ∙ sym c.measure.ensures in
-    let sequences_are : CountsAre Section.Sequences F (sequences_start F) c.in-Counts.atcs c.in-Counts.stcs = let m : goal.After-measure = search in counts_are Section.Sequences F (sequences_start F) (sequences ∙ c.in-Counts.is) in
+    let sequences : section_measured Section.Sequences F (sequences_start F) ≡ c.measure.result = sym (ap (section_measured Section.Sequences F) c.read-starts.ensures.sequences) ∙ sym c.measure.ensures in
+    let sequences_are : CountsAre Section.Sequences F (sequences_start F) c.in-Counts.atcs c.in-Counts.stcs = counts_are Section.Sequences F (sequences_start F) (sequences ∙ c.in-Counts.is) in
     let sequences_in : leb (sequences_end F (sequences_start F)) (length F) ≡ true = le-leb (sequences_end F (sequences_start F)) (length F) sequences_are.ends in
-    let programs : section_measured Section.Programs F (programs_start F) ≡ c.measure-2.result = let r : goal.After-read-starts = search in sym (ap (section_measured Section.Programs F) r.read-starts.ensures.programs) ∙ sym c.measure-2.ensures in
-    let programs_are : CountsAre Section.Programs F (programs_start F) c.in-Counts-measure.programs c.in-Counts-measure.streams = let m : goal.After-measure-2 = search in counts_are Section.Programs F (programs_start F) (programs ∙ c.in-Counts-measure.is) in
+    let programs : section_measured Section.Programs F (programs_start F) ≡ c.measure-2.result = sym (ap (section_measured Section.Programs F) c.read-starts.ensures.programs) ∙ sym c.measure-2.ensures in
+    let programs_are : CountsAre Section.Programs F (programs_start F) c.in-Counts-measure.programs c.in-Counts-measure.streams = counts_are Section.Programs F (programs_start F) (programs ∙ c.in-Counts-measure.is) in
     let programs_in : leb (programs_end F (programs_start F)) (length F) ≡ true = le-leb (programs_end F (programs_start F)) (length F) programs_are.ends in
-    let index : cpi_measured F (cpi_start F) ≡ c.measure-3.result = let r : goal.After-read-starts = search in sym (ap (cpi_measured F) r.read-starts.ensures.cpi) ∙ sym c.measure-3.ensures in
+    let index : cpi_measured F (cpi_start F) ≡ c.measure-3.result = sym (ap (cpi_measured F) c.read-starts.ensures.cpi) ∙ sym c.measure-3.ensures in
     let marks : marks_in F (marks_start F) ≡ c.marks_in.result = sym (ap (marks_in F) c.read-starts.ensures.marks) ∙ sym c.marks_in.ensures in
     let i = cpi_counts F (cpi_start F) _ _ (index ∙ c.in-Counts-measure-2.is) in
     all_counted F front sequences_in programs_in i.0 (marks ∙ c.if-marks_in.true)
@@ -85,13 +85,13 @@ pub returns-else-marks_in : goal.returns-else-marks_in
 returns-else-marks_in c =
     let F : List ℕ = c.args.file.now in
     let front : front_of F ≡ 0 = sym c.front-refusal.ensures ∙ c.if-refusal-ne0.false in
-    let sequences : section_measured Section.Sequences F (sequences_start F) ≡ c.measure.result = let r : goal.After-read-starts = search in sym (ap (section_measured Section.Sequences F) r.read-starts.ensures.sequences) ∙ sym c.measure.ensures in
-    let sequences_are : CountsAre Section.Sequences F (sequences_start F) c.in-Counts.atcs c.in-Counts.stcs = let m : goal.After-measure = search in counts_are Section.Sequences F (sequences_start F) (sequences ∙ c.in-Counts.is) in
+    let sequences : section_measured Section.Sequences F (sequences_start F) ≡ c.measure.result = sym (ap (section_measured Section.Sequences F) c.read-starts.ensures.sequences) ∙ sym c.measure.ensures in
+    let sequences_are : CountsAre Section.Sequences F (sequences_start F) c.in-Counts.atcs c.in-Counts.stcs = counts_are Section.Sequences F (sequences_start F) (sequences ∙ c.in-Counts.is) in
     let sequences_in : leb (sequences_end F (sequences_start F)) (length F) ≡ true = le-leb (sequences_end F (sequences_start F)) (length F) sequences_are.ends in
-    let programs : section_measured Section.Programs F (programs_start F) ≡ c.measure-2.result = let r : goal.After-read-starts = search in sym (ap (section_measured Section.Programs F) r.read-starts.ensures.programs) ∙ sym c.measure-2.ensures in
-    let programs_are : CountsAre Section.Programs F (programs_start F) c.in-Counts-measure.programs c.in-Counts-measure.streams = let m : goal.After-measure-2 = search in counts_are Section.Programs F (programs_start F) (programs ∙ c.in-Counts-measure.is) in
+    let programs : section_measured Section.Programs F (programs_start F) ≡ c.measure-2.result = sym (ap (section_measured Section.Programs F) c.read-starts.ensures.programs) ∙ sym c.measure-2.ensures in
+    let programs_are : CountsAre Section.Programs F (programs_start F) c.in-Counts-measure.programs c.in-Counts-measure.streams = counts_are Section.Programs F (programs_start F) (programs ∙ c.in-Counts-measure.is) in
     let programs_in : leb (programs_end F (programs_start F)) (length F) ≡ true = le-leb (programs_end F (programs_start F)) (length F) programs_are.ends in
-    let index : cpi_measured F (cpi_start F) ≡ c.measure-3.result = let r : goal.After-read-starts = search in sym (ap (cpi_measured F) r.read-starts.ensures.cpi) ∙ sym c.measure-3.ensures in
+    let index : cpi_measured F (cpi_start F) ≡ c.measure-3.result = sym (ap (cpi_measured F) c.read-starts.ensures.cpi) ∙ sym c.measure-3.ensures in
     let marks : marks_in F (marks_start F) ≡ c.marks_in.result = sym (ap (marks_in F) c.read-starts.ensures.marks) ∙ sym c.marks_in.ensures in
     let i = cpi_counts F (cpi_start F) _ _ (index ∙ c.in-Counts-measure-2.is) in
     marks_refused F front sequences_in programs_in i.0 (marks ∙ c.if-marks_in.false)

@@ -42,8 +42,6 @@ returns-then-end-fine c =
     let counts : (c.map_header-header.result.ep_stream_type ≡ map_type_at F P) × (c.map_header-header.result.num_coarse ≡ coarse_count_at F P) × (c.map_header-header.result.num_fine ≡ fine_count_at F P) = header_read F P c.u48_at.result c.map_header-header.result c.u48_at.ensures.same c.map_header-header.ensures in
     let coarse : body_at F C P + 4 + 8 * coarse_count_at F P ≤ length F = omega (arith, body_is, counts.1) in
     let fine-at : body + c.u32_at-2.result ≡ fine_start F C P = fine_is F C P body c.u32_at-2.result body_is c.u32_at-2.ensures.same in
-    let u : goal.After-u32_at-2 = search in
-    let k = K u in
     fine_address_past F C P address coarse (omega (arith, fine-at, ends))
 
 pub returns-then-file-fine : goal.returns-then-file-fine
@@ -58,8 +56,6 @@ returns-then-file-fine c =
     let address : body_at F C P < cpi_end F C = omega (arith, body_is, ends) in
     let coarse : body_at F C P + 4 + 8 * coarse_count_at F P ≤ length F = omega (arith, body_is, counts.1) in
     let fine-at : body + c.u32_at-2.result ≡ fine_start F C P = fine_is F C P body c.u32_at-2.result body_is c.u32_at-2.ensures.same in
-    let u : goal.After-u32_at-2 = search in
-    let k = K u in
     let fine : fine_start F C P ≤ cpi_end F C = omega (arith, fine-at, ends) in
     fine_past F C P address coarse fine (omega (arith, fine-at, counts.2))
 
@@ -75,8 +71,6 @@ returns c =
     let address : body_at F C P < cpi_end F C = omega (arith, body_is, ends) in
     let coarse : body_at F C P + 4 + 8 * coarse_count_at F P ≤ length F = omega (arith, body_is, counts.1) in
     let fine-at : body + c.u32_at-2.result ≡ fine_start F C P = fine_is F C P body c.u32_at-2.result body_is c.u32_at-2.ensures.same in
-    let u : goal.After-u32_at-2 = search in
-    let k = K u in
     let fine : fine_start F C P ≤ cpi_end F C = omega (arith, fine-at, ends) in
     let n = counts.2 in
     ap MapRows.Entries n ∙ map_fits_lem F C P address coarse fine (omega (arith, fine-at, n))

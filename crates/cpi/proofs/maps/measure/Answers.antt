@@ -13,8 +13,7 @@ measure_maps-requires c =
     let F : List ℕ = c.args.file.now in
     let C : ℕ = c.args.start in
     let said : (cpi_in F C ≡ true) × HeadersIn F C c.in-Maps.count c.in-Maps.end =
-    let v = c.count.given in
-    head_said F C v.0.0 v.0.1.0 c.requires (sym c.read_head.ensures ∙ v.1) in said.1
+    head_said F C c.in-Maps.count c.in-Maps.end c.requires (sym c.read_head.ensures ∙ c.in-Maps.is) in said.1
 
 pub returns-in-NoMaps : goal.returns-in-NoMaps
 returns-in-NoMaps c =
@@ -29,5 +28,4 @@ returns-in-Maps c =
     let F : List ℕ = c.args.file.now in
     let C : ℕ = c.args.start in
     let said : (cpi_in F C ≡ true) × HeadersIn F C c.in-Maps.count c.in-Maps.end =
-    let v = c.count.given in
-    head_said F C v.0.0 v.0.1.0 c.requires (sym c.read_head.ensures ∙ v.1) in maps_then F C said.0 c.measure_maps.ensures
+    head_said F C c.in-Maps.count c.in-Maps.end c.requires (sym c.read_head.ensures ∙ c.in-Maps.is) in maps_then F C said.0 c.measure_maps.ensures

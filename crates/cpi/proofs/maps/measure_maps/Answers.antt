@@ -19,27 +19,24 @@ map_rows-requires c =
 pub returns-in-Refused : goal.returns-in-Refused
 returns-in-Refused c =
     let l = c.loop-k in
-    let v = c.number.given in
-    counting_bad c.args.file.now c.args.start c.args.count c.requires.counted l.entries l.k l.invariant.1 v.0.0 c.loop-k-test.true
-    (sym c.map_rows.ensures ∙ v.1)
+    counting_bad c.args.file.now c.args.start c.args.count c.requires.counted l.entries l.k l.invariant.1 c.in-Refused.number c.loop-k-test.true
+    (sym c.map_rows.ensures ∙ c.in-Refused.is)
 
 pub overflow_add-entries : goal.overflow_add-entries
 overflow_add-entries c =
     let l = c.loop-k in
     let q = c.args.start + 8 + 12 * l.k in
-    let v = c.n.given in
     let h = c.requires.headers in
     let z = c.requires.small in
     let few = l.invariant.1.few in
-    omega (arith, (map_said c.args.file.now c.args.start q v.0.0 (sym c.map_rows.ensures ∙ v.1)).1, (counts_small c.args.file.now q).1)
+    omega (arith, (map_said c.args.file.now c.args.start q c.in-Entries.n (sym c.map_rows.ensures ∙ c.in-Entries.is)).1, (counts_small c.args.file.now q).1)
 
 pub loop-k-preserved : goal.loop-k-preserved
 loop-k-preserved c =
-    let l = c.loop-k in
-    let v = c.n.given in (
+    let l = c.loop-k in (
       omega arith,
-      counting_next c.args.file.now c.args.start c.args.count c.requires.counted l.entries l.k l.invariant.1 v.0.0 c.loop-k-test.true
-          (sym c.map_rows.ensures ∙ v.1),
+      counting_next c.args.file.now c.args.start c.args.count c.requires.counted l.entries l.k l.invariant.1 c.in-Entries.n c.loop-k-test.true
+          (sym c.map_rows.ensures ∙ c.in-Entries.is),
     )
 
 pub returns : goal.returns

@@ -27,10 +27,9 @@ returns-in_default-skip c =
     let len : ℕ = c.in-Read.len in
     let a = c.args in
     let f = a.file.now in
-    let v = c.len.given in
-    let g = got f a.start 4 (sym v.1 ∙ c.read_u32.ensures.same) in
+    let g = got f a.start 4 (sym c.in-Read.is ∙ c.read_u32.ensures.same) in
     head_past f a.start c.if-start-eq0.false c.if-file-start.false
-    (omega (arith, stayed f (v.0.1.0.pos + v.0.0) (sym c.in_default-skip.is ∙ c.skip.ensures), g.value, g.behind))
+    (omega (arith, stayed f (c.in-Read.body.pos + c.in-Read.len) (sym c.in_default-skip.is ∙ c.skip.ensures), g.value, g.behind))
 
 pub returns-then-len-lt2 : goal.returns-then-len-lt2
 returns-then-len-lt2 c =
