@@ -1,5 +1,4 @@
 -- Each turn stores one zero; what is left goes behind it.
-use Prim.Native.Nat.{◌-◌}
 use mathlib.Core.Path.{refl, ◌∙◌}
 use native.Mathlib.Omega.{arith}
 use Rattle.encode_head.proofs.Laws.{zeros_first, zeros_turn, zeros_done}
@@ -14,7 +13,7 @@ loop-k-preserved c =
     let l = c.loop-k in
     let put = c.put_u8 in (
       omega arith,
-      put.auto.0 ∙ l.invariant.1,
+      put.auto.out ∙ l.invariant.1,
       zeros_turn a.at a.n l.k l.out (omega arith) put.ensures l.invariant.2,
     )
 

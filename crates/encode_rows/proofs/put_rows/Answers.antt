@@ -1,5 +1,5 @@
 -- Each turn stores one row behind those before it.
-use Prim.Native.Nat.{ℕ, ◌+◌, ◌*◌, ◌-◌, ◌≤◌}
+use Prim.Native.Nat.{ℕ, ◌+◌, ◌*◌, ◌≤◌}
 use mathlib.Core.Path.{◌≡◌, ap}
 use native.Mathlib.Omega.{arith}
 use lib.ListN.{length}
@@ -50,7 +50,7 @@ loop-k-preserved c =
     let next : l.q + 4 * c.cells_of-step.result ≡ step_of a.kind l.q = ap (λ (n : ℕ). l.q + 4 * n) c.cells_of-step.ensures in
     let same = same_bytes_lem a.kind row.result row.ensures in (
       pass_turn a.kind l.invariant.0 more c.requires.0 next,
-      row_put (cells_at a.t.now (cells_of a.kind)) (step_of a.kind) (bytes_by a.kind) l.q a.n l.k l.invariant.1 more (rw same at put.1) (rw same at put.0) next,
+      row_put (cells_at a.t.now (cells_of a.kind)) (step_of a.kind) (bytes_by a.kind) l.q a.n l.k l.invariant.1 more (rw same at put.out_after) (rw same at put.value) next,
     )
 
 pub shape_of-out : goal.shape_of-out
@@ -60,4 +60,5 @@ pub returns : goal.returns
 returns c =
     let a = c.args in
     let l = c.loop-k in
-    storing_done l.invariant.1 (ap (flat (bytes_by a.kind)) (rest_done (cells_at a.t.now (cells_of a.kind)) (step_of a.kind) l.q a.n l.k c.loop-k-test.false))
+    let done = storing_done l.invariant.1 (ap (flat (bytes_by a.kind)) (rest_done (cells_at a.t.now (cells_of a.kind)) (step_of a.kind) l.q a.n l.k c.loop-k-test.false)) in
+    record { value = done.0; out_after = done.1 }

@@ -7,24 +7,27 @@ use Rattle.encode_rows.specs.Rows.{rows_bytes}
 use Rattle.encode_sections.specs.Sections.{head_kind, row_kind, count_of}
 use Rattle.encode_sections.proofs.put_group.Goals as goal
 
--- the bytes of the header row, and those of its own rows
-abbrev head-part : goal.Start → List ℕ
-head-part s = bytes_by (head_kind s.args.section) (row_of (head_kind s.args.section) s.args.head)
-
-abbrev rows-part : goal.Start → List ℕ
-rows-part s = let a = s.args in rows_bytes (row_kind a.section) a.rows.now a.q (count_of a.section (row_of (head_kind a.section) a.head))
-
 pub put_row-behind-requires : goal.put_row-behind-requires
 put_row-behind-requires c =
-    rw c.head_kind.ensures (first_room c.args.out.now (head-part c) (rows-part c) c.args.at c.requires.room)
+    let a = c.args in
+    let head : List ℕ = bytes_by (head_kind a.section) (row_of (head_kind a.section) a.head) in
+    let own : List ℕ = rows_bytes (row_kind a.section) a.rows.now a.q (count_of a.section (row_of (head_kind a.section) a.head)) in
+    rw c.head_kind.ensures (first_room c.args.out.now head own c.args.at c.requires.room)
 
 pub put_rows-requires : goal.put_rows-requires
 put_rows-requires c =
+    let a = c.args in
+    let head : List ℕ = bytes_by (head_kind a.section) (row_of (head_kind a.section) a.head) in
+    let own : List ℕ = rows_bytes (row_kind a.section) a.rows.now a.q (count_of a.section (row_of (head_kind a.section) a.head)) in
     let put = rw c.head_kind.ensures at c.put_row-behind.ensures in
-    rw (c.row_kind.ensures, c.own_count.ensures) (c.requires.rows_end, second_room c.args.out.now (head-part c) (rows-part c) c.args.at c.requires.room put.0 put.1)
+    rw (c.row_kind.ensures, c.own_count.ensures) (c.requires.rows_end, second_room c.args.out.now head own c.args.at c.requires.room put.value put.out_after)
 
 pub returns : goal.returns
 returns c =
+    let a = c.args in
+    let head : List ℕ = bytes_by (head_kind a.section) (row_of (head_kind a.section) a.head) in
+    let own : List ℕ = rows_bytes (row_kind a.section) a.rows.now a.q (count_of a.section (row_of (head_kind a.section) a.head)) in
     let put = rw c.head_kind.ensures at c.put_row-behind.ensures in
     let rest = rw (c.row_kind.ensures, c.own_count.ensures) at c.put_rows.ensures in
-    both_stored c.args.out.now (head-part c) (rows-part c) c.args.at c.requires.room put.0 put.1 rest
+    let both = both_stored c.args.out.now head own c.args.at c.requires.room put.value put.out_after (rest.value, rest.out_after) in
+    record { value = both.0; out_after = both.1 }

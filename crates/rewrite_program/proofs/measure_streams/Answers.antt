@@ -1,5 +1,5 @@
 -- A turn goes on behind one stream and by the bytes that it has in the new file.
-use Prim.Native.Nat.{ℕ, ◌+◌, ◌-◌, ◌≤◌}
+use Prim.Native.Nat.{ℕ, ◌+◌, ◌≤◌}
 use mathlib.Core.Path.{◌≡◌, refl, ap, ◌∙◌}
 use mathlib.Core.List.{List}
 use native.Mathlib.Nat.{le_trans}
@@ -13,23 +13,13 @@ use Rattle.format.proofs.Loops.{end_ge}
 use Rattle.format.proofs.Places.{up_stream}
 use Rattle.format.proofs.Rows.{rest_all}
 use Rattle.format.proofs.Sweep.{along_first, along_turn, along_done, along_within}
-use Rattle.row_bytes.proofs.Storing.{Adding, row_added, rows_added}
+use Rattle.row_bytes.proofs.Storing.{row_added, rows_added}
 use Rattle.rewrite_program.specs.Programs.{new_streams}
 use Rattle.rewrite_program.proofs.Laws.{places_are}
 use Rattle.rewrite_program.proofs.measure_streams.Goals as goal
 
--- its length is added
-added : (c : goal.After-row_length-to) {q : ℕ} → q ≡ next_stream (bytes c) c.loop-k.q
-    → let l = c.loop-k in
-    let a = c.args in
-    let f = a.file.now in
-    Adding (stream_at f) (next_stream f) stream_bytes (a.at + length (new_streams f a.p a.n)) (l.to + c.row_length-to.result) q a.n (l.k + 1)
-added c e =
-    let l = c.loop-k in
-    let a = c.args in
-    let f = a.file.now in
-    row_added (stream_at f) (next_stream f) stream_bytes (a.at + length (new_streams f a.p a.n)) l.to l.q a.n l.k l.invariant.1 c.loop-k-test.true
-    (c.row_length-to.ensures ∙ ap (λ (r : Row). length (stream_bytes r)) c.stream_row.ensures) e
+the-same : (n : ℕ) → n ≡ n
+the-same n = refl
 
 pub loop-k-init : goal.loop-k-init
 loop-k-init c =
@@ -46,7 +36,12 @@ stream_row-requires c =
     within
 
 pub overflow_add-to : goal.overflow_add-to
-overflow_add-to c = record { fits = omega (arith, added c refl, c.requires.1) }
+overflow_add-to c =
+    let l = c.loop-k in
+    let a = c.args in
+    let f : List ℕ = a.file.now in
+    let added = row_added (stream_at f) (next_stream f) stream_bytes (a.at + length (new_streams f a.p a.n)) l.to l.q a.n l.k l.invariant.1 c.loop-k-test.true (c.row_length-to.ensures ∙ ap (λ (r : Row). length (stream_bytes r)) c.stream_row.ensures) (the-same (next_stream f l.q)) in
+    record { fits = omega (arith, added, c.requires.1) }
 
 pub next_stream-q-requires : goal.next_stream-q-requires
 next_stream-q-requires c =
@@ -59,7 +54,11 @@ loop-k-preserved c =
     let bytes : List ℕ = c.args.file.now in
     let within : next_stream bytes c.loop-k.q ≤ length bytes = along_within c.loop-k.invariant.0 (up_stream bytes) c.loop-k-test.true c.requires.0 in
     let next = c.next_stream-q.ensures in
-    (along_turn c.loop-k.invariant.0 c.loop-k-test.true next (omega (arith, next, within)), added c next)
+    let l = c.loop-k in
+    let a = c.args in
+    let f : List ℕ = a.file.now in
+    let added = row_added (stream_at f) (next_stream f) stream_bytes (a.at + length (new_streams f a.p a.n)) l.to l.q a.n l.k l.invariant.1 c.loop-k-test.true (c.row_length-to.ensures ∙ ap (λ (r : Row). length (stream_bytes r)) c.stream_row.ensures) next in
+    (along_turn c.loop-k.invariant.0 c.loop-k-test.true next (omega (arith, next, within)), added)
 
 pub returns : goal.returns
 returns c =

@@ -6,6 +6,9 @@ use Rattle.format.proofs.Places.{program_head}
 use Rattle.rewrite_program.proofs.Laws.{program_ends, streams_within, head_place, streams_room, streams_put, head_room}
 use Rattle.rewrite_program.proofs.put_program.Goals as goal
 
+both : {A B : Type 0} → A → B → A × B
+both a b = (a, b)
+
 pub program_row-row-requires : goal.program_row-row-requires
 program_row-row-requires c =
     let head : c.args.p + 8 ≤ length c.args.file.now = omega (arith, program_head c.args.file.now c.args.p, c.requires.0) in
@@ -38,7 +41,7 @@ put_streams-requires c =
     let f = a.file.now in
     let count = c.u8_at-num_streams.ensures.same in
     let is = c.program_row-row.ensures in
-    let head = c.put_row-to.ensures in
+    let head = both c.put_row-to.ensures.value c.put_row-to.ensures.out_after in
     let place = head_place f a.p count a.out.now a.at is head in
     let room = streams_room f a.p count a.out.now a.at is head c.requires.1 in
     (streams_within f a.p count c.requires.0, omega arith)
@@ -50,5 +53,5 @@ returns c =
     let f = a.file.now in
     let count = c.u8_at-num_streams.ensures.same in
     let is = c.program_row-row.ensures in
-    let head = c.put_row-to.ensures in
-    let put = c.put_streams.ensures in record { value = program_ends f a.p count a.at (head_place f a.p count a.out.now a.at is head) put.0; out_after = streams_put f a.p count a.out.now a.at is head put.1 }
+    let head = both c.put_row-to.ensures.value c.put_row-to.ensures.out_after in
+    let put = c.put_streams.ensures in record { value = program_ends f a.p count a.at (head_place f a.p count a.out.now a.at is head) put.value; out_after = streams_put f a.p count a.out.now a.at is head put.out_after }

@@ -1,6 +1,6 @@
 -- A turn stores one stream and goes on behind it, in the file and in the output.
-use Prim.Native.Nat.{ℕ, ◌+◌, ◌-◌, ◌≤◌}
-use mathlib.Core.Path.{◌≡◌, ap}
+use Prim.Native.Nat.{ℕ, ◌+◌, ◌≤◌}
+use mathlib.Core.Path.{ap, sym, subst}
 use mathlib.Core.List.{List}
 use native.Mathlib.Nat.{le_trans}
 use native.Mathlib.Omega.{arith}
@@ -18,14 +18,6 @@ use Rattle.rewrite_program.specs.Programs.{new_streams}
 use Rattle.rewrite_program.proofs.Laws.{places_are, row_as}
 use Rattle.rewrite_program.proofs.put_streams.Goals as goal
 
--- its new bytes have room
-room : (c : goal.In-loop-k) {row : Row} → row ≡ stream_at (bytes c) c.loop-k.q
-    → c.loop-k.to + length (stream_bytes row) ≤ length c.loop-k.out
-room c e =
-    let l = c.loop-k in
-    let f = bytes c in
-    rw e (row_room_lem (stream_at f) (next_stream f) stream_bytes l.q c.args.n l.k l.invariant.1 c.loop-k-test.true)
-
 pub loop-k-init : goal.loop-k-init
 loop-k-init c =
     let a = c.args in
@@ -41,7 +33,11 @@ stream_row-requires c =
     within
 
 pub put_row-to-requires : goal.put_row-to-requires
-put_row-to-requires c = room c c.stream_row.ensures
+put_row-to-requires c =
+    let l = c.loop-k in
+    let f : List ℕ = c.args.file.now in
+    let fits : l.to + length (stream_bytes (stream_at f l.q)) ≤ length l.out = row_room_lem (stream_at f) (next_stream f) stream_bytes l.q c.args.n l.k l.invariant.1 c.loop-k-test.true in
+    subst (λ (row : Row). l.to + length (stream_bytes row) ≤ length l.out) (sym c.stream_row.ensures) fits
 
 pub next_stream-q-requires : goal.next_stream-q-requires
 next_stream-q-requires c =
@@ -57,7 +53,7 @@ loop-k-preserved c =
     let f = bytes in
     let next = c.next_stream-q.ensures in
     let row = c.stream_row.ensures in
-    let put = row_as stream_bytes l.out l.to row c.put_row-to.ensures in (
+    let put = row_as stream_bytes l.out l.to row (c.put_row-to.ensures.value, c.put_row-to.ensures.out_after) in (
       along_turn l.invariant.0 c.loop-k-test.true next (omega (arith, next, within)),
       row_put (stream_at f) (next_stream f) stream_bytes l.q c.args.n l.k l.invariant.1 c.loop-k-test.true put.1 put.0 next,
     )

@@ -1,5 +1,5 @@
 -- A turn goes on behind one program and its streams, and by the bytes that they have in the new file.
-use Prim.Native.Nat.{ℕ, ◌+◌, ◌-◌, ◌≤◌}
+use Prim.Native.Nat.{ℕ, ◌+◌, ◌<◌, ◌≤◌}
 use mathlib.Core.Path.{◌≡◌, refl, ap, ◌∙◌}
 use mathlib.Core.List.{List}
 use native.Mathlib.Nat.{le_trans}
@@ -18,16 +18,10 @@ use Rattle.rewrite_sections.specs.Sections.{new_items}
 use Rattle.rewrite_sections.proofs.Groups.{flat_gather}
 use Rattle.rewrite_sections.proofs.measure_items.Goals as goal
 
--- its length is added
-added : (c : goal.In-loop-k) {q to : ℕ} → q ≡ next_program (bytes c) c.loop-k.q
-    → to ≡ c.loop-k.to + length (new_program (bytes c) c.loop-k.q)
-    → let a = c.args in
-    Adding (new_program (bytes c)) (next_program (bytes c)) as_is (a.at + length (new_items (bytes c) a.p a.n)) to q a.n (c.loop-k.k + 1)
-added c e place =
-    let l = c.loop-k in
-    let a = c.args in
-    let f = bytes c in
-    rw place (row_added (new_program f) (next_program f) as_is (a.at + length (new_items f a.p a.n)) l.to l.q a.n l.k l.invariant.1 c.loop-k-test.true refl e)
+-- a turn adds the length of the program at q
+added : (f : List ℕ) (all to q n k : ℕ) → Adding (new_program f) (next_program f) as_is all to q n k → k < n
+    → {q' to' : ℕ} → q' ≡ next_program f q → to' ≡ to + length (new_program f q) → Adding (new_program f) (next_program f) as_is all to' q' n (k + 1)
+added f all to q n k a more e place = rw place (row_added (new_program f) (next_program f) as_is all to q n k a more refl e)
 
 pub loop-k-init : goal.loop-k-init
 loop-k-init c =
@@ -41,7 +35,7 @@ pub measure_program-behind-requires : goal.measure_program-behind-requires
 measure_program-behind-requires c =
     let bytes : List ℕ = c.args.file.now in
     let within : next_program bytes c.loop-k.q ≤ length bytes = along_within c.loop-k.invariant.0 (up_program bytes) c.loop-k-test.true c.requires.0 in
-    (within, omega (arith, added c refl refl, c.requires.1))
+    (within, omega (arith, added bytes (c.args.at + length (new_items bytes c.args.p c.args.n)) c.loop-k.to c.loop-k.q c.args.n c.loop-k.k c.loop-k.invariant.1 c.loop-k-test.true refl refl, c.requires.1))
 
 pub loop-k-preserved : goal.loop-k-preserved
 loop-k-preserved c =
@@ -49,7 +43,7 @@ loop-k-preserved c =
     let within : next_program bytes c.loop-k.q ≤ length bytes = along_within c.loop-k.invariant.0 (up_program bytes) c.loop-k-test.true c.requires.0 in
     let next = ap (λ (r : Places). r.file) c.measure_program-behind.ensures in
     let place = ap (λ (r : Places). r.out) c.measure_program-behind.ensures in
-    (along_turn c.loop-k.invariant.0 c.loop-k-test.true next (omega (arith, next, within)), added c next place)
+    (along_turn c.loop-k.invariant.0 c.loop-k-test.true next (omega (arith, next, within)), added bytes (c.args.at + length (new_items bytes c.args.p c.args.n)) c.loop-k.to c.loop-k.q c.args.n c.loop-k.k c.loop-k.invariant.1 c.loop-k-test.true next place)
 
 pub returns : goal.returns
 returns c =

@@ -26,7 +26,7 @@ pub measure_items-requires : goal.measure_items-requires
 measure_items-requires c =
     let f = c.args.file.now in
     let count = c.u8_at-num_programs.ensures.same in
-    let short = programs_short f (λ i. (c.shared_slice_known-1.given i).fits) c.args.start in
+    let short = programs_short f (λ i. (c.type_inv.file i).fits) c.args.start in
     (items_within f c.args.start count c.requires, omega (arith, programs_long f c.args.start count, short))
 
 pub returns : goal.returns

@@ -1,5 +1,5 @@
 -- A turn stores one program with its streams and goes on behind them, in the file and in the output.
-use Prim.Native.Nat.{ℕ, ◌-◌, ◌≤◌}
+use Prim.Native.Nat.{ℕ, ◌≤◌}
 use mathlib.Core.Path.{ap, ◌∙◌}
 use mathlib.Core.List.{List}
 use native.Mathlib.Nat.{le_trans}
@@ -42,10 +42,10 @@ loop-k-preserved c =
     let l = c.loop-k in
     let f = bytes in
     let put = c.put_program-behind.ensures in
-    let next = ap (λ (r : Places). r.file) put.0 in
-    let place = ap (λ (r : Places). r.out) put.0 in (
+    let next = ap (λ (r : Places). r.file) put.value in
+    let place = ap (λ (r : Places). r.out) put.value in (
       along_turn l.invariant.0 c.loop-k-test.true next (omega (arith, next, within)),
-      row_put (new_program f) (next_program f) as_is l.q c.args.n l.k l.invariant.1 c.loop-k-test.true put.1 place next,
+      row_put (new_program f) (next_program f) as_is l.q c.args.n l.k l.invariant.1 c.loop-k-test.true put.out_after place next,
     )
 
 pub shape_of-out : goal.shape_of-out
@@ -56,4 +56,5 @@ returns c =
     let l = c.loop-k in
     let a = c.args in
     let f = a.file.now in
-    storing_done l.invariant.1 (ap (flat as_is) (rest_done (new_program f) (next_program f) l.q a.n l.k c.loop-k-test.false))
+    let done = storing_done l.invariant.1 (ap (flat as_is) (rest_done (new_program f) (next_program f) l.q a.n l.k c.loop-k-test.false)) in
+    record { value = done.0; out_after = done.1 }

@@ -25,7 +25,7 @@ overflow_sub-size c =
 
 pub overflow_cast-size : goal.overflow_cast-size
 overflow_cast-size c =
-    record { fits = omega (arith, c.requires.size_is, programs_short c.args.file.now (λ i. (c.shared_slice_known-1.given i).fits) c.args.start) }
+    record { fits = omega (arith, c.requires.size_is, programs_short c.args.file.now (λ i. (c.type_inv.file i).fits) c.args.start) }
 
 pub put_head-requires : goal.put_head-requires
 put_head-requires c =
@@ -50,4 +50,4 @@ returns c =
     let a = c.args in
     let f = a.file.now in
     let count = c.u8_at-num_programs.ensures.same in
-    let put = c.put_items.ensures in record { value = omega (arith, put.0, c.requires.size_is, programs_long f a.start count); out_after = programs_put f a.start count c.requires.size_is a.out.now a.at c.put_head.ensures put.1 }
+    let put = c.put_items.ensures in record { value = omega (arith, put.value, c.requires.size_is, programs_long f a.start count); out_after = programs_put f a.start count c.requires.size_is a.out.now a.at c.put_head.ensures put.out_after }

@@ -15,13 +15,13 @@ use Rattle.rewrite_sections.proofs.put_sequences.Goals as goal
 pub overflow_cast-items : goal.overflow_cast-items
 overflow_cast-items c =
     let short : 6 + 6 * c.args.atcs + 14 * c.args.stcs < 2 ^ 32 =
-    rw (c.requires.atcs_are, c.requires.stcs_are) (sequences_short c.args.file.now (λ i. (c.shared_slice_known-1.given i).fits) c.args.start) in
+    rw (c.requires.atcs_are, c.requires.stcs_are) (sequences_short c.args.file.now (λ i. (c.type_inv.file i).fits) c.args.start) in
     record { fits = omega (arith, short) }
 
 pub overflow_cast-atcs : goal.overflow_cast-atcs
 overflow_cast-atcs c =
     let short : 6 + 6 * c.args.atcs + 14 * c.args.stcs < 2 ^ 32 =
-    rw (c.requires.atcs_are, c.requires.stcs_are) (sequences_short c.args.file.now (λ i. (c.shared_slice_known-1.given i).fits) c.args.start) in
+    rw (c.requires.atcs_are, c.requires.stcs_are) (sequences_short c.args.file.now (λ i. (c.type_inv.file i).fits) c.args.start) in
     record { fits = omega (arith, short) }
 
 pub overflow_add-start : goal.overflow_add-start
@@ -38,7 +38,7 @@ returns c =
     let a = c.args in
     let f = a.file.now in
     let items = 6 * a.atcs + 14 * a.stcs in
-    let is = sequences_are f a.start (λ i. (c.shared_slice_known-1.given i).fits) c.requires.ends c.requires.atcs_are c.requires.stcs_are in record {
+    let is = sequences_are f a.start (λ i. (c.type_inv.file i).fits) c.requires.ends c.requires.atcs_are c.requires.stcs_are in record {
       value = omega arith;
       out_after = part_then a.out.now a.at 6 (section_head (2 + items) a.atcs) (part f (a.start + 6) items) (section_head_lem (2 + items) a.atcs) refl
           c.put_head.ensures c.copy.ensures
