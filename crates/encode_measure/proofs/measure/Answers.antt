@@ -23,12 +23,9 @@ returns-then-not-counts_add c =
 
 pub returns-then-not-is_clip : goal.returns-then-not-is_clip
 returns-then-not-is_clip c =
-    let tables : ClipTables = let a = c.args in
+    let l : ClipTables = let a = c.args in
     stated_tables (scalars_by a.info) a.rows a.atcs.now a.stcs.now a.programs.now a.streams.now a.maps.now a.entries.now in
-    let counted : pairs_counted tables ≡ true =
-    counted_by tables c.counts_add.ensures c.if-not-counts_add.false in
-    let l = tables in
-    refused_by (refusal_in l) (clip_in l) 40 refl (refused_40 l counted c.is_clip.ensures c.if-not-is_clip.true)
+    refused_by (refusal_in l) (clip_in l) 40 refl (refused_40 l (counted_by l c.counts_add.ensures c.if-not-counts_add.false) c.is_clip.ensures c.if-not-is_clip.true)
 
 pub fields_fit-requires : goal.fields_fit-requires
 fields_fit-requires c =
@@ -41,14 +38,11 @@ fields_fit-requires c =
 
 pub returns-then-not-fields_fit : goal.returns-then-not-fields_fit
 returns-then-not-fields_fit c =
-    let tables : ClipTables = let a = c.args in
+    let l : ClipTables = let a = c.args in
     stated_tables (scalars_by a.info) a.rows a.atcs.now a.stcs.now a.programs.now a.streams.now a.maps.now a.entries.now in
-    let counted : pairs_counted tables ≡ true =
-    counted_by tables c.counts_add.ensures c.if-not-counts_add.false in
-    let lettered : are_letters tables.scalars.letters ≡ true =
-    passes_by c.is_clip.ensures c.if-not-is_clip.false in
-    let l = tables in
-    refused_by (refusal_in l) (clip_in l) 30 refl (fields_refused l counted lettered c.fields_fit.ensures c.if-not-fields_fit.true)
+    let counted : pairs_counted l ≡ true =
+    counted_by l c.counts_add.ensures c.if-not-counts_add.false in
+    refused_by (refusal_in l) (clip_in l) 30 refl (fields_refused l counted (passes_by c.is_clip.ensures c.if-not-is_clip.false) c.fields_fit.ensures c.if-not-fields_fit.true)
 
 pub cpi_length-requires : goal.cpi_length-requires
 cpi_length-requires c =
