@@ -2,7 +2,7 @@
 use Prim.Native.Nat.{ℕ, ◌+◌, ◌-◌, ◌≤◌}
 use mathlib.Core.Path.{◌≡◌, refl, sym, ap, ◌∙◌}
 use mathlib.Core.List.{List}
-use mathlib.Core.Bool.{Bool, true, false, not}
+use mathlib.Core.Bool.{Bool, true, false}
 use native.Mathlib.Omega.{arith}
 use lib.ListN.{length}
 use Rattle.format.specs.Bytes.{both, unless}
@@ -80,19 +80,19 @@ module _ (l : ClipTables) where
   pairs h = let first = both_true h in (first.0, both_true first.1)
 
   -- counts that do not add up
-  pub refused_22 : {r : Bool} → r ≡ pairs_counted bare → not r ≡ true → refusal_in l ≡ 22
+  pub refused_22 : {r : Bool} → r ≡ pairs_counted bare → r ≡ false → refusal_in l ≡ 22
   unfolding pairs_counted
   refused_22 is h =
       let fails : pairs_counted l ≡ false = fails_by is h in
       refusal_is l ∙ rw fails
 
   -- counts that do
-  pub counted_by : {r : Bool} → r ≡ pairs_counted bare → not r ≡ false → pairs_counted l ≡ true
+  pub counted_by : {r : Bool} → r ≡ pairs_counted bare → r ≡ true → pairs_counted l ≡ true
   unfolding pairs_counted
   counted_by is h = passes_by is h
 
   -- letters that are neither of the two
-  pub refused_40 : {r : Bool} → pairs_counted l ≡ true → r ≡ are_letters l.scalars.letters → not r ≡ true → refusal_in l ≡ 40
+  pub refused_40 : {r : Bool} → pairs_counted l ≡ true → r ≡ are_letters l.scalars.letters → r ≡ false → refusal_in l ≡ 40
   refused_40 p is h =
       let fails : are_letters l.scalars.letters ≡ false = fails_by is h in
       refusal_is l ∙ rw (p, fails)
@@ -106,7 +106,7 @@ module _ (l : ClipTables) where
   all_entries_fit = entries_fit (rows_of map_cells l.maps) (rows_of entry_cells l.entries)
 
   -- cells before the entries that do not fit
-  pub fields_refused : {r : Bool} → pairs_counted l ≡ true → are_letters l.scalars.letters ≡ true → r ≡ fields_of → not r ≡ true → refusal_in l ≡ 30
+  pub fields_refused : {r : Bool} → pairs_counted l ≡ true → are_letters l.scalars.letters ≡ true → r ≡ fields_of → r ≡ false → refusal_in l ≡ 30
   fields_refused p q is h =
       let fails : cells_fit (clip_in l) ≡ false = fields_and_entries l ∙ left_fails all_entries_fit (fails_by is h) in
       refusal_is l ∙ rw (p, q, fails)

@@ -1,11 +1,11 @@
 -- The refusals of writing, in the order in which the code tests them.
 use Prim.Native.Nat.{ℕ, ◌+◌, ◌≤◌}
 use mathlib.Core.Path.{◌≡◌, sym, ap, ◌∙◌}
-use mathlib.Core.Bool.{Bool, true, false, not}
+use mathlib.Core.Bool.{Bool, true, false}
 use native.Mathlib.Omega.{arith}
 use lib.Dec.{eqb}
-use borrow.Author.Tests.{eqb-true, not-true, not-false}
-use Rattle.format.specs.Bytes.{both, pick, unless}
+use borrow.Author.Tests.{eqb-true}
+use Rattle.format.specs.Bytes.{pick, unless}
 use Rattle.format.specs.ClipRecord.{Clip, are_letters}
 use Rattle.format.specs.Tables.{ClipTables, clip_in}
 use Rattle.format.specs.Refusals.{all_stated, counts_add, cells_fit, runs_fit, write_refusal}
@@ -16,11 +16,11 @@ use Rattle.encode_measure.specs.declared.Places.{Places}
 use Rattle.encode_measure.specs.Places.{refusal_in, pairs_counted, programs_place, cpi_place, marks_place, places_of, measured_by, Placed}
 
 -- what an answer says of its test, where the code goes on, and where it refuses
-pub passes_by : {r b : Bool} → r ≡ b → not r ≡ false → b ≡ true
-passes_by {r} is h = sym is ∙ not-false r h
+pub passes_by : {r b : Bool} → r ≡ b → r ≡ true → b ≡ true
+passes_by is h = sym is ∙ h
 
-pub fails_by : {r b : Bool} → r ≡ b → not r ≡ true → b ≡ false
-fails_by {r} is h = sym is ∙ not-true r h
+pub fails_by : {r b : Bool} → r ≡ b → r ≡ false → b ≡ false
+fails_by is h = sym is ∙ h
 
 -- 22 by pairs of tables, then 40, 30 and 31
 pub refusal_is : (l : ClipTables)

@@ -19,54 +19,50 @@ pub returns-then-not-counts_add : goal.returns-then-not-counts_add
 returns-then-not-counts_add c =
     let tables : ClipTables = let a = c.args in
     stated_tables (scalars_by a.info) a.rows a.atcs.now a.stcs.now a.programs.now a.streams.now a.maps.now a.entries.now in
-    refused_by (refusal_in tables) (clip_in tables) 22 refl (refused_22 tables c.counts_add.ensures c.if-not-counts_add.true-raw)
+    refused_by (refusal_in tables) (clip_in tables) 22 refl (refused_22 tables c.counts_add.ensures c.if-not-counts_add.true)
 
 pub returns-then-not-is_clip : goal.returns-then-not-is_clip
 returns-then-not-is_clip c =
-    let tables : ClipTables = let a = c.args in
+    let l : ClipTables = let a = c.args in
     stated_tables (scalars_by a.info) a.rows a.atcs.now a.stcs.now a.programs.now a.streams.now a.maps.now a.entries.now in
-    let counted : pairs_counted tables ≡ true =
-    counted_by tables c.counts_add.ensures c.if-not-counts_add.false-raw in
-    let l = tables in
-    refused_by (refusal_in l) (clip_in l) 40 refl (refused_40 l counted c.is_clip.ensures c.if-not-is_clip.true-raw)
+    refused_by (refusal_in l) (clip_in l) 40 refl (refused_40 l (counted_by l c.counts_add.ensures c.if-not-counts_add.false) c.is_clip.ensures c.if-not-is_clip.true)
 
 pub fields_fit-requires : goal.fields_fit-requires
 fields_fit-requires c =
     let tables : ClipTables = let a = c.args in
     stated_tables (scalars_by a.info) a.rows a.atcs.now a.stcs.now a.programs.now a.streams.now a.maps.now a.entries.now in
     let counted : pairs_counted tables ≡ true =
-    counted_by tables c.counts_add.ensures c.if-not-counts_add.false-raw in fields_there tables counted
+    counted_by tables c.counts_add.ensures c.if-not-counts_add.false in
+    let there = fields_there tables counted in
+    record { sequences = there.0; programs = there.1.0; maps = there.1.1 }
 
 pub returns-then-not-fields_fit : goal.returns-then-not-fields_fit
 returns-then-not-fields_fit c =
-    let tables : ClipTables = let a = c.args in
+    let l : ClipTables = let a = c.args in
     stated_tables (scalars_by a.info) a.rows a.atcs.now a.stcs.now a.programs.now a.streams.now a.maps.now a.entries.now in
-    let counted : pairs_counted tables ≡ true =
-    counted_by tables c.counts_add.ensures c.if-not-counts_add.false-raw in
-    let lettered : are_letters tables.scalars.letters ≡ true =
-    passes_by c.is_clip.ensures c.if-not-is_clip.false-raw in
-    let l = tables in
-    refused_by (refusal_in l) (clip_in l) 30 refl (fields_refused l counted lettered c.fields_fit.ensures c.if-not-fields_fit.true-raw)
+    let counted : pairs_counted l ≡ true =
+    counted_by l c.counts_add.ensures c.if-not-counts_add.false in
+    refused_by (refusal_in l) (clip_in l) 30 refl (fields_refused l counted (passes_by c.is_clip.ensures c.if-not-is_clip.false) c.fields_fit.ensures c.if-not-fields_fit.true)
 
 pub cpi_length-requires : goal.cpi_length-requires
 cpi_length-requires c =
     let tables : ClipTables = let a = c.args in
     stated_tables (scalars_by a.info) a.rows a.atcs.now a.stcs.now a.programs.now a.streams.now a.maps.now a.entries.now in
     let counted : pairs_counted tables ≡ true =
-    counted_by tables c.counts_add.ensures c.if-not-counts_add.false-raw in
-    let fields : fields_of tables ≡ true = let f : goal.After-fields_fit = search in
-    passes_by f.fields_fit.ensures c.if-not-fields_fit.false-raw in
+    counted_by tables c.counts_add.ensures c.if-not-counts_add.false in
+    let fields : fields_of tables ≡ true =
+    passes_by c.fields_fit.ensures c.if-not-fields_fit.false in
     let l = tables in
-    (cpi_there l (counted e), cpi_counted l (counted e) fields)
+    (cpi_there l counted, cpi_counted l counted fields)
 
 pub returns-in_default : goal.returns-in_default
 returns-in_default c =
     let tables : ClipTables = let a = c.args in
     stated_tables (scalars_by a.info) a.rows a.atcs.now a.stcs.now a.programs.now a.streams.now a.maps.now a.entries.now in
     let counted : pairs_counted tables ≡ true =
-    counted_by tables c.counts_add.ensures c.if-not-counts_add.false-raw in
+    counted_by tables c.counts_add.ensures c.if-not-counts_add.false in
     let lettered : are_letters tables.scalars.letters ≡ true =
-    passes_by c.is_clip.ensures c.if-not-is_clip.false-raw in
+    passes_by c.is_clip.ensures c.if-not-is_clip.false in
     let l = tables in
     refused_by (refusal_in l) (clip_in l) 30 refl (entries_refused l counted lettered (sym c.cpi_length.ensures ∙ c.in_default.is))
 
@@ -75,12 +71,12 @@ returns-in_default-length c =
     let tables : ClipTables = let a = c.args in
     stated_tables (scalars_by a.info) a.rows a.atcs.now a.stcs.now a.programs.now a.streams.now a.maps.now a.entries.now in
     let counted : pairs_counted tables ≡ true =
-    counted_by tables c.counts_add.ensures c.if-not-counts_add.false-raw in
+    counted_by tables c.counts_add.ensures c.if-not-counts_add.false in
     let lettered : are_letters tables.scalars.letters ≡ true =
-    passes_by c.is_clip.ensures c.if-not-is_clip.false-raw in
+    passes_by c.is_clip.ensures c.if-not-is_clip.false in
     let handed : ClipTables = tables in
     let fields : fields_of tables ≡ true =
-    passes_by c.fields_fit.ensures c.if-not-fields_fit.false-raw in
+    passes_by c.fields_fit.ensures c.if-not-fields_fit.false in
     let fit : (cells_fit (clip_in handed) ≡ true) × (c.in-Fit.length ≡ length_in handed) =
     entries_fit_lem handed fields (sym c.cpi_length.ensures ∙ c.in-Fit.is) in
     let l = handed in
@@ -91,7 +87,7 @@ section_length-programs_at-requires c =
     let tables : ClipTables = let a = c.args in
     stated_tables (scalars_by a.info) a.rows a.atcs.now a.stcs.now a.programs.now a.streams.now a.maps.now a.entries.now in
     let counted : pairs_counted tables ≡ true =
-    counted_by tables c.counts_add.ensures c.if-not-counts_add.false-raw in
+    counted_by tables c.counts_add.ensures c.if-not-counts_add.false in
     let handed : ClipTables = tables in
     let writable : ClipTables = handed in sequences_counted writable counted
 
@@ -103,11 +99,11 @@ overflow_add-programs_at c =
     let writable : ClipTables = handed in
     let clip : Clip = clip_in writable in
     let counted : pairs_counted tables ≡ true =
-    counted_by tables c.counts_add.ensures c.if-not-counts_add.false-raw in
+    counted_by tables c.counts_add.ensures c.if-not-counts_add.false in
     let lettered : are_letters tables.scalars.letters ≡ true =
-    passes_by c.is_clip.ensures c.if-not-is_clip.false-raw in
+    passes_by c.is_clip.ensures c.if-not-is_clip.false in
     let fields : fields_of tables ≡ true =
-    passes_by c.fields_fit.ensures c.if-not-fields_fit.false-raw in
+    passes_by c.fields_fit.ensures c.if-not-fields_fit.false in
     let fit : (cells_fit (clip_in handed) ≡ true) × (c.in-Fit.length ≡ length_in handed) =
     entries_fit_lem handed fields (sym c.cpi_length.ensures ∙ c.in-Fit.is) in
     let few : (runs_fit clip ≡ true) × (c.in-Bytes.len ≡ length (cpi_bytes clip)) = runs_few writable (sym fit.1 ∙ c.in-Bytes.is) in
@@ -119,7 +115,7 @@ section_length-requires c =
     let tables : ClipTables = let a = c.args in
     stated_tables (scalars_by a.info) a.rows a.atcs.now a.stcs.now a.programs.now a.streams.now a.maps.now a.entries.now in
     let counted : pairs_counted tables ≡ true =
-    counted_by tables c.counts_add.ensures c.if-not-counts_add.false-raw in
+    counted_by tables c.counts_add.ensures c.if-not-counts_add.false in
     let handed : ClipTables = tables in
     let writable : ClipTables = handed in programs_counted writable counted
 
@@ -131,13 +127,13 @@ overflow_add-cpi_at c =
     let writable : ClipTables = handed in
     let clip : Clip = clip_in writable in
     let counted : pairs_counted tables ≡ true =
-    counted_by tables c.counts_add.ensures c.if-not-counts_add.false-raw in
+    counted_by tables c.counts_add.ensures c.if-not-counts_add.false in
     let lettered : are_letters tables.scalars.letters ≡ true =
-    passes_by c.is_clip.ensures c.if-not-is_clip.false-raw in
+    passes_by c.is_clip.ensures c.if-not-is_clip.false in
     let fields : fields_of tables ≡ true =
-    passes_by c.fields_fit.ensures c.if-not-fields_fit.false-raw in
-    let fit : (cells_fit (clip_in handed) ≡ true) × (c.in-Fit.length ≡ length_in handed) = let p : goal.After-cpi_length = search in
-    entries_fit_lem handed fields (sym p.cpi_length.ensures ∙ c.in-Fit.is) in
+    passes_by c.fields_fit.ensures c.if-not-fields_fit.false in
+    let fit : (cells_fit (clip_in handed) ≡ true) × (c.in-Fit.length ≡ length_in handed) =
+    entries_fit_lem handed fields (sym c.cpi_length.ensures ∙ c.in-Fit.is) in
     let few : (runs_fit clip ≡ true) × (c.in-Bytes.len ≡ length (cpi_bytes clip)) = runs_few writable (sym fit.1 ∙ c.in-Bytes.is) in
     let none : refusal_in writable ≡ 0 = none_refused writable (record { counted = counted; letters = lettered; fit = fit.0; runs_fit_lem = few.0 }) in
     record { fits = omega (arith, marks_bound writable none, sequences_long writable c.section_length-programs_at.ensures, programs_long writable c.section_length.ensures, place_programs clip, place_cpi clip, place_marks clip) }
@@ -150,14 +146,14 @@ overflow_add-marks_at c =
     let writable : ClipTables = handed in
     let clip : Clip = clip_in writable in
     let fields : fields_of tables ≡ true =
-    passes_by c.fields_fit.ensures c.if-not-fields_fit.false-raw in
-    let fit : (cells_fit (clip_in handed) ≡ true) × (c.in-Fit.length ≡ length_in handed) = let p : goal.After-cpi_length = search in
-    entries_fit_lem handed fields (sym p.cpi_length.ensures ∙ c.in-Fit.is) in
+    passes_by c.fields_fit.ensures c.if-not-fields_fit.false in
+    let fit : (cells_fit (clip_in handed) ≡ true) × (c.in-Fit.length ≡ length_in handed) =
+    entries_fit_lem handed fields (sym c.cpi_length.ensures ∙ c.in-Fit.is) in
     let few : (runs_fit clip ≡ true) × (c.in-Bytes.len ≡ length (cpi_bytes clip)) = runs_few writable (sym fit.1 ∙ c.in-Bytes.is) in
     let counted : pairs_counted tables ≡ true =
-    counted_by tables c.counts_add.ensures c.if-not-counts_add.false-raw in
+    counted_by tables c.counts_add.ensures c.if-not-counts_add.false in
     let lettered : are_letters tables.scalars.letters ≡ true =
-    passes_by c.is_clip.ensures c.if-not-is_clip.false-raw in
+    passes_by c.is_clip.ensures c.if-not-is_clip.false in
     let none : refusal_in writable ≡ 0 = none_refused writable (record { counted = counted; letters = lettered; fit = fit.0; runs_fit_lem = few.0 }) in
     record { fits = omega (arith, marks_bound writable none, few.1, sequences_long writable c.section_length-programs_at.ensures, programs_long writable c.section_length.ensures, place_programs clip, place_cpi clip, place_marks clip) }
 
@@ -169,14 +165,14 @@ returns c =
     let writable : ClipTables = handed in
     let clip : Clip = clip_in writable in
     let fields : fields_of tables ≡ true =
-    passes_by c.fields_fit.ensures c.if-not-fields_fit.false-raw in
-    let fit : (cells_fit (clip_in handed) ≡ true) × (c.in-Fit.length ≡ length_in handed) = let p : goal.After-cpi_length = search in
-    entries_fit_lem handed fields (sym p.cpi_length.ensures ∙ c.in-Fit.is) in
+    passes_by c.fields_fit.ensures c.if-not-fields_fit.false in
+    let fit : (cells_fit (clip_in handed) ≡ true) × (c.in-Fit.length ≡ length_in handed) =
+    entries_fit_lem handed fields (sym c.cpi_length.ensures ∙ c.in-Fit.is) in
     let few : (runs_fit clip ≡ true) × (c.in-Bytes.len ≡ length (cpi_bytes clip)) = runs_few writable (sym fit.1 ∙ c.in-Bytes.is) in
     let counted : pairs_counted tables ≡ true =
-    counted_by tables c.counts_add.ensures c.if-not-counts_add.false-raw in
+    counted_by tables c.counts_add.ensures c.if-not-counts_add.false in
     let lettered : are_letters tables.scalars.letters ≡ true =
-    passes_by c.is_clip.ensures c.if-not-is_clip.false-raw in
+    passes_by c.is_clip.ensures c.if-not-is_clip.false in
     let none : refusal_in writable ≡ 0 = none_refused writable (record { counted = counted; letters = lettered; fit = fit.0; runs_fit_lem = few.0 }) in
     let first = sequences_long writable c.section_length-programs_at.ensures in
     let second = programs_long writable c.section_length.ensures in

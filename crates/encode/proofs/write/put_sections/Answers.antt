@@ -45,8 +45,8 @@ pub put_sequences-requires : goal.put_sequences-requires
 put_sequences-requires c =
     let tables : ClipTables = let a = c.args in
     stated_tables (scalars_by a.info) a.rows a.atcs.now a.stcs.now a.programs.now a.streams.now a.maps.now a.entries.now in
-    let ready : {bytes : ℕ} → bytes ≡ length c.args.out.now → Ready tables c.args.places bytes = (λ same. ready_kept tables same c.requires) in
-    sequences_storable tables c.args.places _ (ready c.put_head.kept.1.1.1.1.0)
+    let ready : (bytes : ℕ) → bytes ≡ length c.args.out.now → Ready tables c.args.places bytes = (λ bytes same. ready_kept tables same c.requires) in
+    sequences_storable tables c.args.places _ (ready _ c.put_head.auto.out)
 
 pub overflow_sub-len : goal.overflow_sub-len
 overflow_sub-len c =
@@ -58,8 +58,8 @@ pub put_programs-requires : goal.put_programs-requires
 put_programs-requires c =
     let tables : ClipTables = let a = c.args in
     stated_tables (scalars_by a.info) a.rows a.atcs.now a.stcs.now a.programs.now a.streams.now a.maps.now a.entries.now in
-    let ready : {bytes : ℕ} → bytes ≡ length c.args.out.now → Ready tables c.args.places bytes = (λ same. ready_kept tables same c.requires) in
-    programs_storable tables c.args.places _ (ready (c.put_sequences.kept.1.1.1.1.0 ∙ c.put_head.kept.1.1.1.1.0))
+    let ready : (bytes : ℕ) → bytes ≡ length c.args.out.now → Ready tables c.args.places bytes = (λ bytes same. ready_kept tables same c.requires) in
+    programs_storable tables c.args.places _ (ready _ (c.put_sequences.auto.out ∙ c.put_head.auto.out))
 
 pub overflow_sub-len-2 : goal.overflow_sub-len-2
 overflow_sub-len-2 c =
@@ -71,15 +71,15 @@ pub put_cpi-requires : goal.put_cpi-requires
 put_cpi-requires c =
     let tables : ClipTables = let a = c.args in
     stated_tables (scalars_by a.info) a.rows a.atcs.now a.stcs.now a.programs.now a.streams.now a.maps.now a.entries.now in
-    let ready : {bytes : ℕ} → bytes ≡ length c.args.out.now → Ready tables c.args.places bytes = (λ same. ready_kept tables same c.requires) in
-    cpi_storable tables c.args.places _ (ready (c.put_programs.kept.1.1.1.1.0 ∙ c.put_sequences.kept.1.1.1.1.0 ∙ c.put_head.kept.1.1.1.1.0))
+    let ready : (bytes : ℕ) → bytes ≡ length c.args.out.now → Ready tables c.args.places bytes = (λ bytes same. ready_kept tables same c.requires) in
+    cpi_storable tables c.args.places _ (ready _ (c.put_programs.auto.out ∙ c.put_sequences.auto.out ∙ c.put_head.auto.out))
 
 pub put_marks-requires : goal.put_marks-requires
 put_marks-requires c =
     let tables : ClipTables = let a = c.args in
     stated_tables (scalars_by a.info) a.rows a.atcs.now a.stcs.now a.programs.now a.streams.now a.maps.now a.entries.now in
-    let ready : {bytes : ℕ} → bytes ≡ length c.args.out.now → Ready tables c.args.places bytes = (λ same. ready_kept tables same c.requires) in
-    (in_order tables (ready (c.put_cpi.kept.1.1.1.1.1.0 ∙ c.put_programs.kept.1.1.1.1.0 ∙ c.put_sequences.kept.1.1.1.1.0 ∙ c.put_head.kept.1.1.1.1.0))).room
+    let ready : (bytes : ℕ) → bytes ≡ length c.args.out.now → Ready tables c.args.places bytes = (λ bytes same. ready_kept tables same c.requires) in
+    (in_order tables (ready _ (c.put_cpi.auto.out ∙ c.put_programs.auto.out ∙ c.put_sequences.auto.out ∙ c.put_head.auto.out))).room
 
 pub returns : goal.returns
 unfolding clip_in

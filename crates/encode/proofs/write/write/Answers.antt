@@ -18,8 +18,8 @@ pub overflow_add-len : goal.overflow_add-len
 overflow_add-len c =
     let tables : ClipTables = let a = c.args in
     stated_tables (scalars_by a.info) a.rows a.atcs.now a.stcs.now a.programs.now a.streams.now a.maps.now a.entries.now in
-    let none : refusal_in tables ≡ 0 = none_told (refusal_in (tables m)) (clip_in (tables m)) c.measure.ensures c.in-Places.is in
-    let placed : (bytes : ℕ) → let at = c.in-Places.places in at.marks + 6 ≤ bytes → Placed (clip_in tables) at.programs at.cpi at.marks bytes = (λ bytes room. placed_told (refusal_in (tables m)) (clip_in (tables m)) c.measure.ensures bytes c.in-Places.is room) in
+    let none : refusal_in tables ≡ 0 = none_told (refusal_in tables) (clip_in tables) c.measure.ensures c.in-Places.is in
+    let placed : (bytes : ℕ) → let at = c.in-Places.places in at.marks + 6 ≤ bytes → Placed (clip_in tables) at.programs at.cpi at.marks bytes = (λ bytes room. placed_told (refusal_in tables) (clip_in tables) c.measure.ensures bytes c.in-Places.is room) in
     let marked : c.in-Places.places.marks ≡ marks_place (clip_in tables) = (placed (c.in-Places.places.marks + 6) (omega arith)).marks_at in
     record { fits = omega (arith, marked, marks_bound tables none) }
 
@@ -29,18 +29,18 @@ returns-then-out-len c =
     let tables : ClipTables = let a = c.args in
     stated_tables (scalars_by a.info) a.rows a.atcs.now a.stcs.now a.programs.now a.streams.now a.maps.now a.entries.now in
     let output : List ℕ = c.args.out.now in
-    let none : refusal_in tables ≡ 0 = none_told (refusal_in (tables m)) (clip_in (tables m)) c.measure.ensures c.in-Places.is in
-    let placed : (bytes : ℕ) → let at = c.in-Places.places in at.marks + 6 ≤ bytes → Placed (clip_in tables) at.programs at.cpi at.marks bytes = (λ bytes room. placed_told (refusal_in (tables m)) (clip_in (tables m)) c.measure.ensures bytes c.in-Places.is room) in
+    let none : refusal_in tables ≡ 0 = none_told (refusal_in tables) (clip_in tables) c.measure.ensures c.in-Places.is in
+    let placed : (bytes : ℕ) → let at = c.in-Places.places in at.marks + 6 ≤ bytes → Placed (clip_in tables) at.programs at.cpi at.marks bytes = (λ bytes room. placed_told (refusal_in tables) (clip_in tables) c.measure.ensures bytes c.in-Places.is room) in
     let marked : c.in-Places.places.marks ≡ marks_place (clip_in tables) = (placed (c.in-Places.places.marks + 6) (omega arith)).marks_at in
-    record { result_value = answer_short (refusal_in (tables m)) (clip_in (tables m)) (output m) none marked (omega arith); out_after = refl }
+    record { result_value = answer_short (refusal_in tables) (clip_in tables) output none marked (omega arith); out_after = refl }
 
 pub put_sections-requires : goal.put_sections-requires
 put_sections-requires c =
     let output : List ℕ = c.args.out.now in
     let tables : ClipTables = let a = c.args in
     stated_tables (scalars_by a.info) a.rows a.atcs.now a.stcs.now a.programs.now a.streams.now a.maps.now a.entries.now in
-    let none : refusal_in tables ≡ 0 = none_told (refusal_in (tables m)) (clip_in (tables m)) c.measure.ensures c.in-Places.is in
-    let placed : (bytes : ℕ) → let at = c.in-Places.places in at.marks + 6 ≤ bytes → Placed (clip_in tables) at.programs at.cpi at.marks bytes = (λ bytes room. placed_told (refusal_in (tables m)) (clip_in (tables m)) c.measure.ensures bytes c.in-Places.is room) in
+    let none : refusal_in tables ≡ 0 = none_told (refusal_in tables) (clip_in tables) c.measure.ensures c.in-Places.is in
+    let placed : (bytes : ℕ) → let at = c.in-Places.places in at.marks + 6 ≤ bytes → Placed (clip_in tables) at.programs at.cpi at.marks bytes = (λ bytes room. placed_told (refusal_in tables) (clip_in tables) c.measure.ensures bytes c.in-Places.is room) in
     record { writable = none; placed = placed (length output) (omega arith) }
 
 pub returns-in-Refused : goal.returns-in-Refused
@@ -57,8 +57,8 @@ returns-else-out-len c =
     let tables : ClipTables = let a = c.args in
     stated_tables (scalars_by a.info) a.rows a.atcs.now a.stcs.now a.programs.now a.streams.now a.maps.now a.entries.now in
     let output : List ℕ = c.args.out.now in
-    let none : refusal_in tables ≡ 0 = none_told (refusal_in (tables m)) (clip_in (tables m)) c.measure.ensures c.in-Places.is in
-    let placed : (bytes : ℕ) → let at = c.in-Places.places in at.marks + 6 ≤ bytes → Placed (clip_in tables) at.programs at.cpi at.marks bytes = (λ bytes room. placed_told (refusal_in (tables m)) (clip_in (tables m)) c.measure.ensures bytes c.in-Places.is room) in
+    let none : refusal_in tables ≡ 0 = none_told (refusal_in tables) (clip_in tables) c.measure.ensures c.in-Places.is in
+    let placed : (bytes : ℕ) → let at = c.in-Places.places in at.marks + 6 ≤ bytes → Placed (clip_in tables) at.programs at.cpi at.marks bytes = (λ bytes room. placed_told (refusal_in tables) (clip_in tables) c.measure.ensures bytes c.in-Places.is room) in
     let marked : c.in-Places.places.marks ≡ marks_place (clip_in tables) = (placed (c.in-Places.places.marks + 6) (omega arith)).marks_at in
-    let room : c.in-Places.places.marks + 6 ≤ length (output m) = omega arith in
-    record { result_value = answer_written (refusal_in (tables m)) (clip_in (tables m)) (output m) none marked room; out_after = output_written (refusal_in (tables m)) (clip_in (tables m)) (output m) marked room c.put_sections.ensures }
+    let room : c.in-Places.places.marks + 6 ≤ length output = omega arith in
+    record { result_value = answer_written (refusal_in tables) (clip_in tables) output none marked room; out_after = output_written (refusal_in tables) (clip_in tables) output marked room c.put_sections.ensures }

@@ -40,8 +40,8 @@ pub overflow_mul-programs_at : goal.overflow_mul-programs_at
 overflow_mul-programs_at c =
     let F : List ℕ = c.args.file.now in
     let C : Clip = clip_of F in
-    let is-bytes : IsBytes F = (λ i. (c.shared_slice_known-1.given i).fits) in
-    let sections : SectionsAre F c.in-Counts.atcs c.in-Counts.stcs c.in-Counts.programs c.in-Counts.streams c.in-Counts.maps c.in-Counts.entries = let m : goal.After-measure = search in sections_are F _ _ _ _ _ _ (sym m.measure.ensures ∙ c.in-Counts.is) in
+    let is-bytes : IsBytes F = (λ i. (c.type_inv.file i).fits) in
+    let sections : SectionsAre F c.in-Counts.atcs c.in-Counts.stcs c.in-Counts.programs c.in-Counts.streams c.in-Counts.maps c.in-Counts.entries = sections_are F _ _ _ _ _ _ (sym c.measure.ensures ∙ c.in-Counts.is) in
     let programs_at : 226 + 6 * c.in-Counts.atcs + 14 * c.in-Counts.stcs ≡ programs_place C = omega (arith, sequences_size F is-bytes sections.accepts sections.atcs_are sections.stcs_are, place_programs C) in
     let few : (runs_fit C ≡ true) × (c.in-Bytes.len ≡ length (cpi_bytes C)) =
     runs_pass F c.read-starts.ensures.cpi c.cpi_length.ensures c.in-Bytes.is in
@@ -53,8 +53,8 @@ pub overflow_add-programs_at : goal.overflow_add-programs_at
 overflow_add-programs_at c =
     let F : List ℕ = c.args.file.now in
     let C : Clip = clip_of F in
-    let is-bytes : IsBytes F = (λ i. (c.shared_slice_known-1.given i).fits) in
-    let sections : SectionsAre F c.in-Counts.atcs c.in-Counts.stcs c.in-Counts.programs c.in-Counts.streams c.in-Counts.maps c.in-Counts.entries = let m : goal.After-measure = search in sections_are F _ _ _ _ _ _ (sym m.measure.ensures ∙ c.in-Counts.is) in
+    let is-bytes : IsBytes F = (λ i. (c.type_inv.file i).fits) in
+    let sections : SectionsAre F c.in-Counts.atcs c.in-Counts.stcs c.in-Counts.programs c.in-Counts.streams c.in-Counts.maps c.in-Counts.entries = sections_are F _ _ _ _ _ _ (sym c.measure.ensures ∙ c.in-Counts.is) in
     let programs_at : 226 + 6 * c.in-Counts.atcs + 14 * c.in-Counts.stcs ≡ programs_place C = omega (arith, sequences_size F is-bytes sections.accepts sections.atcs_are sections.stcs_are, place_programs C) in
     let few : (runs_fit C ≡ true) × (c.in-Bytes.len ≡ length (cpi_bytes C)) =
     runs_pass F c.read-starts.ensures.cpi c.cpi_length.ensures c.in-Bytes.is in
@@ -66,8 +66,8 @@ pub overflow_mul-programs_at-in-Counts : goal.overflow_mul-programs_at-in-Counts
 overflow_mul-programs_at-in-Counts c =
     let F : List ℕ = c.args.file.now in
     let C : Clip = clip_of F in
-    let is-bytes : IsBytes F = (λ i. (c.shared_slice_known-1.given i).fits) in
-    let sections : SectionsAre F c.in-Counts.atcs c.in-Counts.stcs c.in-Counts.programs c.in-Counts.streams c.in-Counts.maps c.in-Counts.entries = let m : goal.After-measure = search in sections_are F _ _ _ _ _ _ (sym m.measure.ensures ∙ c.in-Counts.is) in
+    let is-bytes : IsBytes F = (λ i. (c.type_inv.file i).fits) in
+    let sections : SectionsAre F c.in-Counts.atcs c.in-Counts.stcs c.in-Counts.programs c.in-Counts.streams c.in-Counts.maps c.in-Counts.entries = sections_are F _ _ _ _ _ _ (sym c.measure.ensures ∙ c.in-Counts.is) in
     let programs_at : 226 + 6 * c.in-Counts.atcs + 14 * c.in-Counts.stcs ≡ programs_place C = omega (arith, sequences_size F is-bytes sections.accepts sections.atcs_are sections.stcs_are, place_programs C) in
     let few : (runs_fit C ≡ true) × (c.in-Bytes.len ≡ length (cpi_bytes C)) =
     runs_pass F c.read-starts.ensures.cpi c.cpi_length.ensures c.in-Bytes.is in
@@ -79,8 +79,8 @@ pub overflow_add-programs_at-in-Counts : goal.overflow_add-programs_at-in-Counts
 overflow_add-programs_at-in-Counts c =
     let F : List ℕ = c.args.file.now in
     let C : Clip = clip_of F in
-    let is-bytes : IsBytes F = (λ i. (c.shared_slice_known-1.given i).fits) in
-    let sections : SectionsAre F c.in-Counts.atcs c.in-Counts.stcs c.in-Counts.programs c.in-Counts.streams c.in-Counts.maps c.in-Counts.entries = let m : goal.After-measure = search in sections_are F _ _ _ _ _ _ (sym m.measure.ensures ∙ c.in-Counts.is) in
+    let is-bytes : IsBytes F = (λ i. (c.type_inv.file i).fits) in
+    let sections : SectionsAre F c.in-Counts.atcs c.in-Counts.stcs c.in-Counts.programs c.in-Counts.streams c.in-Counts.maps c.in-Counts.entries = sections_are F _ _ _ _ _ _ (sym c.measure.ensures ∙ c.in-Counts.is) in
     let programs_at : 226 + 6 * c.in-Counts.atcs + 14 * c.in-Counts.stcs ≡ programs_place C = omega (arith, sequences_size F is-bytes sections.accepts sections.atcs_are sections.stcs_are, place_programs C) in
     let few : (runs_fit C ≡ true) × (c.in-Bytes.len ≡ length (cpi_bytes C)) =
     runs_pass F c.read-starts.ensures.cpi c.cpi_length.ensures c.in-Bytes.is in
@@ -98,11 +98,10 @@ pub overflow_add-cpi_at : goal.overflow_add-cpi_at
 overflow_add-cpi_at c =
     let F : List ℕ = c.args.file.now in
     let C : Clip = clip_of F in
-    let is-bytes : IsBytes F = (λ i. (c.shared_slice_known-1.given i).fits) in
+    let is-bytes : IsBytes F = (λ i. (c.type_inv.file i).fits) in
     let sections : SectionsAre F c.in-Counts.atcs c.in-Counts.stcs c.in-Counts.programs c.in-Counts.streams c.in-Counts.maps c.in-Counts.entries = sections_are F _ _ _ _ _ _ (sym c.measure.ensures ∙ c.in-Counts.is) in
     let programs_at : 226 + 6 * c.in-Counts.atcs + 14 * c.in-Counts.stcs ≡ programs_place C = omega (arith, sequences_size F is-bytes sections.accepts sections.atcs_are sections.stcs_are, place_programs C) in
-    let few : (runs_fit C ≡ true) × (c.in-Bytes.len ≡ length (cpi_bytes C)) = let r : goal.After-read-starts = search in
-    runs_pass F r.read-starts.ensures.cpi c.cpi_length.ensures c.in-Bytes.is in
+    let few : (runs_fit C ≡ true) × (c.in-Bytes.len ≡ length (cpi_bytes C)) = runs_pass F c.read-starts.ensures.cpi c.cpi_length.ensures c.in-Bytes.is in
     let none_here : rewrite_refusal F ≡ 0 = none F sections.accepts few.0 in
     let short : programs_place C + length (programs_bytes C) + c.in-Bytes.len + 6 ≤ 402515706 = omega (arith, few.1, marks_short F is-bytes none_here, place_cpi C, place_marks C) in
     let own : c.programs_length.result ≡ length (programs_bytes C) = programs_size F c.read-starts.ensures.programs c.programs_length.ensures in record { fits = omega (arith, short, programs_at, own) }
@@ -111,11 +110,10 @@ pub overflow_add-marks_at : goal.overflow_add-marks_at
 overflow_add-marks_at c =
     let F : List ℕ = c.args.file.now in
     let C : Clip = clip_of F in
-    let is-bytes : IsBytes F = (λ i. (c.shared_slice_known-1.given i).fits) in
+    let is-bytes : IsBytes F = (λ i. (c.type_inv.file i).fits) in
     let sections : SectionsAre F c.in-Counts.atcs c.in-Counts.stcs c.in-Counts.programs c.in-Counts.streams c.in-Counts.maps c.in-Counts.entries = sections_are F _ _ _ _ _ _ (sym c.measure.ensures ∙ c.in-Counts.is) in
     let programs_at : 226 + 6 * c.in-Counts.atcs + 14 * c.in-Counts.stcs ≡ programs_place C = omega (arith, sequences_size F is-bytes sections.accepts sections.atcs_are sections.stcs_are, place_programs C) in
-    let few : (runs_fit C ≡ true) × (c.in-Bytes.len ≡ length (cpi_bytes C)) = let r : goal.After-read-starts = search in
-    runs_pass F r.read-starts.ensures.cpi c.cpi_length.ensures c.in-Bytes.is in
+    let few : (runs_fit C ≡ true) × (c.in-Bytes.len ≡ length (cpi_bytes C)) = runs_pass F c.read-starts.ensures.cpi c.cpi_length.ensures c.in-Bytes.is in
     let none_here : rewrite_refusal F ≡ 0 = none F sections.accepts few.0 in
     let short : programs_place C + length (programs_bytes C) + c.in-Bytes.len + 6 ≤ 402515706 = omega (arith, few.1, marks_short F is-bytes none_here, place_cpi C, place_marks C) in
     let own : c.programs_length.result ≡ length (programs_bytes C) = programs_size F c.read-starts.ensures.programs c.programs_length.ensures in record { fits = omega (arith, short, programs_at, own) }
@@ -128,15 +126,11 @@ pub returns-in-Bytes : goal.returns-in-Bytes
 returns-in-Bytes c =
     let F : List ℕ = c.args.file.now in
     let C : Clip = clip_of F in
-    let sections : SectionsAre F c.in-Counts.atcs c.in-Counts.stcs c.in-Counts.programs c.in-Counts.streams c.in-Counts.maps c.in-Counts.entries = let m : goal.After-measure = search in sections_are F _ _ _ _ _ _ (sym m.measure.ensures ∙ c.in-Counts.is) in
-    let is-bytes : IsBytes F = (λ i. (c.shared_slice_known-1.given i).fits) in
+    let sections : SectionsAre F c.in-Counts.atcs c.in-Counts.stcs c.in-Counts.programs c.in-Counts.streams c.in-Counts.maps c.in-Counts.entries = sections_are F _ _ _ _ _ _ (sym c.measure.ensures ∙ c.in-Counts.is) in
+    let is-bytes : IsBytes F = (λ i. (c.type_inv.file i).fits) in
     let programs_at : 226 + 6 * c.in-Counts.atcs + 14 * c.in-Counts.stcs ≡ programs_place C = omega (arith, sequences_size F is-bytes sections.accepts sections.atcs_are sections.stcs_are, place_programs C) in
-    let few : (runs_fit C ≡ true) × (c.in-Bytes.len ≡ length (cpi_bytes C)) = let r : goal.After-read-starts = search in
-    runs_pass F r.read-starts.ensures.cpi c.cpi_length.ensures c.in-Bytes.is in
+    let few : (runs_fit C ≡ true) × (c.in-Bytes.len ≡ length (cpi_bytes C)) = runs_pass F c.read-starts.ensures.cpi c.cpi_length.ensures c.in-Bytes.is in
     let none_here : rewrite_refusal F ≡ 0 = none F sections.accepts few.0 in
     let own : c.programs_length.result ≡ length (programs_bytes C) = programs_size F c.read-starts.ensures.programs c.programs_length.ensures in
-    let p : goal.After-programs_length = search in
-    let m = M p in
-    let k = K m in
     let at = sections in
-    planned_by F (none_here m) at.atcs_are at.stcs_are at.maps_are programs_at (omega (arith, programs_at, own, place_cpi C)) (omega (arith, programs_at, own, (few m).1, place_cpi C, place_marks C))
+    planned_by F none_here at.atcs_are at.stcs_are at.maps_are programs_at (omega (arith, programs_at, own, place_cpi C)) (omega (arith, programs_at, own, few.1, place_cpi C, place_marks C))

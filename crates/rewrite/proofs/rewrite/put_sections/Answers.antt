@@ -14,85 +14,84 @@ use Rattle.rewrite.proofs.rewrite.put_sections.Goals as goal
 pub read-starts-requires : goal.read-starts-requires
 read-starts-requires c =
     let F : List ℕ = c.args.file.now in
-    let is-bytes : IsBytes F = (λ i. (c.shared_slice_known-1.given i).fits) in
+    let is-bytes : IsBytes F = (λ i. (c.type_inv.file i).fits) in
     let long : 194 ≤ length F = (accepted_bounds F (accepted F is-bytes c.requires)).1 in omega (arith, long)
 
 pub clip_info-requires : goal.clip_info-requires
 clip_info-requires c =
     let F : List ℕ = c.args.file.now in
-    let is-bytes : IsBytes F = (λ i. (c.shared_slice_known-1.given i).fits) in
+    let is-bytes : IsBytes F = (λ i. (c.type_inv.file i).fits) in
     let long : 194 ≤ length F = (accepted_bounds F (accepted F is-bytes c.requires)).1 in long
 
 pub overflow_cast-programs_at : goal.overflow_cast-programs_at
 overflow_cast-programs_at c =
     let F : List ℕ = c.args.file.now in
-    let is-bytes : IsBytes F = (λ i. (c.shared_slice_known-1.given i).fits) in
+    let is-bytes : IsBytes F = (λ i. (c.type_inv.file i).fits) in
     let order : InOrder c.args.programs_at c.args.cpi_at c.args.marks_at (length c.args.out.now) = in_order F is-bytes c.requires in record { fits = omega (arith, order) }
 
 pub overflow_cast-cpi_at : goal.overflow_cast-cpi_at
 overflow_cast-cpi_at c =
     let F : List ℕ = c.args.file.now in
-    let is-bytes : IsBytes F = (λ i. (c.shared_slice_known-1.given i).fits) in
+    let is-bytes : IsBytes F = (λ i. (c.type_inv.file i).fits) in
     let order : InOrder c.args.programs_at c.args.cpi_at c.args.marks_at (length c.args.out.now) = in_order F is-bytes c.requires in record { fits = omega (arith, order) }
 
 pub overflow_cast-marks_at : goal.overflow_cast-marks_at
 overflow_cast-marks_at c =
     let F : List ℕ = c.args.file.now in
-    let is-bytes : IsBytes F = (λ i. (c.shared_slice_known-1.given i).fits) in
+    let is-bytes : IsBytes F = (λ i. (c.type_inv.file i).fits) in
     let order : InOrder c.args.programs_at c.args.cpi_at c.args.marks_at (length c.args.out.now) = in_order F is-bytes c.requires in record { fits = omega (arith, order) }
 
 pub put_head-requires : goal.put_head-requires
 put_head-requires c =
     let F : List ℕ = c.args.file.now in
-    let is-bytes : IsBytes F = (λ i. (c.shared_slice_known-1.given i).fits) in
+    let is-bytes : IsBytes F = (λ i. (c.type_inv.file i).fits) in
     let order : InOrder c.args.programs_at c.args.cpi_at c.args.marks_at (length c.args.out.now) = in_order F is-bytes c.requires in omega (arith, order)
 
 pub put_sequences-requires : goal.put_sequences-requires
 put_sequences-requires c =
     let F : List ℕ = c.args.file.now in
-    let is-bytes : IsBytes F = (λ i. (c.shared_slice_known-1.given i).fits) in
-    sequences_room (F n) (is-bytes n) (S n).pre _ c.read-starts.ensures.sequences c.put_head.kept.1.1.1.1.0
+    let is-bytes : IsBytes F = (λ i. (c.type_inv.file i).fits) in
+    sequences_room F is-bytes c.requires _ c.read-starts.ensures.sequences c.put_head.auto.out
 
 pub overflow_sub-cpi_at : goal.overflow_sub-cpi_at
 overflow_sub-cpi_at c =
     let F : List ℕ = c.args.file.now in
-    let is-bytes : IsBytes F = (λ i. (c.shared_slice_known-1.given i).fits) in
+    let is-bytes : IsBytes F = (λ i. (c.type_inv.file i).fits) in
     let order : InOrder c.args.programs_at c.args.cpi_at c.args.marks_at (length c.args.out.now) = in_order F is-bytes c.requires in
     order.sequences
 
 pub put_programs-requires : goal.put_programs-requires
 put_programs-requires c =
     let F : List ℕ = c.args.file.now in
-    let is-bytes : IsBytes F = (λ i. (c.shared_slice_known-1.given i).fits) in
-    programs_room (F n) (is-bytes n) (S n).pre _ c.read-starts.ensures.programs (c.put_sequences.kept.1.1.1.1.0 ∙ c.put_head.kept.1.1.1.1.0)
+    let is-bytes : IsBytes F = (λ i. (c.type_inv.file i).fits) in
+    programs_room F is-bytes c.requires _ c.read-starts.ensures.programs (c.put_sequences.auto.out ∙ c.put_head.auto.out)
 
 pub overflow_sub-marks_at : goal.overflow_sub-marks_at
 overflow_sub-marks_at c =
     let F : List ℕ = c.args.file.now in
-    let is-bytes : IsBytes F = (λ i. (c.shared_slice_known-1.given i).fits) in
+    let is-bytes : IsBytes F = (λ i. (c.type_inv.file i).fits) in
     let order : InOrder c.args.programs_at c.args.cpi_at c.args.marks_at (length c.args.out.now) = in_order F is-bytes c.requires in
     order.programs_end_lem
 
 pub put_cpi-requires : goal.put_cpi-requires
 put_cpi-requires c =
     let F : List ℕ = c.args.file.now in
-    let is-bytes : IsBytes F = (λ i. (c.shared_slice_known-1.given i).fits) in
-    cpi_room (F n) (is-bytes n) (S n).pre _ c.read-starts.ensures.cpi (c.put_programs.kept.1.1.1.0 ∙ c.put_sequences.kept.1.1.1.1.0 ∙ c.put_head.kept.1.1.1.1.0)
+    let is-bytes : IsBytes F = (λ i. (c.type_inv.file i).fits) in
+    cpi_room F is-bytes c.requires _ c.read-starts.ensures.cpi (c.put_programs.auto.out ∙ c.put_sequences.auto.out ∙ c.put_head.auto.out)
 
 pub put_marks-requires : goal.put_marks-requires
 put_marks-requires c =
     let F : List ℕ = c.args.file.now in
-    let is-bytes : IsBytes F = (λ i. (c.shared_slice_known-1.given i).fits) in
+    let is-bytes : IsBytes F = (λ i. (c.type_inv.file i).fits) in
     let order : InOrder c.args.programs_at c.args.cpi_at c.args.marks_at (length c.args.out.now) = in_order F is-bytes c.requires in
-    let same = c.put_cpi.kept.1.1.1.1.0 ∙ c.put_programs.kept.1.1.1.0 ∙ c.put_sequences.kept.1.1.1.1.0 ∙ c.put_head.kept.1.1.1.1.0 in
+    let same = c.put_cpi.auto.out ∙ c.put_programs.auto.out ∙ c.put_sequences.auto.out ∙ c.put_head.auto.out in
     omega (arith, same, order.room)
 
 pub returns : goal.returns
 unfolding clip_of
 returns c =
     let F : List ℕ = c.args.file.now in
-    let s = S n in
-    let f = F n in
+    let f = F in
     let at = c.read-starts.ensures in
-    placed_stored (clip_of f) s.pre.placed s.args.out.now (stored_as _ 0 c.put_head.ensures (head_in f _ _ _ c.clip_info.ensures)) (stored_as _ 220 c.put_sequences.ensures.out_after (sequences_in f at.sequences))
-    (stored_as _ s.args.programs_at c.put_programs.ensures.out_after (programs_in f at.programs)) (stored_as _ s.args.cpi_at c.put_cpi.ensures.out_after (cpi_in_lem f at.cpi)) c.put_marks.ensures
+    placed_stored (clip_of f) c.requires.placed c.args.out.now (stored_as _ 0 c.put_head.ensures (head_in f _ _ _ c.clip_info.ensures)) (stored_as _ 220 c.put_sequences.ensures.out_after (sequences_in f at.sequences))
+    (stored_as _ c.args.programs_at c.put_programs.ensures.out_after (programs_in f at.programs)) (stored_as _ c.args.cpi_at c.put_cpi.ensures.out_after (cpi_in_lem f at.cpi)) c.put_marks.ensures

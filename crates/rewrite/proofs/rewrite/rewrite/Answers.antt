@@ -15,7 +15,7 @@ overflow_add-len c =
     let F : List ℕ = c.args.file.now in
     let ready : (size : ℕ) → c.in-Places.marks + 6 ≤ size → Ready F c.in-Places.atcs c.in-Places.stcs c.in-Places.maps c.in-Places.programs c.in-Places.cpi c.in-Places.marks size = (λ size room. ready_told F c.plan.ensures size c.in-Places.is room) in
     let r = ready (c.in-Places.marks + 6) (omega arith) in
-    record { fits = omega (arith, r.placed.marks_at, marks_short F (λ i. (c.shared_slice_known-1.given i).fits) r.rewritable) }
+    record { fits = omega (arith, r.placed.marks_at, marks_short F (λ i. (c.type_inv.file i).fits) r.rewritable) }
 
 pub returns-then-out-len : goal.returns-then-out-len
 unfolding rewrite_answer

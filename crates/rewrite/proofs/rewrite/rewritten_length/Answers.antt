@@ -10,7 +10,7 @@ pub overflow_add-bytes : goal.overflow_add-bytes
 overflow_add-bytes c =
     let F : List ℕ = c.args.file.now in
     let ready : Ready F c.in-Places.atcs c.in-Places.stcs c.in-Places.maps c.in-Places.programs c.in-Places.cpi c.in-Places.marks (c.in-Places.marks + 6) = ready_told F c.plan.ensures _ c.in-Places.is (omega arith) in
-    record { fits = omega (arith, ready.placed.marks_at, marks_short F (λ i. (c.shared_slice_known-1.given i).fits) ready.rewritable) }
+    record { fits = omega (arith, ready.placed.marks_at, marks_short F (λ i. (c.type_inv.file i).fits) ready.rewritable) }
 
 pub returns-in-Refused : goal.returns-in-Refused
 returns-in-Refused c =
