@@ -13,4 +13,4 @@ writing_of-requires c =
 pub returns : goal.returns
 returns c =
     let e = c.rewrite.ensures in
-    record { result_value = c.writing_of.ensures ∙ ap write_numbers e.0; output_after = e.1 ∙ ap (λ x. output_by x (encode (clip_of c.args.file.now)) c.args.output.now) e.0 }
+    record { result_value = c.writing_of.ensures ∙ ap write_numbers e.result_value; output_after = e.out_after ∙ ap (λ x. output_by x (encode (clip_of c.args.file.now)) c.args.output.now) e.result_value }

@@ -20,4 +20,4 @@ returns c =
     let tables : ClipTables = let a = c.args in
     tables_with (scalars_by a.info) (stated a.atcs.now a.atc_rows) (stated a.stcs.now a.stc_rows) (stated a.programs.now a.program_rows) (stated a.streams.now a.stream_rows) (stated a.maps.now a.map_rows) (stated a.entries.now a.entry_rows) in
     let e = c.write.ensures in
-    record { result_value = c.writing_of.ensures ∙ ap write_numbers e.0; output_after = e.1 ∙ ap (λ x. output_by x (encode (clip_in tables)) c.args.output.now) e.0 }
+    record { result_value = c.writing_of.ensures ∙ ap write_numbers e.result_value; output_after = e.out_after ∙ ap (λ x. output_by x (encode (clip_in tables)) c.args.output.now) e.result_value }
