@@ -23,7 +23,7 @@ STRICT = -std=c99 -Wall -Wextra -Wpedantic -Werror
 
 library = target/staticlib/libclpi.a
 lister = target/bin/list_clip
-rattle = crates.txt $(shell find crates -name '*.rt' -o -name '*.antt')
+rattle = crates.txt $(shell find crates -name out -prune -o \( -name '*.rt' -o -name '*.antt' \) -print)
 examples = $(notdir $(wildcard examples/*.c examples/*.h))
 sources = tools/clip.c tools/list.h tools/minutes.h tools/words.h examples/clip_file.h examples/new_file.h include/clpi.h
 

@@ -11,7 +11,7 @@ import sys
 from pathlib import Path
 
 HERE = Path(__file__).resolve().parent
-KIT = {"io", "libc", "os"}
+KIT = {"anyhow", "thiserror"}
 # Table cells; the bytes of a new file; text.
 STORES = {"cells", "numbers", "text_lines"}
 
@@ -26,8 +26,8 @@ LAYERS = [
         ("both forms of an entry lookup", "entry_theorems"),
     ]),
     ("for C", [
-        ("libclpi.a, include/clpi.h", "clpi clpi_answers clpi_reading clpi_writing"),
-        ("lookups over a row of records", "ep_entry_queries ep_entry_steps"),
+        ("libclpi.a, include/clpi.h", "clpi_c clpi clpi_answers clpi_reading clpi_writing"),
+        ("lookups over a row of records", "ep_entry_queries_c ep_entry_queries ep_entry_steps"),
     ]),
     ("whole files", [
         ("reading", "clip_information clip_prepare clip_sections nine_tables"),
@@ -64,7 +64,7 @@ def crates():
     for line in (HERE.parent / "crates.txt").read_text().splitlines():
         if line.strip() and not line.startswith("#"):
             name, _, behind = line.partition(":")
-            found[name.strip()] = [d for d in behind.split() if d not in KIT]
+            found[name.split()[0]] = [d for d in behind.split() if d not in KIT]
     return found
 
 

@@ -1,4 +1,4 @@
-//! Links the static libraries that `rt staticlib` makes: of the C interface, and of the lookups over a row of records.
+//! Links the static libraries that `tools/build staticlib` makes: of the C interface, and of the lookups over a row of records.
 
 use std::env;
 use std::path::Path;

@@ -1,5 +1,5 @@
-/* The listing: made by the listing program, which reads standard input and has no exit status but 0. Here it gets its
- * file, and what it writes is looked at, so that a status can tell how it went. */
+/* The listing: made by the listing program, which reads standard input and ends with 0 unless a read or a write fails.
+ * Here it gets its file, and what it writes is looked at too, so that a status can tell how it went. */
 #ifndef LIST_H
 #define LIST_H
 

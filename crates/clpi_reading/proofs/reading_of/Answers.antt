@@ -8,7 +8,6 @@ use Rattle.clpi_reading.proofs.reading_of.Goals as goal
 
 pub overflow_cast-rows : goal.overflow_cast-rows
 overflow_cast-rows c =
-    let fits : RowsFit c.in-Accepted.rows = rw c.in-Accepted.is at c.requires in
     let few : c.in-TooShort.rows ≤ 66846465 = rw c.in-TooShort.is at c.requires in
     record { fits = omega arith }
 

@@ -15,6 +15,7 @@ use Rattle.replay_case.proofs.FileLaws.{ends_same, refused_alone, extensions_hel
 use Rattle.replay_case.proofs.is_same.Goals as goal
 
 pub returns-then-r-ne0 : goal.returns-then-r-ne0
+unfolding sample_tables
 returns-then-r-ne0 c =
     let small : length c.args.answer.now < no_place = search rules in
     let F : List ℕ = c.args.file.now in
@@ -25,44 +26,46 @@ returns-then-r-ne0 c =
     rw (c.pass_numbers.ensures, alone) (ends_same A (row_bytes_of (1 ∷ [])) small)
 
 pub pass_extensions-requires : goal.pass_extensions-requires
+unfolding sample_tables
 pass_extensions-requires c =
     let F : List ℕ = c.args.file.now in
-    let bytes : IsBytes F = (λ i. (c.shared_slice_known-1.given i).fits) in
+    let bytes : IsBytes F = (λ i. (c.type_inv.file i).fits) in
     let R : ClpiReading = c.clpi_read-r.result in
-    let T : Nine (List ℕ) = let l = c.clpi_read-r.last in
-    record {
-      atcs = l.1.0;
-      stcs = l.1.1.0;
-      programs = l.1.1.1.0;
-      streams = l.1.1.1.1.0;
-      maps = l.1.1.1.1.1.0;
-      entries = l.1.1.1.1.1.1.0;
-      extensions = l.1.1.1.1.1.1.1.0;
-      list_programs = l.1.1.1.1.1.1.1.1.0;
-      list_streams = l.1.1.1.1.1.1.1.1.1.0;
+    let n = c.clpi_read-r.new in
+    let T : Nine (List ℕ) = record {
+      atcs = n.atcs;
+      stcs = n.stcs;
+      programs = n.programs;
+      streams = n.streams;
+      maps = n.maps;
+      entries = n.entries;
+      extensions = n.extensions;
+      list_programs = n.programs2;
+      list_streams = n.streams2;
     } in
     let numbers : reading_numbers R ≡ read_numbers (read_answer F sample_tables) = c.clpi_read-r.ensures.result_value in
     let after : T ≡ tables_after F sample_tables = c.clpi_read-r.ensures.streams2_after in
     extensions_held F bytes R T numbers after c.if-r-ne0.false
 
 pub returns : goal.returns
+unfolding sample_tables
 returns c =
     let small : length c.args.answer.now < no_place = search rules in
     let F : List ℕ = c.args.file.now in
     let A : List ℕ = c.args.answer.now in
-    let bytes : IsBytes F = (λ i. (c.shared_slice_known-1.given i).fits) in
+    let bytes : IsBytes F = (λ i. (c.type_inv.file i).fits) in
     let R : ClpiReading = c.clpi_read-r.result in
-    let T : Nine (List ℕ) = let l = c.clpi_read-r.last in
-    record {
-      atcs = l.1.0;
-      stcs = l.1.1.0;
-      programs = l.1.1.1.0;
-      streams = l.1.1.1.1.0;
-      maps = l.1.1.1.1.1.0;
-      entries = l.1.1.1.1.1.1.0;
-      extensions = l.1.1.1.1.1.1.1.0;
-      list_programs = l.1.1.1.1.1.1.1.1.0;
-      list_streams = l.1.1.1.1.1.1.1.1.1.0;
+    let n = c.clpi_read-r.new in
+    let T : Nine (List ℕ) = record {
+      atcs = n.atcs;
+      stcs = n.stcs;
+      programs = n.programs;
+      streams = n.streams;
+      maps = n.maps;
+      entries = n.entries;
+      extensions = n.extensions;
+      list_programs = n.programs2;
+      list_streams = n.streams2;
     } in
     let numbers : reading_numbers R ≡ read_numbers (read_answer F sample_tables) = c.clpi_read-r.ensures.result_value in
     let after : T ≡ tables_after F sample_tables = c.clpi_read-r.ensures.streams2_after in

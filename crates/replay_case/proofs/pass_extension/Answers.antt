@@ -6,4 +6,4 @@ use Rattle.replay_case.proofs.pass_extension.Goals as goal
 pub returns : goal.returns
 returns c =
     let a = c.args in
-    one_extension a.file.now a.table.now (λ i. (c.shared_slice_known-3-1.given i).fits) a.rows a.row c.requires.0 c.requires.1 a.answer.now a.at (search rules) c.pass-ids.ensures c.pass-length.ensures c.«data».ensures c.pass-ids.ensures
+    one_extension a.file.now a.table.now (λ i. (c.type_inv.table i).fits) a.rows a.row c.requires.0 c.requires.1 a.answer.now a.at (search rules) c.pass-ids.ensures c.pass-length.ensures c.data-data.ensures c.pass.ensures

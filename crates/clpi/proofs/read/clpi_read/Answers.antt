@@ -14,7 +14,7 @@ reading_of-requires c =
     let F : List ℕ = c.args.file.now in
     let T : Nine (List ℕ) = let a = c.args in
     nine_tables_of a.atcs.now a.stcs.now a.programs.now a.streams.now a.maps.now a.entries.now a.extensions.now a.programs2.now a.streams2.now in
-    let bytes : IsBytes F = (λ i. (c.shared_slice_known-1.given i).fits) in
+    let bytes : IsBytes F = (λ i. (c.type_inv.file i).fits) in
     counts_fit F bytes T c.read.result c.read.ensures.result_value
 
 pub returns : goal.returns
@@ -23,8 +23,11 @@ returns c =
     let T : Nine (List ℕ) = let a = c.args in
     nine_tables_of a.atcs.now a.stcs.now a.programs.now a.streams.now a.maps.now a.entries.now a.extensions.now a.programs2.now a.streams2.now in
     let e = c.read.ensures in
-    let l = c.read.last in record {
-      result_value = c.reading_of.ensures ∙ ap read_numbers e.0;
-      streams2_after = tables_are F T (nine_tables_of l.1.0 l.1.1.0 l.1.1.1.0 l.1.1.1.1.0 l.1.1.1.1.1.0 l.1.1.1.1.1.1.0 l.1.1.1.1.1.1.1.0 l.1.1.1.1.1.1.1.1.0 l.1.1.1.1.1.1.1.1.1.0) c.read.result e.0
-          e.1.0 e.1.1.0 e.1.1.1.0 e.1.1.1.1.0 e.1.1.1.1.1.0 e.1.1.1.1.1.1.0 e.1.1.1.1.1.1.1.0 e.1.1.1.1.1.1.1.1.0 e.1.1.1.1.1.1.1.1.1;
+    let n = c.read.new in
+    let N : Nine (List ℕ) = nine_tables_of n.atcs n.stcs n.programs n.streams n.maps n.entries n.extensions n.programs2 n.streams2 in
+    record {
+      result_value = c.reading_of.ensures ∙ ap read_numbers e.result_value;
+      streams2_after =
+          tables_are F T N c.read.result e.result_value e.atcs_after e.stcs_after e.programs_after e.streams_after e.maps_after e.entries_after
+          e.extensions_after e.programs2_after e.streams2_after;
     }
