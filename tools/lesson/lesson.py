@@ -96,20 +96,20 @@ def is_function(path):
 
 
 CONSTANTS = [
-    ("Ticks", "doubled", "2 * t .ticks"), ("Ticks", "minutes", f"t .ticks / {MINUTE}"), ("Ticks", "later90", "max (a .ticks) (b .ticks)"),
-    ("Questions", "leftOf", "less90 (doubled (stcEnd stc)) (later90 at (doubled (stcStart stc)))"),
-    ("Questions", "durationOf", "less45 (stcEnd stc) (stcStart stc)"), ("Questions", "durationsOf", "plus90 (doubled (durationOf s))"),
-    ("Questions", "minutesLeft", "minutes (plus90 (leftOf stc at) (durationsOf later))"),
-    ("Questions", "answer", "ofStc (c .stcs) stc (λ s. number (minutesLeft s (drop (suc stc) (c .stcs)) at))"),
-    ("Questions", "unless22", "unless22 false answer = refused 22"), ("EntryPoints", "bodyAt", "c + 6 +"),
-    ("EntryPoints", "addressIn", "ltb (bodyAt f c p) (cpiEnd f c)"), ("EntryPoints", "fineAddressIn", "leb (fineStart f c p) (cpiEnd f c)"),
-    ("EntryPoints", "coarseRowsIn", "leb (bodyAt f c p + 4 + 8 * coarseCountAt f p) (length f)"), ("EntryPoints", "fineRowsIn", "leb (fineStart f c p + 4 * fineCountAt f p) (length f)"),
-    ("EntryPoints", "joinTime", "coarse * 524288 % 2 ^ 32"), ("EntryPoints", "joinTime", "fine * 512"),
-    ("EntryPoints", "joinPacket", "coarse / 2 ^ 17 * 2 ^ 17 + fine"), ("Questions", "packetBytes", "4 + 188"),
+    ("Ticks", "doubled", "2 * t.ticks"), ("Ticks", "minutes", f"t.ticks / {MINUTE}"), ("Ticks", "later90", "max a.ticks b.ticks"),
+    ("Questions", "left_of", "less90 (doubled (stc_end stc)) (later90 at (doubled (stc_start stc)))"),
+    ("Questions", "duration_of", "less45 (stc_end stc) (stc_start stc)"), ("Questions", "durations_of", "plus90 (doubled (duration_of s))"),
+    ("Questions", "minutes_left", "minutes (plus90 (left_of stc at) (durations_of later))"),
+    ("Questions", "answer", "of_stc c.stcs stc (λ s. number (minutes_left s (drop (suc stc) c.stcs) at))"),
+    ("Questions", "unless22", "unless22 false answer = refused 22"), ("EntryPoints", "body_at", "c + 6 +"),
+    ("EntryPoints", "address_in", "ltb (body_at f c p) (cpi_end f c)"), ("EntryPoints", "fine_address_in", "leb (fine_start f c p) (cpi_end f c)"),
+    ("EntryPoints", "coarse_rows_in", "leb (body_at f c p + 4 + 8 * coarse_count_at f p) (length f)"), ("EntryPoints", "fine_rows_in", "leb (fine_start f c p + 4 * fine_count_at f p) (length f)"),
+    ("EntryPoints", "join_time", "coarse * 524288 % 2 ^ 32"), ("EntryPoints", "join_time", "fine * 512"),
+    ("EntryPoints", "join_packet", "coarse / 2 ^ 17 * 2 ^ 17 + fine"), ("Questions", "packet_bytes", "4 + 188"),
 ]
 FIELDS = [
-    ("headerWidths", (None, "type", "coarse_count", "fine_count")), ("coarseWidths", ("first", "time", "packet")),
-    ("fineWidths", ("angle", "i_end", "time", "packet")),
+    ("header_widths", (None, "type", "coarse_count", "fine_count")), ("coarse_widths", ("first", "time", "packet")),
+    ("fine_widths", ("angle", "i_end", "time", "packet")),
 ]
 
 

@@ -83,7 +83,7 @@ def packet_block(c, f, packet):
 def map_values(r, root):
     """From the CPI to the map's body."""
     file, cpi, m = r.file, r.starts()[2], r.maps[0]
-    header, at, body, length = widths(root, "headerWidths"), m["at"], m["body"], r.number(cpi, 4, 6)
+    header, at, body, length = widths(root, "header_widths"), m["at"], m["body"], r.number(cpi, 4, 6)
     return {
         "dump_cpi": dump(file, [(cpi, 4, "length"), (cpi + 4, 2, "type"), (cpi + 6, 1, "spare"), (cpi + 7, 1, "number of maps")]),
         "cpi": cpi, "cpi_length": length, "cpi_end": cpi + 4 + length,
@@ -100,9 +100,9 @@ def row_values(r, root):
     c, f = m["coarse"][e["coarse"]], m["fine"][e["k"]]
     return {
         "coarse_example": e["coarse"], "coarse_example_bytes": f"`{hexed(c['bytes'])}` at {c['at']}",
-        "bits_coarse": bits(c["word"], widths(root, "coarseWidths"), ["first fine row", "time", "packet"]),
+        "bits_coarse": bits(c["word"], widths(root, "coarse_widths"), ["first fine row", "time", "packet"]),
         "fine_example": e["k"], "fine_example_bytes": f"`{hexed(f['bytes'])}` at {f['at']}",
-        "bits_fine": bits(f["word"], widths(root, "fineWidths"), ["angle", "I-end", "time", "packet"]),
+        "bits_fine": bits(f["word"], widths(root, "fine_widths"), ["angle", "I-end", "time", "packet"]),
         "coarse_table": coarse_table(r), "fine_table": fine_table(r),
     }
 
