@@ -12,7 +12,7 @@ ShowsFront input old out read len = (read ≤ length input) × Shows old (listin
 -- where the read failed the output is as it was, and where the write failed it shows the listing all the same
 abbrev pub ShowsFailed : List ℕ → List ℕ → List ℕ → ListError → Type 0
 ShowsFailed input old out (ListError.Read e) = out ≡ old
-ShowsFailed input old out (ListError.Write e) = (read : ℕ) × (len : ℕ) × ShowsFront input old out read len
+ShowsFailed input old out (ListError.Write listed e) = ShowsFront input old out listed.read listed.len
 
 -- the output shows the listing of the bytes at the input's front; where the read failed it is as it was
 abbrev pub ShowsInput : List ℕ → List ℕ → List ℕ → Result ListedInput ListError → Type 0

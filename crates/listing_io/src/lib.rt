@@ -21,19 +21,19 @@ pub const INPUT: usize = 65537;
 pub const TEXT: usize = 262144;
 
 // How many bytes were read, and the length of their listing.
-#[derive(Clone, Copy)]
+#[derive(Clone, Copy, Debug)]
 pub struct ListedInput {
     pub read: usize,
     pub len: usize,
 }
 
-// The read that failed, or the write.
+// The read that failed, or the write, with what stands in the buffers all the same.
 #[derive(Debug, Drop, Error)]
 pub enum ListError {
     #[error("reading: {0}")]
     Read(io::Error),
-    #[error("writing: {0}")]
-    Write(io::Error),
+    #[error("writing: {1}")]
+    Write(ListedInput, io::Error),
 }
 
 // Reads to the end, or until the input's buffer is full, and writes the listing of what was read. Both stand in the buffers afterwards. Where a read fails nothing is listed.
@@ -55,8 +55,9 @@ pub fn list_input<R: Read, W: Write>(
         Err(e) => return Err(ListError::Read(e)),
     };
     let len = list(&input[..read], out);
+    let listed = ListedInput { read, len };
     match writer.write_all(&out[..len]) {
-        Ok(()) => Ok(ListedInput { read, len }),
-        Err(e) => Err(ListError::Write(e)),
+        Ok(()) => Ok(listed),
+        Err(e) => Err(ListError::Write(listed, e)),
     }
 }
