@@ -11,7 +11,7 @@ import sys
 from pathlib import Path
 
 HERE = Path(__file__).resolve().parent
-KIT = {"anyhow", "thiserror"}
+KIT = {"anyhow", "itoa", "thiserror"}
 # Table cells; the bytes of a new file; text.
 STORES = {"cells", "numbers", "text_lines"}
 
@@ -39,14 +39,16 @@ LAYERS = [
         ("read", "info_sections sequence_info program_info cpi cpi_fill extension extension_entry"),
         ("written from tables", "encode_sections encode_cpi encode_map limits"),
         ("written from a file", "rewrite_sections rewrite_program rewrite_cpi map_runs"),
-        ("tables, as questions see them", "table_rows row_search nearest queries"),
+        ("a row that is looked for", "row_search nearest"),
     ]),
     ("rows", [
+        ("tables with their stated rows, and what questions answer", "table_rows queries"),
         ("read", "ep_rows ep_entries stream_coding_info"),
         ("written", "row_limits row_values row_bytes section_heads encode_rows runs entry_runs map_rows"),
     ]),
     ("bytes", [
         ("bytes, bits, cells, ticks", "common numbers entry_rows cells bits ticks stream_coding"),
+        ("why something is refused", "refusals"),
     ]),
     ("document 01", [
         ("definitions", "format"),
@@ -86,10 +88,11 @@ def check(depends):
 
 
 def check_stores():
-    """No other crate stores into a slice by its own hand."""
+    """No other crate stores into a slice that it is lent; an array of its own it may fill."""
     for source in sorted((HERE.parent / "crates").glob("*/src/**/*.rt")):
-        crate = source.relative_to(HERE.parent / "crates").parts[0]
-        if crate not in STORES and re.search(r"(?m)^\s*\w+\[[^\]]*\] [-+*/|&^]?= ", source.read_text()):
+        crate, text = source.relative_to(HERE.parent / "crates").parts[0], source.read_text()
+        stores = re.findall(r"(?m)^\s*(?:\w+\.)*(\w+)\[[^\]]*\](?: [-+*/|&^]?= |\.(?:copy_from_slice|fill)\()", text)
+        if crate not in STORES and any(re.search(rf"\b{name}: &", text) or not re.search(rf"let mut {name} = \[", text) for name in stores):
             sys.exit(f"layers: {crate} stores bytes itself, which {', '.join(sorted(STORES))} do for all")
 
 

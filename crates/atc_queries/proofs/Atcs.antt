@@ -1,12 +1,11 @@
 -- STCs through their ATCs: by id while a loop goes over the ATCs, by packet while one goes over the STCs of an ATC, and the tests in front.
 use Prim.Native.Nat.{ℕ, suc, ◌+◌, ◌*◌, ◌-◌, ◌<◌, ◌≤◌}
-use mathlib.Core.Path.{◌≡◌, refl, sym, ◌∙◌}
+use mathlib.Core.Path.{◌≡◌, refl, ◌∙◌}
 use mathlib.Core.List.{List, map}
 use mathlib.Core.Bool.{Bool, true, false}
 use native.Mathlib.Omega.{arith}
 use lib.Dec.{leb, ltb, lit<}
 use lib.ListN.{length}
-use borrow.Author.Tests.{leb-true, le-leb, lt-leb}
 use Rattle.format.specs.Bytes.{both, pick}
 use Rattle.format.specs.ClipRecord.{atc_stc_count, offset_id, stc_packet}
 use Rattle.format.specs.Questions.{stc_sequence_by_id, stc_sequence_for_spn, Answer, refused, none, number, last_where, stc_by_id, stc_by_spn, first_row, own_rows, of_atcs, of_atc, answer, ask}
@@ -20,22 +19,6 @@ use Rattle.table_rows.proofs.Scans.{rows_left, left_all, left_turn, left_done}
 use Rattle.table_rows.proofs.OwnRows.{own_rows_lem, behind_count, behind_tests, tests_fail, tests_pass}
 
 -- ---- by id
-
--- an id below the offset, or so far above it
-pub below_offset : (id offset count : ℕ) → id < offset → false ≡ both (leb offset id) (ltb (id - offset) count)
-below_offset id offset count h = rw (lt-leb offset id h)
-
--- an id from the offset on is tested by how far above it lies
-pub from_offset : (id offset count : ℕ) → offset ≤ id → ltb (id - offset) count ≡ both (leb offset id) (ltb (id - offset) count)
-from_offset id offset count h = rw (le-leb offset id h)
-
--- an id that an ATC has is not below its offset
-pub has_offset : (id offset count : ℕ) {b : Bool} → b ≡ both (leb offset id) (ltb (id - offset) count) → b ≡ true → offset ≤ id
-has_offset id offset count is h = go (leb offset id) refl (sym is ∙ h)
-  where
-    go : (a : Bool) → leb offset id ≡ a → both a (ltb (id - offset) count) ≡ true → offset ≤ id
-    go true e f = leb-true offset id e
-    go false e f = let z : ◌≡◌ {A = ℕ} 0 1 = cc in absurd (omega arith)
 
 module _ (t : List ℕ) (n id : ℕ) where
   -- what is found from ATC k on, with the STCs before it counted, is what is found of all
@@ -114,8 +97,8 @@ module _ (atcs stcs : Table) (atc spn : ℕ) where
   unfolding ask answer clip_in of_atc
   spn_by_tests = refl
 
-  -- a test that fails is 22
-  pub spn_refused : refusal ≡ owned_rows 1 stc_cells atcs stcs atc → refused 22 ≡ ask (stc_sequence_for_spn atc spn) (atcs_and_stcs atcs stcs)
+  -- a test that fails is the refusal
+  pub spn_refused : {n : ℕ} → refusal n ≡ owned_rows 1 stc_cells atcs stcs atc → refused n ≡ ask (stc_sequence_for_spn atc spn) (atcs_and_stcs atcs stcs)
   spn_refused h = tests_fail 1 stc_cells atcs stcs atc _ h ∙ spn_by_tests
 
   module _ {first count : ℕ} (h : owns first count ≡ owned_rows 1 stc_cells atcs stcs atc) where

@@ -1,9 +1,9 @@
 // Questions about the STC sequences through their ATC sequences: those of one ATC, by id, and by packet in one ATC.
 #![tactic(auto)]
 
-ghost use Rattle.std.specs.Prelude.{◌≡◌, ◌+◌, ◌*◌, ◌-◌, ◌≤◌, length, leb, ltb};
-ghost use Rattle.format.specs.Bytes.{both, pick};
-ghost use Rattle.format.specs.Questions.{number, ask, stc_sequence_by_id, stc_sequence_for_spn, stc_by_id, stc_by_spn};
+ghost use Rattle.std.specs.Prelude.{◌≡◌, ◌+◌, ◌*◌, ◌-◌, ◌≤◌, length, leb, ltb, Ok};
+ghost use Rattle.format.specs.Bytes.{both};
+ghost use Rattle.format.specs.Questions.{ask, stc_sequence_by_id, stc_sequence_for_spn, stc_by_id, stc_by_spn};
 ghost use Rattle.format.specs.Tables.{table_rows_of, row_room, atc_cells, stc_cells, stated};
 ghost use Rattle.queries.specs.Answers.{found_of};
 ghost use Rattle.queries.specs.Asked.{atcs_and_stcs};
@@ -11,7 +11,9 @@ ghost use Rattle.table_rows.specs.OwnRows.{owned_of, owned_rows, rows_from};
 
 use cells::cell_at;
 use queries::Found;
-use table_rows::own::{Own, adds_up, own_rows};
+use refusals::Refusal;
+use table_rows::Table;
+use table_rows::own::{OwnRows, adds_up, own_rows};
 
 // The cell of an ATC's row (packet, STC count, offset id) that has the count.
 const COUNT: usize = 1;
@@ -20,90 +22,66 @@ const COUNT: usize = 1;
 const STC: usize = 4;
 
 // The STCs of an ATC, by the first and their number.
-pub fn stcs_of_atc(atcs: &[u8], atc_rows: u32, stcs: &[u8], stc_rows: u32, atc: u32) -> Own
-    ensures { owned_of result ≡ owned_rows 1 stc_cells (stated atcs.now atc_rows) (stated stcs.now stc_rows) atc }
+pub fn stcs_of_atc(atcs: Table, stcs: Table, atc: u32) -> Result<OwnRows, Refusal>
+    ensures { owned_of result ≡ owned_rows 1 stc_cells (stated atcs.entry.bytes.now atcs.entry.rows) (stated stcs.entry.bytes.now stcs.entry.rows) atc }
 {
-    own_rows(atcs, atc_rows, stcs, stc_rows, atc, COUNT, STC)
+    own_rows(atcs, stcs, atc, COUNT, STC)
 }
 
 // Whether an id, less the offset id, is not negative and below the count.
 fn has_id(id: u32, offset: u32, count: u32) -> bool
     ensures { result ≡ both (leb offset id) (ltb (id - offset) count) }
 {
-    if id < offset {
-        return false;
-    }
-    id - offset < count
+    offset <= id && id - offset < count
 }
 
 // The STC with an id: of the first ATC that has it.
-fn find_id(atcs: &[u8], rows: u32, id: u32) -> Found
-    requires { rows ≤ row_room atc_cells atcs.now }
-    ensures { found_of result ≡ stc_by_id (table_rows_of atc_cells atcs.now rows) id 0 }
+fn find_id(atcs: Table, id: u32) -> Option<u64>
+    requires { atcs.rows ≤ row_room atc_cells atcs.bytes.now }
+    ensures { found_of (Ok result) ≡ stc_by_id (table_rows_of atc_cells atcs.entry.bytes.now atcs.entry.rows) id 0 }
 {
     let mut first: u64 = 0;
-    let mut k: u32 = 0;
-    while k < rows {
+    for k in 0..atcs.rows {
         let at = 12 * (k as usize);
-        let count = cell_at(atcs, at + 4);
-        let offset = cell_at(atcs, at + 8);
+        let count = cell_at(atcs.bytes, at + 4);
+        let offset = cell_at(atcs.bytes, at + 8);
         if has_id(id, offset, count) {
-            return Found::Number(first + ((id - offset) as u64));
+            return Some(first + u64::from(id - offset));
         }
-        first += count as u64;
-        k += 1;
+        first += u64::from(count);
     }
-    Found::Nothing
+    None
 }
 
 // The STC with an id, as its row through all ATCs: of the first ATC in which the id less the offset id is one of its rows.
-pub fn stc_sequence_by_id(atcs: &[u8], atc_rows: u32, stcs: &[u8], stc_rows: u32, id: u8) -> Found
-    ensures { found_of result ≡ ask (stc_sequence_by_id id) (atcs_and_stcs (stated atcs.now atc_rows) (stated stcs.now stc_rows)) }
+pub fn stc_sequence_by_id(atcs: Table, stcs: Table, id: u8) -> Found
+    ensures { found_of result ≡ ask (stc_sequence_by_id id) (atcs_and_stcs (stated atcs.entry.bytes.now atcs.entry.rows) (stated stcs.entry.bytes.now stcs.entry.rows)) }
 {
-    if !adds_up(atcs, atc_rows, stcs, stc_rows, COUNT, STC) {
-        return Found::Refused(22);
+    if !adds_up(atcs, stcs, COUNT, STC) {
+        return Err(Refusal::Rows);
     }
-    find_id(atcs, atc_rows, id as u32)
+    Ok(find_id(atcs, u32::from(id)))
 }
 
-// The row where it passes, else what was found before.
-fn kept(found: Found, row: u64, is_reached: bool) -> Found
-    ensures { found_of result ≡ pick is_reached (number row) (found_of found) }
+// Of an ATC's STCs the last whose packet is at most the one given.
+fn find_spn(stcs: &[u8], own: OwnRows, spn: u32) -> Option<u64>
+    requires { 16 * (own.first + own.count) ≤ length stcs.now }
+    ensures { found_of (Ok result) ≡ stc_by_spn (rows_from stc_cells stcs.now own.first own.count) spn own.first }
 {
-    if is_reached {
-        return Found::Number(row);
-    }
-    found
-}
-
-// Of `count` STCs from the one with the number `first`: the last whose packet is at most the one given.
-fn find_spn(stcs: &[u8], first: u64, count: u32, spn: u32) -> Found
-    requires { 16 * (first + count) ≤ length stcs.now }
-    ensures { found_of result ≡ stc_by_spn (rows_from stc_cells stcs.now first count) spn first }
-{
-    let mut found = Found::Nothing;
-    let mut k: u32 = 0;
-    while k < count {
-        let row = first + (k as u64);
-        found = kept(found, row, cell_at(stcs, 16 * (row as usize) + 4) <= spn);
-        k += 1;
+    let mut found = None;
+    for k in 0..own.count {
+        let row = own.first + u64::from(k);
+        if cell_at(stcs, 16 * (row as usize) + 4) <= spn {
+            found = Some(row);
+        }
     }
     found
 }
 
 // The STC of a packet in one ATC, as its row through all ATCs: the last whose packet is at most the one given.
-pub fn stc_sequence_for_spn(
-    atcs: &[u8],
-    atc_rows: u32,
-    stcs: &[u8],
-    stc_rows: u32,
-    atc: u32,
-    spn: u32,
-) -> Found
-    ensures { found_of result ≡ ask (stc_sequence_for_spn atc spn) (atcs_and_stcs (stated atcs.now atc_rows) (stated stcs.now stc_rows)) }
+pub fn stc_sequence_for_spn(atcs: Table, stcs: Table, atc: u32, spn: u32) -> Found
+    ensures { found_of result ≡ ask (stc_sequence_for_spn atc spn) (atcs_and_stcs (stated atcs.entry.bytes.now atcs.entry.rows) (stated stcs.entry.bytes.now stcs.entry.rows)) }
 {
-    match stcs_of_atc(atcs, atc_rows, stcs, stc_rows, atc) {
-        Own::Refused => Found::Refused(22),
-        Own::Rows { first, count } => find_spn(stcs, first, count, spn),
-    }
+    let own = stcs_of_atc(atcs, stcs, atc)?;
+    Ok(find_spn(stcs.bytes, own, spn))
 }

@@ -1,12 +1,8 @@
 -- A word read and written so many bits at a time, the highest first.
-use Rattle.std.specs.Prelude.{ℕ, ◌+◌, ◌*◌, ◌-◌, ◌/◌, ◌%◌, ◌^◌, List, [], ◌∷◌, Bool, leb, get_or, drop}
+use Rattle.std.specs.Prelude.{ℕ, ◌+◌, ◌*◌, ◌-◌, ◌/◌, ◌%◌, ◌^◌, List, [], ◌∷◌, Bool, Option, Some, None, leb, get_or, drop}
 use Rattle.format.specs.Bytes.{both, pick}
 use Rattle.bits.specs.declared.BitReader.{BitReader}
-use Rattle.bits.specs.declared.Bits.{Bits}
-use Rattle.bits.specs.declared.Bits.TheVariants.{Read, PastEnd}
 use Rattle.bits.specs.declared.BitWriter.{BitWriter}
-use Rattle.bits.specs.declared.Written.{Written}
-use Rattle.bits.specs.declared.Written.TheVariants.{Wrote, Full}
 
 -- the highest n of the `left` lowest bits of the word
 abbrev pub bits_of : ℕ → ℕ → ℕ → ℕ
@@ -17,8 +13,8 @@ abbrev pub readable : ℕ → ℕ → Bool
 readable left n = both (leb n 32) (both (leb n left) (leb left 64))
 
 -- what a read of n bits answers
-abbrev pub read_bits : BitReader → ℕ → Bits
-read_bits r n = pick (readable r.left n) (Read (bits_of r.word r.left n) (record { word = r.word; left = r.left - n })) PastEnd
+abbrev pub read_bits : BitReader → ℕ → Option (ℕ × BitReader)
+read_bits r n = pick (readable r.left n) (Some (bits_of r.word r.left n, record { word = r.word; left = r.left - n })) None
 
 -- the word of 64 bits moved up by n bits, with the n lowest bits of the value below it
 unfoldable pub with_bits : ℕ → ℕ → ℕ → ℕ
@@ -29,8 +25,8 @@ abbrev pub writable : ℕ → ℕ → Bool
 writable used n = both (leb n 32) (both (leb used 64) (leb (used + n) 64))
 
 -- what a write of the n lowest bits of the value answers
-abbrev pub write_bits : BitWriter → ℕ → ℕ → Written
-write_bits w value n = pick (writable w.used n) (Wrote (record { word = with_bits w.word value n; used = w.used + n })) Full
+abbrev pub write_bits : BitWriter → ℕ → ℕ → Option BitWriter
+write_bits w value n = pick (writable w.used n) (Some (record { word = with_bits w.word value n; used = w.used + n })) None
 
 -- the lowest bits of each value, as many as its field has; a value that is not there counts 0
 abbrev pub low_bits : List ℕ → List ℕ → List ℕ

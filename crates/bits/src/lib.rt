@@ -11,25 +11,11 @@ pub struct BitReader {
     pub left: u32,
 }
 
-// What a read gives: the bits as a number, and the reader behind them; or nothing.
-#[derive(Clone, Copy)]
-pub enum Bits {
-    Read(u32, BitReader),
-    PastEnd,
-}
-
 // A word whose `used` lowest bits are written.
 #[derive(Clone, Copy)]
 pub struct BitWriter {
     pub word: u64,
     pub used: u32,
-}
-
-// What a write gives: the writer with the bits; or nothing, where the word has no room.
-#[derive(Clone, Copy)]
-pub enum Written {
-    Wrote(BitWriter),
-    Full,
 }
 
 // The mask of n bits.
@@ -57,7 +43,7 @@ pub fn put_bits(word: u64, value: u32, n: u32) -> u64
     requires { n ≤ 32 }
     ensures { result ≡ with_bits word value n }
 {
-    (word << n) | (value as u64 & mask(n))
+    (word << n) | (u64::from(value) & mask(n))
 }
 
 impl BitReader {
@@ -68,29 +54,19 @@ impl BitReader {
         BitReader { word, left: width }
     }
 
-    // The next n bits, at most 32, as a number.
-    pub fn read_bits(self, n: u32) -> Bits
+    // The next n bits, at most 32, as a number, and the reader behind them; or nothing.
+    pub fn read_bits(self, n: u32) -> Option<(u32, BitReader)>
         ensures { result ≡ read_bits self n }
     {
-        let word = self.word;
-        let left = self.left;
-        if 32 < n {
-            return Bits::PastEnd;
+        if n > 32 || self.left < n || self.left > 64 {
+            return None;
         }
-        if left < n {
-            return Bits::PastEnd;
-        }
-        if 64 < left {
-            return Bits::PastEnd;
-        }
-        let value = take_bits(word, left, n);
-        Bits::Read(
-            value,
-            BitReader {
-                word,
-                left: left - n,
-            },
-        )
+        let value = take_bits(self.word, self.left, n);
+        let rest = BitReader {
+            left: self.left - n,
+            ..self
+        };
+        Some((value, rest))
     }
 }
 
@@ -102,26 +78,16 @@ impl BitWriter {
         BitWriter { word: 0, used: 0 }
     }
 
-    // The n lowest bits of the value, at most 32, below those already written.
-    pub fn write_bits(self, value: u32, n: u32) -> Written
+    // The writer with the n lowest bits of the value, at most 32, below those already written; or nothing, where the word has no room.
+    pub fn write_bits(self, value: u32, n: u32) -> Option<BitWriter>
         ensures { result ≡ write_bits self value n }
     {
-        let word = self.word;
-        let used = self.used;
-        if 32 < n {
-            return Written::Full;
+        if n > 32 || self.used > 64 || self.used + n > 64 {
+            return None;
         }
-        if 64 < used {
-            return Written::Full;
-        }
-        let total = used + n;
-        if 64 < total {
-            return Written::Full;
-        }
-        let more = put_bits(word, value, n);
-        Written::Wrote(BitWriter {
-            word: more,
-            used: total,
+        Some(BitWriter {
+            word: put_bits(self.word, value, n),
+            used: self.used + n,
         })
     }
 }

@@ -1,14 +1,17 @@
 -- A cell's four bytes read and stored, and rows of cells.
-use Prim.Native.Nat.{ℕ, suc, ◌+◌, ◌*◌, ◌/◌, ◌%◌}
-use mathlib.Core.Path.{◌≡◌, ◌∙◌}
+use Prim.Native.Nat.{ℕ, ◌+◌, ◌*◌, ◌/◌, ◌%◌, ◌<◌}
+use mathlib.Core.Path.{◌≡◌, refl, ap, ◌∙◌}
 use mathlib.Core.List.{List, [], ◌∷◌, ◌++◌, append-nil}
 use native.Mathlib.Nat.{add-zero}
+use native.Mathlib.Numerals.{add-one}
 use native.Mathlib.Omega.{arith}
-use lib.ListN.{get_or, set}
-use lib.Seq.{sets}
+use lib.ListN.{length, get_or, take}
+use lib.Seq.{sets, take-suc, length-take-le}
+use Rattle.format.specs.ClipRecord.{Row}
 use Rattle.format.specs.Tables.{low_at, low_bytes, cell_at, cell_bytes, row_bytes_of}
-use Rattle.format.proofs.Stores.{sets_append}
-use Rattle.format.proofs.Cells.{low_length}
+use Rattle.format.proofs.Loops.{flat_append}
+use Rattle.format.proofs.Stores.{part_then}
+use Rattle.format.proofs.Sweep.{row_bytes_lem}
 
 -- a cell's four bytes, lowest first
 pub cell_sum : (t : List ℕ) (at : ℕ)
@@ -24,20 +27,13 @@ cell_bytes_lem v =
     let three : v / 65536 / 256 ≡ v / 16777216 = omega arith in
     rw (two, three)
 
--- four bytes stored one behind the other
-pub four_stores : (l : List ℕ) (i a b c d : ℕ)
-    → set (set (set (set l i a) (i + 1) b) (i + 2) c) (i + 3) d ≡ sets l i (a ∷ b ∷ c ∷ d ∷ [])
-four_stores l i a b c d =
-    let one : i + 1 ≡ suc i = omega arith in
-    let two : i + 2 ≡ suc (suc i) = omega arith in
-    let three : i + 3 ≡ suc (suc (suc i)) = omega arith in
-    rw (one, two, three)
-
--- a cell stored, and the rest of its row behind it
-pub cell_then : (l : List ℕ) (at v : ℕ) (rest : List ℕ) {l' l'' : List ℕ} → l' ≡ sets l at (cell_bytes v) → l'' ≡ sets l' (at + 4) rest
-    → l'' ≡ sets l at (cell_bytes v ++ rest)
-cell_then l at v rest e f = f ∙ rw (e, sets_append l at (cell_bytes v) rest, low_length 4 v)
-
--- the last cell of a row
-pub cell_last : (l : List ℕ) (at v : ℕ) {l' : List ℕ} → l' ≡ sets l (at + 4) (cell_bytes v) → l' ≡ sets l (at + 4) (row_bytes_of (v ∷ []))
-cell_last l at v e = e ∙ rw (append-nil (cell_bytes v))
+-- the first k cells of a row stored, and one more behind them
+pub one_more : (l : List ℕ) (at : ℕ) (cells : Row) (k : ℕ) {l' l'' : List ℕ} → k < length cells → l' ≡ sets l at (row_bytes_of (take k cells))
+    → l'' ≡ sets l' (at + 4 * k) (cell_bytes (get_or cells k 0)) → l'' ≡ sets l at (row_bytes_of (take (k + 1) cells))
+one_more l at cells k h e f =
+    let v = get_or cells k 0 in
+    let room : length (row_bytes_of (take k cells)) ≡ 4 * k = row_bytes_lem (take k cells) ∙ ap (λ (n : ℕ). 4 * n) (length-take-le k cells (omega arith)) in
+    let whole : row_bytes_of (take k cells) ++ cell_bytes v ≡ row_bytes_of (take (k + 1) cells) =
+    rw (add-one k, take-suc cells k 0 h, flat_append cell_bytes (take k cells) (v ∷ []), append-nil (cell_bytes v)) in
+    part_then l at (4 * k) (row_bytes_of (take k cells)) (cell_bytes v) room refl e f
+    ∙ ap (sets l at) whole

@@ -1,11 +1,6 @@
--- What a read of a byte and of a cell answers.
+-- What a read of a cell answers.
 use Rattle.std.specs.Prelude.{ℕ, ◌<◌, ◌^◌, ◌≡◌, List}
 use Rattle.format.specs.Tables.{cell_at}
-
--- a byte is the number that it is
-pub record Wide (x r : ℕ) : Type 0 where
-  pub same : r ≡ x
-  pub below : r < 256
 
 -- the cell at `at`
 pub record CellIs (t : List ℕ) (at r : ℕ) : Type 0 where

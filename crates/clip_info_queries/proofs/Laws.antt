@@ -1,34 +1,35 @@
 -- Packets, bytes and seconds: what each test answers.
-use Prim.Native.Nat.{ℕ, ◌*◌, ◌/◌, ◌^◌, ◌<◌, ◌≤◌}
+use Prim.Native.Nat.{ℕ, ◌*◌, ◌/◌, ◌^◌, ◌<◌}
 use mathlib.Core.Path.{◌≡◌, refl}
+use mathlib.Core.Bool.{Bool, true, false}
+use lib.Dec.{leb, ltb}
 use lib.IntN.{pos}
 use lib.Ieee.{binary64, of_int, div}
-use borrow.Author.Tests.{eq-eqb, ne_eqb, le-leb, lt-leb, lt-ltb, le-ltb}
+use borrow.Author.Tests.{eq-eqb, ne_eqb}
+use Rattle.std.specs.Bool.{then_some}
+use Rattle.std.proofs.Common.{Option, Ok}
+use Rattle.format.specs.Bytes.{pick}
 use Rattle.format.specs.Questions.{clip_byte_len, none, number, seconds, no_rate, spn_to_byte, byte_to_spn, transfer_duration_secs, byte_of, spn_of, transfer_secs, IsTransfer, answer, ask}
 use Rattle.format.specs.Tables.{clip_in}
 use Rattle.format.proofs.Rounding.{transfer_near}
+use Rattle.queries.specs.Answers.{found_of}
 use Rattle.queries.specs.Asked.{only_counts, only_scalars}
+
+-- a number where a test passes, else none
+told : (b : Bool) (n : ℕ) → found_of (Ok (then_some b n)) ≡ pick b (number n) none
+told true n = refl
+told false n = refl
 
 module _ (packets : ℕ) where
   -- a packet number up to and including the count has a byte, 192 for each packet before it
-  pub byte_is : (spn : ℕ) → spn ≤ packets → number (spn * 192) ≡ ask (spn_to_byte spn) (only_scalars (only_counts 0 packets))
+  pub byte_told : (spn : ℕ) {byte : Option ℕ} → byte ≡ then_some (leb spn packets) (spn * 192) → found_of (Ok byte) ≡ ask (spn_to_byte spn) (only_scalars (only_counts 0 packets))
   unfolding ask answer clip_in byte_of
-  byte_is spn h = rw (le-leb spn packets h)
-
-  -- a packet number above the count has none
-  pub no_byte : (spn : ℕ) → packets < spn → none ≡ ask (spn_to_byte spn) (only_scalars (only_counts 0 packets))
-  unfolding ask answer clip_in byte_of
-  no_byte spn h = rw (lt-leb spn packets h)
+  byte_told spn is = rw is (told (leb spn packets) (spn * 192))
 
   -- a byte whose quotient by 192 is below the count is in the packet of that number
-  pub spn_is : (byte : ℕ) → byte / 192 < packets → number (byte / 192) ≡ ask (byte_to_spn byte) (only_scalars (only_counts 0 packets))
+  pub spn_told : (byte : ℕ) {spn : Option ℕ} → spn ≡ then_some (ltb (byte / 192) packets) (byte / 192) → found_of (Ok spn) ≡ ask (byte_to_spn byte) (only_scalars (only_counts 0 packets))
   unfolding ask answer clip_in spn_of
-  spn_is byte h = rw (lt-ltb (byte / 192) packets h)
-
-  -- a byte behind the last packet is in none
-  pub no_spn : (byte : ℕ) → packets ≤ byte / 192 → none ≡ ask (byte_to_spn byte) (only_scalars (only_counts 0 packets))
-  unfolding ask answer clip_in spn_of
-  no_spn byte h = rw (le-ltb (byte / 192) packets h)
+  spn_told byte is = rw is (told (ltb (byte / 192) packets) (byte / 192))
 
 module _ (rate packets : ℕ) where
   -- without a rate there are no seconds

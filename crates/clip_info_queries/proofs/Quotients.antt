@@ -2,7 +2,7 @@
 use mathlib.Core.Path.{◌≡◌, refl, sym, ap, ◌∙◌, subst}
 use mathlib.Core.Logic.{inl, inr}
 use mathlib.Core.Bool.{Bool, true, false, not, true≢false}
-use Prim.Native.Nat.{ℕ, suc, ◌+◌, ◌-◌, ◌*◌, ◌/◌, ◌%◌, ◌^◌, ◌≤◌, ◌<◌, zero-le, compare, Ordering}
+use Prim.Native.Nat.{ℕ, suc, ◌+◌, ◌-◌, ◌*◌, ◌/◌, ◌%◌, ◌^◌, ◌≤◌, ◌<◌, zero-le, compare}
 use native.Mathlib.Nat.{le_refl, le_trans, le_of_eq, le_antisymm, lt_of_lt_of_le, lt_of_le_of_lt, lt_of_not-le, not-le_of_lt, eq-or-lt_of_le, le-add_right, add-sub_of_le, sub-le, le_of_lt, one-mul, zero-add, suc-add, zero-mul, mul-one, mul_comm, mul_assoc, mul_right_comm, mul-le-mul_right, mul-le-mul_left, mul-lt-mul_of_pos_right, mul-pos, pow-succ', mul-div_cancel, add-mul, suc-mul, div-add-mod', div-le_self, mod-lt, mod-le, div-lt_iff_lt-mul, le-div_iff_mul-le}
 use native.Mathlib.Omega.{arith}
 use lib.Dec.{T, lit≤, lit<}
@@ -17,7 +17,7 @@ use lib.Ieee.Exact.{HasValue, units_val}
 use lib.Ieee.Nearest.{closest, closest_same, nearest-ge}
 use lib.Ieee.Scale.{round_same}
 use borrow.Author.Tests.{le-ltb}
-use Rattle.format.proofs.Rounding.{Cmp, cmp, quotient_is}
+use Rattle.format.proofs.Rounding.{quotient_is}
 
 -- ---- the bits of a float, by its size in units of the smallest value
 bits_of_value : (f : Format) (x : Float) (g : ℕ) → HasValue x false g (2 ^ low f) → to_bits f x ≡ (size g - prec f) * hid f + g / 2 ^ (size g - prec f)
@@ -182,21 +182,3 @@ pub zero_bits : (a c : ℕ) → a ≡ 0 → 0 < c → c < 2 ^ 32 → of_bits bin
 zero_bits a c z C D =
     subst (λ (x : ℕ). of_bits binary64 0 ≡ div binary64 (of_int binary64 (pos x)) (of_int binary64 (pos c))) (sym z)
     (round_none c C ∙ sym (quotient_is 0 c zero-le C (le_of_lt (lt_of_lt_of_le D (lit≤ tt)))))
-
--- ---- which number is picked
-
--- what `compare` says of two numbers is the one thing that holds of them
-only : (a b : ℕ) (o p : Ordering) → Cmp o a b → Cmp p a b → o ≡ p
-only a b Ordering.lt Ordering.lt h k = refl
-only a b Ordering.lt Ordering.eq h k = absurd (omega arith)
-only a b Ordering.lt Ordering.gt h k = absurd (omega arith)
-only a b Ordering.eq Ordering.lt h k = absurd (omega arith)
-only a b Ordering.eq Ordering.eq h k = refl
-only a b Ordering.eq Ordering.gt h k = absurd (omega arith)
-only a b Ordering.gt Ordering.lt h k = absurd (omega arith)
-only a b Ordering.gt Ordering.eq h k = absurd (omega arith)
-only a b Ordering.gt Ordering.gt h k = refl
-
--- the number that is picked where the test's answer is known
-pub picked : (q a b : ℕ) (o : Ordering) → Cmp o a b → nearest q o ≡ nearest q (compare a b)
-picked q a b o h = ap (nearest q) (only a b o (compare a b) h (cmp a b))

@@ -4,6 +4,8 @@ ghost use Prim.Native.Nat.{◌*◌, ◌^◌, ◌<◌, compare};
 ghost use Rattle.std.specs.Float.{binary64};
 ghost use Rattle.std.specs.Float.Ieee.{of_int, div, nearest};
 
+use std::cmp::Ordering;
+
 // 2^52, the leading one of an f64's 53 binary digits. Its bits have the exponent from this place on, and not the leading digit,
 // which raises the exponent by 1 instead.
 const LEADING_DIGIT: u64 = 4503599627370496;
@@ -17,13 +19,11 @@ fn round_half_even(quotient: u64, remainder: u64, divisor: u64) -> u64
     requires remainder_small { remainder < 2 ^ 32 }
     ensures { result ≡ nearest quotient (compare (remainder * 2) divisor) }
 {
-    if remainder * 2 < divisor {
-        return quotient;
+    match (remainder * 2).cmp(&divisor) {
+        Ordering::Less => quotient,
+        Ordering::Equal => quotient + quotient % 2,
+        Ordering::Greater => quotient + 1,
     }
-    if remainder * 2 == divisor {
-        return quotient + quotient % 2;
-    }
-    quotient + 1
 }
 
 // The f64 nearest to a quotient, as the machine's division gives it in the default rounding mode. Each turn works out a

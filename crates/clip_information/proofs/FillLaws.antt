@@ -2,23 +2,23 @@
 use Prim.Native.Nat.{ℕ, ◌+◌, ◌-◌, ◌<◌, ◌≤◌}
 use mathlib.Core.Path.{◌≡◌, refl, sym, ap, ◌∙◌}
 use mathlib.Core.List.{List}
-use mathlib.Core.Bool.{Bool, true, false, not}
+use mathlib.Core.Bool.{true}
 use native.Mathlib.Omega.{arith}
 use lib.ListN.{length, take, drop}
 use lib.Dec.{leb}
-use borrow.Author.Tests.{eq-eqb, ne_eqb, le-ltb, lt-ltb, leb-true, not-true, not-false}
+use borrow.Author.Tests.{eq-eqb, ne_eqb, le-ltb, lt-ltb, leb-true}
+use Rattle.std.specs.Prelude.{Some, None}
 use Rattle.format.specs.Bytes.{be_at}
 use Rattle.format.specs.ClipRecord.{Row, sequences_start, programs_start, cpi_start, marks_start, extensions_start, sequences_end, marks_from, marks_in}
 use Rattle.format.specs.Programs.{programs_from, streams_from, programs_end}
 use Rattle.format.specs.EntryPoints.{cpi_in, maps_in, maps_refusal, maps_from, map_count, map_at, next_map}
-use Rattle.format.specs.Extensions.{Found, nothing, found, extensions_from, list_data, list_in}
+use Rattle.format.specs.Extensions.{Found, found, extensions_from, list_data, list_in}
 use Rattle.format.specs.Reading.{clip_of, record_of}
 use Rattle.format.specs.Refusals.{refusal_of}
 use Rattle.format.specs.Tables.{table_bytes, overwritten}
 use Rattle.format.proofs.Tests.{passed, later_passed}
 use Rattle.format.proofs.MapRefusals.{maps_passed}
 use Rattle.format.proofs.Rows.{rows_length}
-use Rattle.extension.specs.Block.{found_in}
 use Rattle.extension.specs.declared.ListData.{ListData}
 use Rattle.section_heads.specs.declared.Section.{Section}
 use Rattle.info_sections.specs.Sections.{Fillable}
@@ -126,62 +126,53 @@ module _ (f : List ℕ) (start : ℕ) where
 
 -- ---- the list
 
-module _ (f : List ℕ) (list : ListData) {has : Bool} {programs streams : List ℕ} (fits : ListFits f list has programs streams) where
+-- without a list both tables are left as they are
+pub no_list : (f : List ℕ) {programs streams : List ℕ} → ListFits f None programs streams
+    → (programs ≡ overwritten (table_bytes (record_of f).list_programs) programs) × (streams ≡ overwritten (table_bytes (record_of f).list_streams) streams)
+unfolding record_of
+no_list f fits = rw (sym fits.has_is) (refl, refl)
+
+module _ (f : List ℕ) (list : ListData) {programs streams : List ℕ} (fits : ListFits f (Some list) programs streams) where
   -- the list's data, where the extensions have it
   abbrev D : Found
   D = list_data (extensions_from f (extensions_start f))
 
-  -- the flag says whether there is a list
-  has_in : has ≡ list_in D
+  -- the part of the file that is lent as it
+  abbrev P : List ℕ
+  P = take (list.start + list.len - list.start) (drop list.start f)
+
+  -- there is a list
+  listed : list_in D ≡ true
   unfolding record_of
-  has_in = fits.has_is
+  listed = sym fits.has_is
 
-  -- nothing is put where there is no list
-  left : list_in D ≡ false → (programs ≡ overwritten (table_bytes (record_of f).list_programs) programs) × (streams ≡ overwritten (table_bytes (record_of f).list_streams) streams)
+  -- the data found is the part that is read
+  data_is : D ≡ found P
   unfolding record_of
-  left h = rw h (refl, refl)
+  data_is =
+      let e : list.start + list.len - list.start ≡ list.len = omega arith in
+      let is = rw listed at fits.list_is in
+      rw e (sym is)
 
-  -- so where the flag says that there is none
-  pub not_listed : not has ≡ true → (programs ≡ overwritten (table_bytes (record_of f).list_programs) programs) × (streams ≡ overwritten (table_bytes (record_of f).list_streams) streams)
-  not_listed h = left (sym has_in ∙ not-true has h)
-
-  -- and where no data was found
-  pub no_list : list ≡ ListData.Absent → (programs ≡ overwritten (table_bytes (record_of f).list_programs) programs) × (streams ≡ overwritten (table_bytes (record_of f).list_streams) streams)
+  -- the list ends within its data
+  list_ends : programs_end P 0 ≤ length P
   unfolding list_in
-  no_list h = let e : D ≡ nothing = sym fits.list_is ∙ ap (found_in f) h in left (ap list_in e)
+  list_ends = leb-true (programs_end P 0) (length P) (rw data_is at listed)
 
-  module _ (s n : ℕ) (at : list ≡ ListData.At s n) (there : not has ≡ false) where
-    -- the part of the file that is lent as the list's data
-    abbrev P : List ℕ
-    P = take (s + n - s) (drop s f)
+  -- its programs are the record's
+  pub programs_put : (record_of f).list_programs ≡ programs_from P 0
+  unfolding record_of
+  programs_put = rw (listed, data_is)
 
-    -- the data found is the part that is read
-    data_is : D ≡ found P
-    data_is = let e : s + n - s ≡ n = omega arith in sym fits.list_is ∙ ap (found_in f) at ∙ rw e
+  -- its streams are the record's
+  pub streams_put : (record_of f).list_streams ≡ streams_from P 0
+  unfolding record_of
+  streams_put = rw (listed, data_is)
 
-    -- the flag says that it is a list
-    listed : list_in D ≡ true
-    listed = sym has_in ∙ not-false has there
-
-    -- the list ends within its data
-    pub list_ends : programs_end P 0 ≤ length P
-    unfolding list_in
-    list_ends = leb-true (programs_end P 0) (length P) (rw data_is at listed)
-
-    -- its programs are the record's
-    pub programs_put : (record_of f).list_programs ≡ programs_from P 0
-    unfolding record_of
-    programs_put = rw (listed, data_is)
-
-    -- its streams are the record's
-    pub streams_put : (record_of f).list_streams ≡ streams_from P 0
-    unfolding record_of
-    streams_put = rw (listed, data_is)
-
-    -- tables 8 and 9 can be filled
-    pub list_fillable : Fillable Section.Programs P 0 programs streams
-    list_fillable = record {
-      ends = list_ends;
-      heads_room = rw programs_put at fits.programs_room;
-      rows_room = rw streams_put at fits.streams_room;
-    }
+  -- tables 8 and 9 can be filled
+  pub list_fillable : Fillable Section.Programs P 0 programs streams
+  list_fillable = record {
+    ends = list_ends;
+    heads_room = rw programs_put at fits.programs_room;
+    rows_room = rw streams_put at fits.streams_room;
+  }

@@ -1,30 +1,30 @@
 -- The answer of reading, and what the passes that fill may rely on once all is ready.
 use Prim.Native.Nat.{ℕ, ◌*◌, ◌≤◌, ◌/◌}
-use mathlib.Core.Path.{◌≡◌, refl, sym, ap, ◌∙◌}
+use mathlib.Core.Path.{◌≡◌, refl, ap}
 use mathlib.Core.List.{List}
 use mathlib.Core.Bool.{Bool, true, false}
 use native.Mathlib.Omega.{arith}
 use lib.ListN.{length}
 use lib.Dec.{leb, eqb}
 use borrow.Author.Tests.{leb-true}
+use Rattle.std.specs.Prelude.{is_some, Result, Ok, Err}
 use Rattle.format.specs.Bytes.{pick}
-use Rattle.format.specs.ClipRecord.{extensions_start, marks_start, marks_from, entry_size}
+use Rattle.format.specs.ClipRecord.{Row, extensions_start, marks_start, marks_from, entry_size}
 use Rattle.format.specs.Extensions.{extension_rows}
 use Rattle.format.specs.Reading.{clip_of, record_of}
-use Rattle.format.specs.Refusals.{refused, accepted, refusal_of, tables_of, stated_of, tables_answer, read_answer}
+use Rattle.format.specs.Refusals.{refused, accepted, refusal_of, tables_of, stated_of, tables_answer, read_answer, table_by}
 use Rattle.format.specs.Tables.{Nine, zip_nine, AllNine, nine_cells, row_room, extension_cells}
 use Rattle.format.proofs.Tests.{ap_pick}
-use Rattle.extension.specs.declared.ListData.{ListData}
 use Rattle.clip_sections.specs.Infos.{clip_info_of}
 use Rattle.nine_tables.specs.Room.{room_of, room_behind}
-use Rattle.clip_prepare.specs.Prepare.{needed_rows, room_answer, answer_for, prepared_answer, ReadyIs, PreparedIs}
+use Rattle.clip_prepare.specs.Prepare.{needed_rows, room_answer, answer_for, error_answer, ReadyIs}
 use Rattle.clip_information.specs.Fill.{SectionsFit, ListFits, MarksThere}
 use Rattle.clip_information.specs.Read.{lengths_of, nine_by, scalars_by, read_answer_of, accepted_of}
 use Rattle.clip_sections.specs.declared.info.ClipInfo.{ClipInfo}
 use Rattle.nine_tables.specs.declared.Rows.{Rows}
-use Rattle.nine_tables.specs.declared.Room.{Room}
+use Rattle.nine_tables.specs.declared.TableShort.{TableShort}
 use Rattle.clip_prepare.specs.declared.Prepared.{Prepared}
-use Rattle.clip_information.specs.declared.read.Answer.{Answer}
+use Rattle.clip_prepare.specs.declared.ReadError.{ReadError}
 use Rattle.clip_sections.proofs.Laws.{accepted_bounds}
 use Rattle.clip_information.proofs.FillLaws.{sound}
 
@@ -43,12 +43,12 @@ abbrev pub RoomInEach : Rows → Rows → Type 0
 RoomInEach rows bytes = AllNine ◌≤◌ (nine_by rows) (zip_nine (λ cells size. size / (4 * cells)) nine_cells (nine_by bytes))
 
 -- the first of two tests that both passed, and the rest
-passed : (b : Bool) {later : Room} (k n : ℕ) → pick b later (Room.Short k n) ≡ Room.Enough → (b ≡ true) × (later ≡ Room.Enough)
+passed : (b : Bool) {later : Result (Unit {0}) TableShort} (k n : ℕ) → pick b later (Err (record { table = k; rows = n })) ≡ Ok tt → (b ≡ true) × (later ≡ Ok tt)
 passed true k n h = (refl, h)
 passed false k n h = let z : ◌≡◌ {A = ℕ} 0 1 = cc in absurd (omega arith)
 
 -- each test of room passed
-pub room_in_each : (rows bytes : Rows) → room_of rows bytes ≡ Room.Enough → RoomInEach rows bytes
+pub room_in_each : (rows bytes : Rows) → room_of rows bytes ≡ Ok tt → RoomInEach rows bytes
 unfolding room_of room_behind
 room_in_each rows bytes h =
     let p1 = passed (leb rows.atcs (bytes.atcs / 12)) 1 rows.atcs h in
@@ -74,24 +74,20 @@ room_in_each rows bytes h =
 
 -- ---- what was prepared
 
-module _ (f : List ℕ) (tables : Nine (List ℕ)) {r : Prepared} (p : PreparedIs f (lengths_of tables) r) where
-  -- the answer that was prepared is the answer of reading
-  pub prepared_answer_lem : {q : Prepared} → r ≡ q → prepared_answer f q ≡ read_answer f tables
-  prepared_answer_lem e = ap (prepared_answer f) (sym e) ∙ p.answer ∙ answer_tables f tables
-
-  -- what is said to be ready is
-  pub prepared_ready : {rows : Rows} {list : ListData} {has : Bool} → r ≡ Prepared.Ready rows list has → ReadyIs f (lengths_of tables) rows list has
-  prepared_ready e = rw e at p.ready
+-- an error leaves each table as it was
+pub left : (error : ReadError) (rows : List Row) (table : List ℕ) → table ≡ table_by (error_answer error) rows table
+left (ReadError.Refused refusal) rows table = refl
+left (ReadError.TableShort short) rows table = refl
 
 -- ---- once all is ready
 
-module _ (f : List ℕ) (tables : Nine (List ℕ)) {rows : Rows} {list : ListData} {has : Bool} (ready : ReadyIs f (lengths_of tables) rows list has) where
+module _ (f : List ℕ) (tables : Nine (List ℕ)) {p : Prepared} (ready : ReadyIs f (lengths_of tables) p) where
   -- room in each table for the rows needed
   each : RoomInEach (needed_rows f) (lengths_of tables)
   each = room_in_each (needed_rows f) (lengths_of tables) ready.room
 
   -- tables 1 to 6 can be filled
-  pub sections_fit : SectionsFit f rows.maps tables.atcs tables.stcs tables.programs tables.streams tables.maps tables.entries
+  pub sections_fit : SectionsFit f p.rows.maps tables.atcs tables.stcs tables.programs tables.streams tables.maps tables.entries
   unfolding tables_of record_of
   sections_fit = record {
     accepts = ready.accepts;
@@ -110,7 +106,7 @@ module _ (f : List ℕ) (tables : Nine (List ℕ)) {rows : Rows} {list : ListDat
   extensions_fit e = ((accepted_bounds f ready.accepts).0, rw e each.extensions)
 
   -- tables 8 and 9 can be filled
-  pub list_fits : ListFits f list has tables.list_programs tables.list_streams
+  pub list_fits : ListFits f p.list tables.list_programs tables.list_streams
   unfolding tables_of
   list_fits = record {
     list_is = ready.list_is;
@@ -121,7 +117,7 @@ module _ (f : List ℕ) (tables : Nine (List ℕ)) {rows : Rows} {list : ListDat
   }
 
   -- what the code states is what reading states
-  pub stated : read_answer_of (accepted_of f rows has) ≡ accepted (stated_of f)
+  pub stated : read_answer_of (Ok (accepted_of f p.rows (is_some p.list))) ≡ accepted (stated_of f)
   unfolding stated_of record_of clip_of
   stated = λ k. accepted (record { scalars = scalars_by (clip_info_of f); marks = marks_from f (marks_start f); rows = nine_by (ready.rows_are k); has_list = ready.has_is k })
 
@@ -131,6 +127,6 @@ module _ (f : List ℕ) where
   marks_there h e = record { short = (accepted_bounds f h).0; inside = rw e (sound f h).marks_in_lem }
 
   -- the scalars and the number of marks that were read are those of the answer
-  pub accepted_as : {info : ClipInfo} {marks start : ℕ} {rows : Rows} {has : Bool} → info ≡ clip_info_of f → start ≡ marks_start f → marks ≡ marks_from f start
-      → Answer.Accepted info marks rows has ≡ accepted_of f rows has
-  accepted_as i s m = rw (i, m, s)
+  pub accepted_as : {info : ClipInfo} {marks start : ℕ} {rows : Rows} {has there : Bool} → info ≡ clip_info_of f → start ≡ marks_start f → marks ≡ marks_from f start
+      → has ≡ there → record { info = info; marks = marks; rows = rows; has_list = has } ≡ accepted_of f rows there
+  accepted_as i s m h = rw (i, m, s, h)

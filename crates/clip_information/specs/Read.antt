@@ -1,13 +1,14 @@
 -- The answer of reading, as the code holds it.
-use Rattle.std.specs.Prelude.{ℕ, List, [], Bool, length}
+use Rattle.std.specs.Prelude.{ℕ, List, Bool, length, Result, Ok, Err}
 use Rattle.format.specs.ClipRecord.{Scalars, marks_start, marks_from}
 use Rattle.format.specs.Tables.{Nine, map_nine}
-use Rattle.format.specs.Refusals.{ReadAnswer, refused, too_short, accepted}
+use Rattle.format.specs.Refusals.{ReadAnswer, accepted}
 use Rattle.clip_sections.specs.Infos.{clip_info_of}
 use Rattle.clip_sections.specs.declared.info.ClipInfo.{ClipInfo}
 use Rattle.nine_tables.specs.declared.Rows.{Rows}
-use Rattle.clip_prepare.specs.Prepare.{rows_by}
-use Rattle.clip_information.specs.declared.read.Answer.{Answer}
+use Rattle.clip_prepare.specs.Prepare.{rows_by, error_answer}
+use Rattle.clip_prepare.specs.declared.ReadError.{ReadError}
+use Rattle.clip_information.specs.declared.read.Accepted.{Accepted}
 
 -- the nine lent tables
 abbrev pub nine_tables_of : (atcs stcs programs streams maps entries extensions list_programs list_streams : List ℕ) → Nine (List ℕ)
@@ -27,27 +28,9 @@ nine_tables_of t1 t2 t3 t4 t5 t6 t7 t8 t9 = record {
 abbrev pub lengths_of : Nine (List ℕ) → Rows
 lengths_of tables = rows_by (map_nine length tables)
 
--- those of the first six, and none of the others
-abbrev pub six_lengths : (atcs stcs programs streams maps entries : List ℕ) → Rows
-six_lengths t1 t2 t3 t4 t5 t6 = lengths_of (nine_tables_of t1 t2 t3 t4 t5 t6 [] [] [])
-
--- with those of the last three
-abbrev pub nine_lengths : Rows → (extensions list_programs list_streams : List ℕ) → Rows
-nine_lengths six t7 t8 t9 = record {
-  atcs = six.atcs;
-  stcs = six.stcs;
-  programs = six.programs;
-  streams = six.streams;
-  maps = six.maps;
-  entries = six.entries;
-  extensions = length t7;
-  list_programs = length t8;
-  list_streams = length t9;
-}
-
 -- the answer to an accepted file with these rows
-abbrev pub accepted_of : List ℕ → Rows → Bool → Answer
-accepted_of f rows has = Answer.Accepted (clip_info_of f) (marks_from f (marks_start f)) rows has
+abbrev pub accepted_of : List ℕ → Rows → Bool → Accepted
+accepted_of f rows has = record { info = clip_info_of f; marks = marks_from f (marks_start f); rows = rows; has_list = has }
 
 -- the scalars and the nine numbers
 abbrev pub scalars_by : ClipInfo → Scalars
@@ -77,7 +60,6 @@ nine_by r = record {
 }
 
 -- the code's answer as that of the definition
-abbrev pub read_answer_of : Answer → ReadAnswer
-read_answer_of (Answer.Refused n) = refused n
-read_answer_of (Answer.TooShort k n) = too_short k n
-read_answer_of (Answer.Accepted info marks rows has) = accepted (record { scalars = scalars_by info; marks = marks; rows = nine_by rows; has_list = has })
+abbrev pub read_answer_of : Result Accepted ReadError → ReadAnswer
+read_answer_of (Ok a) = accepted (record { scalars = scalars_by a.info; marks = a.marks; rows = nine_by a.rows; has_list = a.has_list })
+read_answer_of (Err error) = error_answer error

@@ -38,26 +38,27 @@ pub(crate) fn fill_sections(
 // Tables 8 and 9; without a list they are left as they are.
 pub(crate) fn fill_list(
     file: &[u8],
-    list: ListData,
-    listed: bool,
+    list: Option<ListData>,
     programs: &mut [u8],
     streams: &mut [u8],
 )
-    requires { ListFits file.now list listed programs.old streams.old }
+    requires { ListFits file.now list programs.old streams.old }
     ensures programs_after { programs.new ≡ overwritten (table_bytes (record_of file.now).list_programs) programs.old }
     ensures streams_after { streams.new ≡ overwritten (table_bytes (record_of file.now).list_streams) streams.old }
 {
-    if !listed {
-        return;
+    if let Some(data) = list {
+        let end = data.start + data.len;
+        info_sections::fill(
+            Section::Programs,
+            &file[data.start..end],
+            0,
+            programs,
+            streams,
+        );
     }
-    let ListData::At { start, len } = list else {
-        return;
-    };
-    let end = start + len;
-    info_sections::fill(Section::Programs, &file[start..end], 0, programs, streams);
 }
 
-// The number of marks; none where there is no section of marks.
+// The number of marks; 0 where there is no section of marks, as document 01 tells it.
 pub(crate) fn mark_count(file: &[u8], start: usize) -> u32
     requires { MarksThere file.now start }
     ensures { result ≡ marks_from file.now start }

@@ -1,85 +1,39 @@
 // A clip file read into nine lent tables.
-ghost use Rattle.std.specs.Prelude.{◌≡◌};
+ghost use Rattle.std.specs.Prelude.{◌≡◌, is_some};
 ghost use Rattle.format.specs.Refusals.{refusal_of, read_answer, tables_of, table_by};
-ghost use Rattle.clip_information.specs.Read.{read_answer_of, nine_tables_of, six_lengths, nine_lengths, accepted_of};
+ghost use Rattle.clip_information.specs.Read.{read_answer_of, nine_tables_of, accepted_of};
 
 use crate::fill::{fill_list, fill_sections, mark_count};
-use clip_prepare::{Prepared, prepare};
+use clip_prepare::{Prepared, ReadError, prepare};
 use clip_sections::info::{ClipInfo, clip_info};
 use common::header::Starts;
 use nine_tables::Rows;
 
-// What is stated of an accepted file beside its rows: the scalars, the number of marks, the rows of each table, and whether it has a (2, 5) list; or a refusal's number; or the lowest table that is too short and the rows it needs.
+// What is stated of an accepted file beside its rows: the scalars, the number of marks, the rows of each table, and whether it has a (2, 5) list, which may be without rows.
 #[derive(Clone, Copy)]
-pub enum Answer {
-    Accepted {
-        info: ClipInfo,
-        marks: u32,
-        rows: Rows,
-        has_list: bool,
-    },
-    Refused(u32),
-    TooShort {
-        table: u32,
-        rows: usize,
-    },
+pub struct Accepted {
+    pub info: ClipInfo,
+    pub marks: u32,
+    pub rows: Rows,
+    pub has_list: bool,
 }
 
-// The answer to an accepted file, whose header and marks are there.
-fn accepted(file: &[u8], rows: Rows, has_list: bool) -> Answer
-    requires { refusal_of file.now ≡ 0 }
-    ensures { result ≡ accepted_of file.now rows has_list }
-{
-    Answer::Accepted {
-        info: clip_info(file),
-        marks: mark_count(file, Starts::read(file).marks),
-        rows,
-        has_list,
+impl Accepted {
+    // Of a file whose header and marks are there.
+    fn of(file: &[u8], ready: Prepared) -> Accepted
+        requires { refusal_of file.now ≡ 0 }
+        ensures { result ≡ accepted_of file.now ready.rows (is_some ready.list) }
+    {
+        Accepted {
+            info: clip_info(file),
+            marks: mark_count(file, Starts::read(file).marks),
+            rows: ready.rows,
+            has_list: ready.list.is_some(),
+        }
     }
 }
 
-// The bytes of tables 1 to 6; the others are none yet.
-fn six_lengths(
-    atcs: &[u8],
-    stcs: &[u8],
-    programs: &[u8],
-    streams: &[u8],
-    maps: &[u8],
-    entries: &[u8],
-) -> Rows
-    ensures { result ≡ six_lengths atcs.now stcs.now programs.now streams.now maps.now entries.now }
-{
-    Rows {
-        atcs: atcs.len(),
-        stcs: stcs.len(),
-        programs: programs.len(),
-        streams: streams.len(),
-        maps: maps.len(),
-        entries: entries.len(),
-        extensions: 0,
-        list_programs: 0,
-        list_streams: 0,
-    }
-}
-
-// The bytes of tables 7 to 9 beside those of the first six.
-fn nine_lengths(six: Rows, extensions: &[u8], programs2: &[u8], streams2: &[u8]) -> Rows
-    ensures { result ≡ nine_lengths six extensions.now programs2.now streams2.now }
-{
-    Rows {
-        atcs: six.atcs,
-        stcs: six.stcs,
-        programs: six.programs,
-        streams: six.streams,
-        maps: six.maps,
-        entries: six.entries,
-        extensions: extensions.len(),
-        list_programs: programs2.len(),
-        list_streams: streams2.len(),
-    }
-}
-
-// Reads a file; a refusal leaves every table as it was.
+// Reads a file; a refusal leaves every table as it was. Nine slices and no struct of them: each clause names its table, and C lends them so.
 pub fn read(
     file: &[u8],
     atcs: &mut [u8],
@@ -91,7 +45,7 @@ pub fn read(
     extensions: &mut [u8],
     programs2: &mut [u8],
     streams2: &mut [u8],
-) -> Answer
+) -> Result<Accepted, ReadError>
     ensures result_value { read_answer_of result ≡ read_answer file.now (nine_tables_of atcs.old stcs.old programs.old streams.old maps.old entries.old extensions.old programs2.old streams2.old) }
     ensures atcs_after { atcs.new ≡ table_by (read_answer_of result) (tables_of file.now).atcs atcs.old }
     ensures stcs_after { stcs.new ≡ table_by (read_answer_of result) (tables_of file.now).stcs stcs.old }
@@ -103,20 +57,21 @@ pub fn read(
     ensures programs2_after { programs2.new ≡ table_by (read_answer_of result) (tables_of file.now).list_programs programs2.old }
     ensures streams2_after { streams2.new ≡ table_by (read_answer_of result) (tables_of file.now).list_streams streams2.old }
 {
-    let six = six_lengths(atcs, stcs, programs, streams, maps, entries);
-    match prepare(file, nine_lengths(six, extensions, programs2, streams2)) {
-        Prepared::Refused(n) => Answer::Refused(n),
-        Prepared::TooShort { table, rows } => Answer::TooShort { table, rows },
-        Prepared::Ready {
-            rows,
-            list,
-            has_list,
-        } => {
-            let count = rows.maps;
-            fill_sections(file, count, atcs, stcs, programs, streams, maps, entries);
-            extension::fill(file, Starts::read(file).extensions, extensions);
-            fill_list(file, list, has_list, programs2, streams2);
-            accepted(file, rows, has_list)
-        }
-    }
+    let bytes = Rows {
+        atcs: atcs.len(),
+        stcs: stcs.len(),
+        programs: programs.len(),
+        streams: streams.len(),
+        maps: maps.len(),
+        entries: entries.len(),
+        extensions: extensions.len(),
+        list_programs: programs2.len(),
+        list_streams: streams2.len(),
+    };
+    let ready = prepare(file, bytes)?;
+    let count = ready.rows.maps;
+    fill_sections(file, count, atcs, stcs, programs, streams, maps, entries);
+    extension::fill(file, Starts::read(file).extensions, extensions);
+    fill_list(file, ready.list, programs2, streams2);
+    Ok(Accepted::of(file, ready))
 }

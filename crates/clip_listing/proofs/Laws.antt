@@ -2,11 +2,11 @@
 use Prim.Native.Nat.{ℕ, ◌+◌, ◌*◌, ◌^◌, ◌<◌, ◌≤◌}
 use mathlib.Core.Path.{◌≡◌, sym, ap, subst, ◌∙◌}
 use mathlib.Core.List.{List, [], ◌∷◌}
-use mathlib.Core.Bool.{Bool}
 use native.Mathlib.Omega.{arith}
 use lib.ListN.{length, get_or}
 use lib.Dec.{lit≤}
 use borrow.Author.Tests.{le-leb, lt-leb}
+use Rattle.std.specs.Prelude.{Result, Ok, Err}
 use Rattle.format.specs.Bytes.{IsBytes}
 use Rattle.format.specs.ClipRecord.{Row, time, entry_cells, entry_size}
 use Rattle.format.specs.Reading.{clip_of, record_of}
@@ -20,29 +20,24 @@ use Rattle.format.proofs.Lists.{All, none, all_map, all_append, all_at}
 use Rattle.format.proofs.Read.{good_clip}
 use Rattle.format.proofs.Listing.{accepted_is, maps_back, entries_back, entries_add, maps_room, entries_room, few}
 use Rattle.clip_information.specs.Read.{read_answer_of}
-use Rattle.clip_sections.specs.declared.info.ClipInfo.{ClipInfo}
-use Rattle.nine_tables.specs.declared.Rows.{Rows}
-use Rattle.clip_information.specs.declared.read.Answer.{Answer}
+use Rattle.clip_prepare.specs.declared.ReadError.{ReadError}
+use Rattle.clip_information.specs.declared.read.Accepted.{Accepted}
 use Rattle.listing.specs.Text.{TimesFit, numbers, numbers_of}
 use Rattle.listing.proofs.Laws.{record_text_lem, room_4096}
 use Rattle.clip_listing.specs.Told.{answer_text, listing_room, numbers_by, Shown, Tellable}
 
--- the text of an answer is that of the case it is
-pub text_of : (maps entries : List ℕ) {a b : Answer} → a ≡ b → answer_text b maps entries ≡ answer_text a maps entries
-text_of maps entries e = ap (λ x. answer_text x maps entries) (sym e)
-
 -- what an answer states of an accepted file is what reading states of it
-stated : (f : List ℕ) (info : ClipInfo) (marks : ℕ) (rows : Rows) (has : Bool) → read_answer_of (Answer.Accepted info marks rows has) ≡ read_answer f listing_tables
-    → (numbers_by info marks rows ≡ numbers_of (record_of f)) × (rows.maps ≡ length (clip_of f).maps) × (rows.entries ≡ length (clip_of f).entries)
+stated : (f : List ℕ) (a : Accepted) → read_answer_of (Ok a) ≡ read_answer f listing_tables
+    → (numbers_by a ≡ numbers_of (record_of f)) × (a.rows.maps ≡ length (clip_of f).maps) × (a.rows.entries ≡ length (clip_of f).entries)
 unfolding stated_of tables_of record_of
-stated f info marks rows has h =
+stated f a h =
     let e = (accepted_is f listing_tables (sym h)).1 in
     (λ i. numbers (e i).scalars.stream_type (e i).scalars.application_type (e i).scalars.rate (e i).scalars.packets (e i).rows.atcs (e i).rows.stcs (e i).rows.programs (e i).rows.streams (e i).marks, ap (λ s. s.rows.maps) e, ap (λ s. s.rows.entries) e)
 
 -- its counts have at most 32 bits
-shown : (f : List ℕ) (info : ClipInfo) (marks : ℕ) (rows : Rows) (has : Bool) → read_answer_of (Answer.Accepted info marks rows has) ≡ read_answer f listing_tables → Shown rows
+shown : (f : List ℕ) (a : Accepted) → read_answer_of (Ok a) ≡ read_answer f listing_tables → Shown a.rows
 unfolding stated_of
-shown f info marks rows has h =
+shown f a h =
     let p = accepted_is f listing_tables (sym h) in
     let e = p.1 in
     let r = few (tables_of f) p.0 in
@@ -80,20 +75,19 @@ times_back f bytes t = record { narrow = narrow }
 
 module _ (f : List ℕ) (bytes : IsBytes f) (maps entries : List ℕ) where
   -- the maps and the entries after reading
-  abbrev maps_by : Answer → List ℕ
+  abbrev maps_by : Result Accepted ReadError → List ℕ
   maps_by a = table_by (read_answer_of a) (tables_of f).maps maps
 
-  abbrev entries_by : Answer → List ℕ
+  abbrev entries_by : Result Accepted ReadError → List ℕ
   entries_by a = table_by (read_answer_of a) (tables_of f).entries entries
 
   -- what was answered can be told
-  pub tellable : (a : Answer) (out : List ℕ) → read_answer_of a ≡ read_answer f listing_tables → listing_room ≤ length out → Tellable a (maps_by a) (entries_by a) out
+  pub tellable : (a : Result Accepted ReadError) (out : List ℕ) → read_answer_of a ≡ read_answer f listing_tables → listing_room ≤ length out → Tellable a (maps_by a) (entries_by a) out
   unfolding tables_of record_of
-  tellable (Answer.Refused n) out h room = record { room = room; rows = lit≤ tt }
-  tellable (Answer.TooShort k n) out h room = record { room = room; rows = lit≤ tt }
-  tellable (Answer.Accepted info marks rows has) out h room =
-      let e = stated f info marks rows has h in
-      let s = shown f info marks rows has h in
+  tellable (Err error) out h room = record { room = room; rows = lit≤ tt }
+  tellable (Ok a) out h room =
+      let e = stated f a h in
+      let s = shown f a h in
       record {
         room = room;
         rows = (
@@ -103,19 +97,19 @@ module _ (f : List ℕ) (bytes : IsBytes f) (maps entries : List ℕ) where
             entry_rows_of = rw e.2 (entries_room f bytes entries);
             counts = rw (e.1, e.2, maps_back f bytes maps) (omega (arith, entries_add f bytes));
             times_fit = rw e.2 (times_back f bytes entries);
-            room = omega (arith, room_4096 rows.maps rows.entries s.maps s.entries);
+            room = omega (arith, room_4096 a.rows.maps a.rows.entries s.maps s.entries);
           },
         );
       }
 
   -- and its text is that of the answer on the record
-  pub told : (a : Answer) → read_answer_of a ≡ read_answer f listing_tables
+  pub told : (a : Result Accepted ReadError) → read_answer_of a ≡ read_answer f listing_tables
       → answer_text a (maps_by a) (entries_by a) ≡ lines_by (read_answer f listing_tables) (record_of f)
   unfolding tables_of record_of
-  told (Answer.Refused n) h = ap (λ r. lines_by r (record_of f)) h
-  told (Answer.TooShort k n) h = ap (λ r. lines_by r (record_of f)) h
-  told (Answer.Accepted info marks rows has) h =
-      let e = stated f info marks rows has h in
+  told (Err (ReadError.Refused refusal)) h = ap (λ r. lines_by r (record_of f)) h
+  told (Err (ReadError.TableShort short)) h = ap (λ r. lines_by r (record_of f)) h
+  told (Ok a) h =
+      let e = stated f a h in
       record_text_lem (record_of f) e.0 (rw e.1 (maps_back f bytes maps)) (rw e.2 (entries_back f bytes entries)) ∙ ap (λ r. lines_by r (record_of f)) h
 
 -- an input within the limit is read

@@ -4,104 +4,71 @@
 pub mod list;
 
 ghost use Rattle.std.specs.Prelude.{◌≡◌};
-ghost use Rattle.clip_prepare.specs.Prepare.{list_programs, list_streams, is_list, PreparedIs};
+ghost use Rattle.clip_prepare.specs.Prepare.{PreparedIs};
+ghost use Rattle.clip_prepare.specs.declared.ReadError.{ReadError};
 
-use crate::list::{ListRows, measure_list};
-use clip_sections::sections::{Sections, measure};
+use crate::list::measure_list;
+use clip_sections::sections::measure;
 use common::header::Starts;
 use extension::ListData;
-use nine_tables::{Room, Rows, table_room};
+use info_sections::SectionCounts;
+use nine_tables::{Rows, TableShort, table_room};
+use refusals::Refusal;
 
-// Ready to put the rows into the tables; a refusal's number; or the table that is too short and the rows it needs.
+// Why a file is not read: a refusal, or the lowest table that is too short.
 #[derive(Clone, Copy)]
-pub enum Prepared {
-    Ready {
-        rows: Rows,
-        list: ListData,
-        has_list: bool,
-    },
-    Refused(u32),
-    TooShort {
-        table: u32,
-        rows: usize,
-    },
+pub enum ReadError {
+    Refused(Refusal),
+    TableShort(TableShort),
 }
 
-// The programs of the list; none where there is none.
-fn list_programs(list: ListRows) -> usize
-    ensures { result ≡ list_programs list }
-{
-    match list {
-        ListRows::Rows {
-            programs,
-            streams: _,
-        } => programs,
-        ListRows::Absent => 0,
+impl From<Refusal> for ReadError {
+    ghost from_gives = { λ refusal error. error ≡ ReadError.Refused refusal };
+
+    fn from(refusal: Refusal) -> ReadError {
+        ReadError::Refused(refusal)
     }
 }
 
-// The streams of the list; none where there is none.
-fn list_streams(list: ListRows) -> usize
-    ensures { result ≡ list_streams list }
-{
-    match list {
-        ListRows::Rows {
-            programs: _,
-            streams,
-        } => streams,
-        ListRows::Absent => 0,
+impl From<TableShort> for ReadError {
+    ghost from_gives = { λ short error. error ≡ ReadError.TableShort short };
+
+    fn from(short: TableShort) -> ReadError {
+        ReadError::TableShort(short)
     }
 }
 
-// Whether there is a list; an empty one is there.
-fn is_list(list: ListRows) -> bool
-    ensures { result ≡ is_list list }
-{
-    match list {
-        ListRows::Rows {
-            programs: _,
-            streams: _,
-        } => true,
-        ListRows::Absent => false,
-    }
+// What puts the rows into the tables: the rows of each, the data with the ids of the (2, 5) list, and the same data where it is a list of programs.
+#[derive(Clone, Copy)]
+pub struct Prepared {
+    pub rows: Rows,
+    pub data: Option<ListData>,
+    pub list: Option<ListData>,
 }
 
 // The sections, then the extensions, then the lent tables, of which the lengths in bytes are given.
-pub fn prepare(file: &[u8], bytes: Rows) -> Prepared
+pub fn prepare(file: &[u8], bytes: Rows) -> Result<Prepared, ReadError>
     ensures { PreparedIs file.now bytes result }
 {
-    match measure(file) {
-        Sections::Refused(n) => Prepared::Refused(n),
-        Sections::Counts {
-            atcs,
-            stcs,
-            programs,
-            streams,
-            maps,
-            entries,
-        } => {
-            let found = extension::measure(file, Starts::read(file).extensions);
-            let list = found.list;
-            let second = measure_list(file, list);
-            let rows = Rows {
-                atcs,
-                stcs,
-                programs,
-                streams,
-                maps,
-                entries,
-                extensions: found.rows,
-                list_programs: list_programs(second),
-                list_streams: list_streams(second),
-            };
-            match table_room(rows, bytes) {
-                Room::Short { table, rows } => Prepared::TooShort { table, rows },
-                Room::Enough => Prepared::Ready {
-                    rows,
-                    list,
-                    has_list: is_list(second),
-                },
-            }
-        }
-    }
+    let sections = measure(file)?;
+    let found = extension::measure(file, Starts::read(file).extensions);
+    let second = measure_list(file, found.list);
+    let listed = second.unwrap_or(SectionCounts { heads: 0, rows: 0 });
+    let rows = Rows {
+        atcs: sections.atcs,
+        stcs: sections.stcs,
+        programs: sections.programs,
+        streams: sections.streams,
+        maps: sections.maps,
+        entries: sections.entries,
+        extensions: found.rows,
+        list_programs: listed.heads,
+        list_streams: listed.rows,
+    };
+    table_room(rows, bytes)?;
+    Ok(Prepared {
+        rows,
+        data: found.list,
+        list: second.and(found.list),
+    })
 }

@@ -7,28 +7,12 @@ use extension::ListData;
 use info_sections::SectionCounts;
 use section_heads::Section;
 
-// The rows of the list, or that there is none.
-#[derive(Clone, Copy)]
-pub enum ListRows {
-    Rows { programs: usize, streams: usize },
-    Absent,
-}
-
-// Measures the data; data that is no list of programs is no list.
-pub(crate) fn measure_list(file: &[u8], list: ListData) -> ListRows
+// The rows of the list; none where there is no data, and where it is no list of programs.
+pub(crate) fn measure_list(file: &[u8], list: Option<ListData>) -> Option<SectionCounts>
     requires { list_end list ≤ length file.now }
     ensures { result ≡ list_rows_of (found_in file.now list) }
 {
-    let ListData::At { start, len } = list else {
-        return ListRows::Absent;
-    };
-    let end = start + len;
-    let SectionCounts::Counts {
-        heads: programs,
-        rows: streams,
-    } = info_sections::measure(Section::Programs, &file[start..end], 0)
-    else {
-        return ListRows::Absent;
-    };
-    ListRows::Rows { programs, streams }
+    let data = list?;
+    let end = data.start + data.len;
+    info_sections::measure(Section::Programs, &file[data.start..end], 0)
 }

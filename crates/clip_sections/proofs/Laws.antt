@@ -1,6 +1,6 @@
 -- The chain of refusals, test by test.
 use Prim.Native.Nat.{ℕ, zero, suc, ◌+◌, ◌-◌, ◌<◌, ◌≤◌}
-use mathlib.Core.Path.{◌≡◌, refl, sym, ◌∙◌}
+use mathlib.Core.Path.{◌≡◌, refl, sym, ap, ◌∙◌}
 use mathlib.Core.List.{List}
 use mathlib.Core.Bool.{Bool, true, false}
 use native.Mathlib.Omega.{arith}
@@ -16,11 +16,13 @@ use Rattle.format.specs.Refusals.{refusal_of}
 use Rattle.format.proofs.Tests.{both_true, passed, later_met, unless_later}
 use Rattle.common.specs.Header.{parsed_of}
 use Rattle.common.specs.declared.header.BdmvHeader.{BdmvHeader}
-use Rattle.common.specs.declared.header.Parsed.{Parsed}
+use Rattle.std.specs.Prelude.{Result, Ok, Err}
+use Rattle.refusals.specs.declared.Refusal.{Refusal}
+use Rattle.refusals.specs.Numbers.{number_of}
 use Rattle.common.proofs.Laws.{rest}
 use Rattle.cpi.specs.Maps.{cpi_told_by, index_refusal, cpi_measured}
 use Rattle.cpi.specs.declared.maps.CpiCounts.{CpiCounts}
-use Rattle.clip_sections.specs.Clips.{front_of, sections_of}
+use Rattle.clip_sections.specs.Clips.{front_of, counted_of, sections_of}
 use Rattle.clip_sections.specs.declared.sections.Sections.{Sections}
 
 -- ---- marks
@@ -50,35 +52,24 @@ module _ (f : List ℕ) where
   too_long h = rw (lt-leb (length f) 536870912 h)
 
   module _ (most : length f ≤ 536870912) where
-    -- a file without the eight bytes of letters and version is 1
-    pub truncated : parsed_of f ≡ Parsed.Truncated → 1 ≡ front_of f
+    -- a file without the eight bytes of letters and version is 1, and letters that are not a clip file's are 2
+    pub parse_refused : {e : Refusal} → Err e ≡ parsed_of f → number_of e ≡ front_of f
     unfolding front_of
-    truncated h = rw (le-leb (length f) 536870912 most) (go (leb 8 (length f)) (letters_right f) _ h)
+    parse_refused {e} h = rw (le-leb (length f) 536870912 most) (go (leb 8 (length f)) (letters_right f) _ h)
       where
-        go : (a b : Bool) (x : BdmvHeader) → pick a (pick b (Parsed.Clip x) Parsed.OtherLetters) Parsed.Truncated ≡ Parsed.Truncated
-            → 1 ≡ unless a 1 (unless b 2 (unless (leb 40 (length f)) 1 (unless (clip_info_in f) 3 0)))
-        go false b x h = refl
+        go : (a b : Bool) (x : BdmvHeader) → Err e ≡ pick a (pick b (Ok x) (Err Refusal.Letters)) (Err Refusal.HeaderShort)
+            → number_of e ≡ unless a 1 (unless b 2 (unless (leb 40 (length f)) 1 (unless (clip_info_in f) 3 0)))
+        go false b x h = let is : e ≡ Refusal.HeaderShort = cc in rw is
         go true true x h = let z : ◌≡◌ {A = ℕ} 0 1 = cc in absurd (omega arith)
-        go true false x h = let z : ◌≡◌ {A = ℕ} 0 1 = cc in absurd (omega arith)
+        go true false x h = let is : e ≡ Refusal.Letters = cc in rw is
 
-    -- letters that are not a clip file's are 2
-    pub other_letters : parsed_of f ≡ Parsed.OtherLetters → 2 ≡ front_of f
-    unfolding front_of
-    other_letters h = rw (le-leb (length f) 536870912 most) (go (leb 8 (length f)) (letters_right f) _ h)
-      where
-        go : (a b : Bool) (x : BdmvHeader) → pick a (pick b (Parsed.Clip x) Parsed.OtherLetters) Parsed.Truncated ≡ Parsed.OtherLetters
-            → 2 ≡ unless a 1 (unless b 2 (unless (leb 40 (length f)) 1 (unless (clip_info_in f) 3 0)))
-        go false b x h = let z : ◌≡◌ {A = ℕ} 0 1 = cc in absurd (omega arith)
-        go true true x h = let z : ◌≡◌ {A = ℕ} 0 1 = cc in absurd (omega arith)
-        go true false x h = refl
-
-    module _ (v : BdmvHeader) (clip : parsed_of f ≡ Parsed.Clip v) where
+    module _ (v : BdmvHeader) (clip : Ok v ≡ parsed_of f) where
       -- the letters are right
       front_is : front_of f ≡ unless (leb 40 (length f)) 1 (unless (clip_info_in f) 3 0)
       unfolding front_of
       front_is = rw (le-leb (length f) 536870912 most) (go (leb 8 (length f)) (letters_right f) _ clip)
         where
-          go : (a b : Bool) (x : BdmvHeader) → pick a (pick b (Parsed.Clip x) Parsed.OtherLetters) Parsed.Truncated ≡ Parsed.Clip v
+          go : (a b : Bool) (x : BdmvHeader) → Ok v ≡ pick a (pick b (Ok x) (Err Refusal.Letters)) (Err Refusal.HeaderShort)
               → unless a 1 (unless b 2 (unless (leb 40 (length f)) 1 (unless (clip_info_in f) 3 0))) ≡ unless (leb 40 (length f)) 1 (unless (clip_info_in f) 3 0)
           go false b x h = let z : ◌≡◌ {A = ℕ} 0 1 = cc in absurd (omega arith)
           go true true x h = refl
@@ -150,16 +141,16 @@ both_pass f h = go (front_of f) (later_of f) (sym (front_then f) ∙ h)
 
 module _ (f : List ℕ) where
   -- a number that is not 0 is a refusal, and the answer
-  refused_by : (r : ℕ) → refusal_of f ≡ r → (r ≡ 0 → ⊥) → Sections.Refused r ≡ sections_of f
+  refused_by : (r : ℕ) → refusal_of f ≡ r → (r ≡ 0 → ⊥) → Err r ≡ sections_of f
   unfolding sections_of
   refused_by r is h = rw (is, ne_eqb r 0 h)
 
   -- so is every number above 0
-  refused : (n : ℕ) → refusal_of f ≡ suc n → Sections.Refused (suc n) ≡ sections_of f
+  refused : (n : ℕ) → refusal_of f ≡ suc n → Err (suc n) ≡ sections_of f
   refused n is = refused_by (suc n) is (λ e. omega arith)
 
   -- the refusal of a front that does not pass is the answer
-  pub front_refused : (r : ℕ) → r ≡ front_of f → (r ≡ 0 → ⊥) → Sections.Refused r ≡ sections_of f
+  pub front_refused : (r : ℕ) → r ≡ front_of f → (r ≡ 0 → ⊥) → Err r ≡ sections_of f
   front_refused r e h =
       let n : front_of f ≡ 0 → ⊥ = λ z. h (e ∙ z) in
       refused_by r (front_then f ∙ rw (ne_eqb (front_of f) 0 n) (sym e)) h
@@ -170,12 +161,12 @@ module _ (f : List ℕ) where
     later = front_then f ∙ rw front
 
     -- sequences that pass the file's end are 4
-    pub sequences_refused : leb (sequences_end f (sequences_start f)) (length f) ≡ false → Sections.Refused 4 ≡ sections_of f
+    pub sequences_refused : leb (sequences_end f (sequences_start f)) (length f) ≡ false → Err 4 ≡ sections_of f
     sequences_refused h = refused 3 (later ∙ rw h)
 
     module _ (seq : leb (sequences_end f (sequences_start f)) (length f) ≡ true) where
       -- programs that pass it are 5, where the sequences do not
-      pub programs_refused : leb (programs_end f (programs_start f)) (length f) ≡ false → Sections.Refused 5 ≡ sections_of f
+      pub programs_refused : leb (programs_end f (programs_start f)) (length f) ≡ false → Err 5 ≡ sections_of f
       programs_refused h = refused 4 (later ∙ rw (seq, h))
 
       module _ (prog : leb (programs_end f (programs_start f)) (length f) ≡ true) where
@@ -184,18 +175,18 @@ module _ (f : List ℕ) where
         index_then = rw (seq, prog) (unless_later (cpi_in f (cpi_start f)) 5 (maps_refusal f (cpi_start f)) (unless (marks_in f (marks_start f)) 8 0))
 
         -- the refusal of the CPI section or of a map is the answer, where all tested before it passes
-        pub index_refused : (r : ℕ) → index_refusal f (cpi_start f) ≡ r → (r ≡ 0 → ⊥) → Sections.Refused r ≡ sections_of f
+        pub index_refused : (r : ℕ) → index_refusal f (cpi_start f) ≡ r → (r ≡ 0 → ⊥) → Err r ≡ sections_of f
         index_refused r e h = refused_by r (later ∙ index_then ∙ rw e (later_met r (unless (marks_in f (marks_start f)) 8 0) h)) h
 
         module _ (index : index_refusal f (cpi_start f) ≡ 0) where
           -- marks that pass the file's end are 8, where all tested before them is in it
-          pub marks_refused : marks_in f (marks_start f) ≡ false → Sections.Refused 8 ≡ sections_of f
+          pub marks_refused : marks_in f (marks_start f) ≡ false → Err 8 ≡ sections_of f
           marks_refused h = refused 7 (later ∙ index_then ∙ rw (index, h))
 
           -- where no test fails, the rows are counted
           pub all_measured : (a s p t m e : ℕ) → marks_in f (marks_start f) ≡ true → a ≡ length (clip_of f).atcs → s ≡ length (clip_of f).stcs
               → p ≡ length (clip_of f).programs → t ≡ length (clip_of f).streams → m ≡ length (clip_of f).maps → e ≡ length (clip_of f).entries
-              → Sections.Counts a s p t m e ≡ sections_of f
+              → Ok (record { atcs = a; stcs = s; programs = p; streams = t; maps = m; entries = e }) ≡ sections_of f
           unfolding sections_of
           all_measured a s p t m e h ea es ep et em ee =
               let z : refusal_of f ≡ 0 = later ∙ index_then ∙ rw (index, h) in
@@ -206,7 +197,7 @@ pub all_counted : (f : List ℕ) → front_of f ≡ 0 → leb (sequences_end f (
     → index_refusal f (cpi_start f) ≡ 0 → marks_in f (marks_start f) ≡ true → {a s p t m e : ℕ}
     → a ≡ length (atcs_from f (sequences_start f)) → s ≡ length (stcs_from f (sequences_start f)) → p ≡ length (programs_from f (programs_start f))
     → t ≡ length (streams_from f (programs_start f)) → m ≡ length (maps_from f (cpi_start f)) → e ≡ length (entries_from f (cpi_start f))
-    → Sections.Counts a s p t m e ≡ sections_of f
+    → Ok (record { atcs = a; stcs = s; programs = p; streams = t; maps = m; entries = e }) ≡ sections_of f
 unfolding clip_of
 all_counted f front seq prog index marks {a} {s} {p} {t} {m} {e} ea es ep et em ee = all_measured f front seq prog index a s p t m e marks ea es ep et em ee
 
@@ -214,59 +205,46 @@ all_counted f front seq prog index marks {a} {s} {p} {t} {m} {e} ea es ep et em 
 
 module _ (f : List ℕ) (c : ℕ) where
   -- the measure, unfolded
-  measured : {told : CpiCounts} → cpi_measured f c ≡ told → cpi_told_by (index_refusal f c) (length (maps_from f c)) (length (entries_from f c)) ≡ told
+  measured : {told : Result CpiCounts ℕ} → cpi_measured f c ≡ told → cpi_told_by (index_refusal f c) (length (maps_from f c)) (length (entries_from f c)) ≡ told
   unfolding cpi_measured
   measured h = h
 
   -- a refusal is told of a section that has it, and is not 0
-  pub cpi_refused : {r : ℕ} → cpi_measured f c ≡ CpiCounts.Refused r → (index_refusal f c ≡ r) × (r ≡ 0 → ⊥)
+  pub cpi_refused : {r : ℕ} → cpi_measured f c ≡ Err r → (index_refusal f c ≡ r) × (r ≡ 0 → ⊥)
   cpi_refused {r} h = go (index_refusal f c) (measured h)
     where
-      go : (x : ℕ) → cpi_told_by x (length (maps_from f c)) (length (entries_from f c)) ≡ CpiCounts.Refused r → (x ≡ r) × (r ≡ 0 → ⊥)
+      go : (x : ℕ) → cpi_told_by x (length (maps_from f c)) (length (entries_from f c)) ≡ Err r → (x ≡ r) × (r ≡ 0 → ⊥)
       go zero h = let z : ◌≡◌ {A = ℕ} 0 1 = cc in absurd (omega arith)
       go (suc n) h = let is : suc n ≡ r = cc in (is, λ e. omega arith)
 
   -- counts are told of a section that is refused by nothing, and are those of its rows
-  pub cpi_counts : (m e : ℕ) → cpi_measured f c ≡ CpiCounts.Counts m e
-      → (index_refusal f c ≡ 0) × (m ≡ length (maps_from f c)) × (e ≡ length (entries_from f c))
-  cpi_counts m e h = go (index_refusal f c) (measured h)
+  pub cpi_counts : (counts : CpiCounts) → cpi_measured f c ≡ Ok counts
+      → (index_refusal f c ≡ 0) × (counts.maps ≡ length (maps_from f c)) × (counts.entries ≡ length (entries_from f c))
+  cpi_counts counts h = go (index_refusal f c) (measured h)
     where
-      go : (x : ℕ) → cpi_told_by x (length (maps_from f c)) (length (entries_from f c)) ≡ CpiCounts.Counts m e
-          → (x ≡ 0) × (m ≡ length (maps_from f c)) × (e ≡ length (entries_from f c))
-      go zero h = (refl, cc, cc)
+      go : (x : ℕ) → cpi_told_by x (length (maps_from f c)) (length (entries_from f c)) ≡ Ok counts
+          → (x ≡ 0) × (counts.maps ≡ length (maps_from f c)) × (counts.entries ≡ length (entries_from f c))
+      go zero h =
+          let there : CpiCounts = record { maps = length (maps_from f c); entries = length (entries_from f c) } in
+          let same : counts ≡ there = cc in
+          (refl, ap (λ (x : CpiCounts). x.maps) same, ap (λ (x : CpiCounts). x.entries) same)
       go (suc n) h = let z : ◌≡◌ {A = ℕ} 0 1 = cc in absurd (omega arith)
 
 -- ---- what was measured
 
 -- what counts of rows say of the file
-pub record SectionsAre (f : List ℕ) (a s p t m e : ℕ) : Type 0 where
+pub record SectionsAre (f : List ℕ) (s : Sections) : Type 0 where
   pub accepts : refusal_of f ≡ 0
-  pub atcs_are : a ≡ length (clip_of f).atcs
-  pub stcs_are : s ≡ length (clip_of f).stcs
-  pub programs_are : p ≡ length (clip_of f).programs
-  pub streams_are : t ≡ length (clip_of f).streams
-  pub maps_are : m ≡ length (clip_of f).maps
-  pub entries_are : e ≡ length (clip_of f).entries
+  pub same : s ≡ counted_of f
 
 module _ (f : List ℕ) where
   -- counts are answered for an accepted file
-  pub sections_are : (a s p t m e : ℕ) → sections_of f ≡ Sections.Counts a s p t m e → SectionsAre f a s p t m e
+  pub sections_are : {s : Sections} → sections_of f ≡ Ok s → SectionsAre f s
   unfolding sections_of
-  sections_are a s p t m e h = go (refusal_of f) refl h
+  sections_are {s} h = go (refusal_of f) refl h
     where
-      go : (r : ℕ) → refusal_of f ≡ r
-          → pick (eqb r 0) (Sections.Counts (length (clip_of f).atcs) (length (clip_of f).stcs) (length (clip_of f).programs) (length (clip_of f).streams) (length (clip_of f).maps) (length (clip_of f).entries)) (Sections.Refused r)
-          ≡ Sections.Counts a s p t m e
-          → SectionsAre f a s p t m e
-      go zero q h = record {
-        accepts = q;
-        atcs_are = cc;
-        stcs_are = cc;
-        programs_are = cc;
-        streams_are = cc;
-        maps_are = cc;
-        entries_are = cc;
-      }
+      go : (r : ℕ) → refusal_of f ≡ r → pick (eqb r 0) (Ok (counted_of f)) (Err r) ≡ Ok s → SectionsAre f s
+      go zero q h = let is = h in record { accepts = q; same = cc }
       go (suc r) q h = let g = rw (eqb-suc-zero r) at h in let z : ◌≡◌ {A = ℕ} 0 1 = cc in absurd (omega arith)
 
   -- an accepted file's front passes

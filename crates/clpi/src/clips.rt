@@ -19,14 +19,14 @@ pub fn clpi_clip_byte_len(packets: u32) -> u64
 pub fn clpi_spn_to_byte(packets: u32, spn: u32) -> ClpiAnswer
     ensures { found_numbers result ≡ answer_numbers (ask (spn_to_byte spn) (only_scalars (only_counts 0 packets))) }
 {
-    answer_of(spn_to_byte(packets, spn))
+    answer_of(Ok(spn_to_byte(packets, spn)))
 }
 
 // The packet in which a byte lies.
 pub fn clpi_byte_to_spn(packets: u32, byte: u64) -> ClpiAnswer
     ensures { found_numbers result ≡ answer_numbers (ask (byte_to_spn byte) (only_scalars (only_counts 0 packets))) }
 {
-    answer_of(byte_to_spn(packets, byte))
+    answer_of(Ok(byte_to_spn(packets, byte)))
 }
 
 // The seconds that the clip's bytes take at its rate.

@@ -6,6 +6,7 @@ ghost use Rattle.format.specs.Tables.{stated};
 ghost use Rattle.extension_queries.specs.ById.{ask_entry};
 ghost use Rattle.clpi_answers.specs.Numbers.{found_numbers, part_numbers};
 
+use crate::table;
 use clpi_answers::part::{ClpiPart, part_of};
 use clpi_answers::{ClpiAnswer, answer_of};
 use extension_entry::data_place;
@@ -15,12 +16,14 @@ use extension_queries::entry;
 pub fn clpi_extension_data(file: &[u8], extensions: &[u8], rows: u32, row: u32) -> ClpiPart
     ensures { part_numbers result ≡ data_numbers file.now (stated extensions.now rows) row }
 {
-    part_of(data_place(file, extensions, rows, row))
+    let extensions = table(extensions, rows);
+    part_of(data_place(file, extensions, row))
 }
 
 // The row of the first extension with two ids.
 pub fn clpi_extension_entry(extensions: &[u8], rows: u32, id1: u16, id2: u16) -> ClpiAnswer
     ensures { found_numbers result ≡ answer_numbers (ask_entry (stated extensions.now rows) id1 id2) }
 {
-    answer_of(entry(extensions, rows, id1, id2))
+    let extensions = table(extensions, rows);
+    answer_of(entry(extensions, id1, id2))
 }

@@ -9,3 +9,15 @@ pub mod read;
 pub mod sequences;
 pub mod version;
 pub mod writing;
+
+ghost use Rattle.std.specs.Prelude.{◌≡◌};
+
+use table_rows::Table;
+
+// A lent table with the rows that are stated to be in it.
+fn table(bytes: &[u8], rows: u32) -> Table<'_>
+    ensures bytes_are { result.bytes.now ≡ bytes.now }
+    ensures rows_are { result.rows ≡ rows }
+{
+    Table { bytes, rows }
+}

@@ -7,6 +7,7 @@ ghost use Rattle.queries.specs.Asked.{only_maps, maps_and_entries};
 ghost use Rattle.table_rows.specs.OwnRows.{owned_rows, owned_numbers};
 ghost use Rattle.clpi_answers.specs.Numbers.{found_numbers, rows_numbers};
 
+use crate::table;
 use clpi_answers::{ClpiAnswer, ClpiRows, answer_of, answer_of_90, rows_of};
 use cpi_queries::{
     ep_map_by_kind, next_video_ep_map, primary_next_seek_spn, primary_seek_spn,
@@ -30,7 +31,9 @@ pub fn clpi_entry_point_at_or_before(
 ) -> ClpiAnswer
     ensures { found_numbers result ≡ answer_numbers (ask (entry_point_at_or_before map (record { ticks = at_90k })) (maps_and_entries (stated maps.now map_rows) (stated entries.now entry_rows))) }
 {
-    answer_of(entry_point_at_or_before(maps, map_rows, entries, entry_rows, map, Pts90(at_90k)))
+    let maps = table(maps, map_rows);
+    let entries = table(entries, entry_rows);
+    answer_of(entry_point_at_or_before(maps, entries, map, Pts90(at_90k)))
 }
 
 // The entry of a map with the least time above the one given.
@@ -44,7 +47,9 @@ pub fn clpi_entry_point_after(
 ) -> ClpiAnswer
     ensures { found_numbers result ≡ answer_numbers (ask (entry_point_after map (record { ticks = at_90k })) (maps_and_entries (stated maps.now map_rows) (stated entries.now entry_rows))) }
 {
-    answer_of(entry_point_after(maps, map_rows, entries, entry_rows, map, Pts90(at_90k)))
+    let maps = table(maps, map_rows);
+    let entries = table(entries, entry_rows);
+    answer_of(entry_point_after(maps, entries, map, Pts90(at_90k)))
 }
 
 // The packet to read from for a time: that of the entry at or before it.
@@ -58,7 +63,9 @@ pub fn clpi_seek_spn(
 ) -> ClpiAnswer
     ensures { found_numbers result ≡ answer_numbers (ask (seek_spn map (record { ticks = at_90k })) (maps_and_entries (stated maps.now map_rows) (stated entries.now entry_rows))) }
 {
-    answer_of(seek_spn(maps, map_rows, entries, entry_rows, map, Pts90(at_90k)))
+    let maps = table(maps, map_rows);
+    let entries = table(entries, entry_rows);
+    answer_of(seek_spn(maps, entries, map, Pts90(at_90k)))
 }
 
 // The packet of the entry after a time.
@@ -72,7 +79,9 @@ pub fn clpi_next_seek_spn(
 ) -> ClpiAnswer
     ensures { found_numbers result ≡ answer_numbers (ask (next_seek_spn map (record { ticks = at_90k })) (maps_and_entries (stated maps.now map_rows) (stated entries.now entry_rows))) }
 {
-    answer_of(next_seek_spn(maps, map_rows, entries, entry_rows, map, Pts90(at_90k)))
+    let maps = table(maps, map_rows);
+    let entries = table(entries, entry_rows);
+    answer_of(next_seek_spn(maps, entries, map, Pts90(at_90k)))
 }
 
 // The time of the first entry of a map.
@@ -85,7 +94,9 @@ pub fn clpi_first_pts(
 ) -> ClpiAnswer
     ensures { found_numbers result ≡ answer_numbers (ask (first_pts map) (maps_and_entries (stated maps.now map_rows) (stated entries.now entry_rows))) }
 {
-    answer_of_90(first_pts(maps, map_rows, entries, entry_rows, map))
+    let maps = table(maps, map_rows);
+    let entries = table(entries, entry_rows);
+    answer_of_90(first_pts(maps, entries, map))
 }
 
 // The time of the last entry of a map.
@@ -98,7 +109,9 @@ pub fn clpi_last_pts(
 ) -> ClpiAnswer
     ensures { found_numbers result ≡ answer_numbers (ask (last_pts map) (maps_and_entries (stated maps.now map_rows) (stated entries.now entry_rows))) }
 {
-    answer_of_90(last_pts(maps, map_rows, entries, entry_rows, map))
+    let maps = table(maps, map_rows);
+    let entries = table(entries, entry_rows);
+    answer_of_90(last_pts(maps, entries, map))
 }
 
 // The last time of a map less its first.
@@ -111,7 +124,9 @@ pub fn clpi_indexed_span_90k(
 ) -> ClpiAnswer
     ensures { found_numbers result ≡ answer_numbers (ask (indexed_span_90k map) (maps_and_entries (stated maps.now map_rows) (stated entries.now entry_rows))) }
 {
-    answer_of_90(indexed_span_90k(maps, map_rows, entries, entry_rows, map))
+    let maps = table(maps, map_rows);
+    let entries = table(entries, entry_rows);
+    answer_of_90(indexed_span_90k(maps, entries, map))
 }
 
 // The entries of a map: the first and how many.
@@ -124,14 +139,17 @@ pub fn clpi_entries_of_map(
 ) -> ClpiRows
     ensures { rows_numbers result ≡ owned_numbers (owned_rows 2 entry_cells (stated maps.now map_rows) (stated entries.now entry_rows) map) }
 {
-    rows_of(entries_of_map(maps, map_rows, entries, entry_rows, map))
+    let maps = table(maps, map_rows);
+    let entries = table(entries, entry_rows);
+    rows_of(entries_of_map(maps, entries, map))
 }
 
 // The row of the primary map.
 pub fn clpi_primary_video_ep_map(maps: &[u8], rows: u32) -> ClpiAnswer
     ensures { found_numbers result ≡ answer_numbers (ask primary_video_ep_map (only_maps (stated maps.now rows))) }
 {
-    answer_of(primary_video_ep_map(maps, rows))
+    let maps = table(maps, rows);
+    answer_of(primary_video_ep_map(maps))
 }
 
 // The packet to read from for a time, by the primary map.
@@ -144,7 +162,9 @@ pub fn clpi_primary_seek_spn(
 ) -> ClpiAnswer
     ensures { found_numbers result ≡ answer_numbers (ask (primary_seek_spn (record { ticks = at_90k })) (maps_and_entries (stated maps.now map_rows) (stated entries.now entry_rows))) }
 {
-    answer_of(primary_seek_spn(maps, map_rows, entries, entry_rows, Pts90(at_90k)))
+    let maps = table(maps, map_rows);
+    let entries = table(entries, entry_rows);
+    answer_of(primary_seek_spn(maps, entries, Pts90(at_90k)))
 }
 
 // The packet of the entry after a time, by the primary map.
@@ -157,19 +177,23 @@ pub fn clpi_primary_next_seek_spn(
 ) -> ClpiAnswer
     ensures { found_numbers result ≡ answer_numbers (ask (primary_next_seek_spn (record { ticks = at_90k })) (maps_and_entries (stated maps.now map_rows) (stated entries.now entry_rows))) }
 {
-    answer_of(primary_next_seek_spn(maps, map_rows, entries, entry_rows, Pts90(at_90k)))
+    let maps = table(maps, map_rows);
+    let entries = table(entries, entry_rows);
+    answer_of(primary_next_seek_spn(maps, entries, Pts90(at_90k)))
 }
 
 // The row of the first map of a type.
 pub fn clpi_ep_map_by_kind(maps: &[u8], rows: u32, kind: u8) -> ClpiAnswer
     ensures { found_numbers result ≡ answer_numbers (ask (ep_map_by_kind kind) (only_maps (stated maps.now rows))) }
 {
-    answer_of(ep_map_by_kind(maps, rows, kind))
+    let maps = table(maps, rows);
+    answer_of(ep_map_by_kind(maps, kind))
 }
 
 // The row of the first video map from a row on, by the low four bits of the type.
 pub fn clpi_next_video_ep_map(maps: &[u8], rows: u32, from: u32) -> ClpiAnswer
     ensures { found_numbers result ≡ answer_numbers (ask (next_video_ep_map «from») (only_maps (stated maps.now rows))) }
 {
-    answer_of(next_video_ep_map(maps, rows, from))
+    let maps = table(maps, rows);
+    answer_of(next_video_ep_map(maps, from))
 }

@@ -6,6 +6,7 @@ ghost use Rattle.queries.specs.Asked.{only_stcs, atcs_and_stcs};
 ghost use Rattle.table_rows.specs.OwnRows.{owned_rows, owned_numbers};
 ghost use Rattle.clpi_answers.specs.Numbers.{found_numbers, rows_numbers};
 
+use crate::table;
 use atc_queries::{stc_sequence_by_id, stc_sequence_for_spn, stcs_of_atc};
 use clpi_answers::{ClpiAnswer, ClpiRows, answer_of, answer_of_45, answer_of_90, rows_of};
 use sequence_queries::{
@@ -17,35 +18,40 @@ use ticks::Ticks90;
 pub fn clpi_minutes_remaining(stcs: &[u8], rows: u32, stc: u32, at_90k: u64) -> ClpiAnswer
     ensures { found_numbers result ≡ answer_numbers (ask (minutes_remaining stc (record { ticks = at_90k })) (only_stcs (stated stcs.now rows))) }
 {
-    answer_of(minutes_remaining(stcs, rows, stc, Ticks90(at_90k)))
+    let stcs = table(stcs, rows);
+    answer_of(minutes_remaining(stcs, stc, Ticks90(at_90k)))
 }
 
 // The presentation span in 90 kHz ticks.
 pub fn clpi_presentation_span_90k(stcs: &[u8], rows: u32) -> ClpiAnswer
     ensures { found_numbers result ≡ answer_numbers (ask presentation_span_90k (only_stcs (stated stcs.now rows))) }
 {
-    answer_of_90(presentation_span_90k(stcs, rows))
+    let stcs = table(stcs, rows);
+    answer_of_90(presentation_span_90k(stcs))
 }
 
 // How long an STC is, in 45 kHz ticks.
 pub fn clpi_duration_45k(stcs: &[u8], rows: u32, stc: u32) -> ClpiAnswer
     ensures { found_numbers result ≡ answer_numbers (ask (duration45k stc) (only_stcs (stated stcs.now rows))) }
 {
-    answer_of_45(duration_45k(stcs, rows, stc))
+    let stcs = table(stcs, rows);
+    answer_of_45(duration_45k(stcs, stc))
 }
 
 // How long an STC is, in 90 kHz ticks.
 pub fn clpi_duration_90k(stcs: &[u8], rows: u32, stc: u32) -> ClpiAnswer
     ensures { found_numbers result ≡ answer_numbers (ask (duration90k stc) (only_stcs (stated stcs.now rows))) }
 {
-    answer_of_90(duration_90k(stcs, rows, stc))
+    let stcs = table(stcs, rows);
+    answer_of_90(duration_90k(stcs, stc))
 }
 
 // The row of the first STC.
 pub fn clpi_first_stc_sequence(stcs: &[u8], rows: u32) -> ClpiAnswer
     ensures { found_numbers result ≡ answer_numbers (ask first_stc_sequence (only_stcs (stated stcs.now rows))) }
 {
-    answer_of(first_stc_sequence(stcs, rows))
+    let stcs = table(stcs, rows);
+    answer_of(first_stc_sequence(stcs))
 }
 
 // The STCs of an ATC: the first and how many.
@@ -58,7 +64,9 @@ pub fn clpi_stcs_of_atc(
 ) -> ClpiRows
     ensures { rows_numbers result ≡ owned_numbers (owned_rows 1 stc_cells (stated atcs.now atc_rows) (stated stcs.now stc_rows) atc) }
 {
-    rows_of(stcs_of_atc(atcs, atc_rows, stcs, stc_rows, atc))
+    let atcs = table(atcs, atc_rows);
+    let stcs = table(stcs, stc_rows);
+    rows_of(stcs_of_atc(atcs, stcs, atc))
 }
 
 // The row of the STC with an id, through all ATCs.
@@ -71,7 +79,9 @@ pub fn clpi_stc_sequence_by_id(
 ) -> ClpiAnswer
     ensures { found_numbers result ≡ answer_numbers (ask (stc_sequence_by_id id) (atcs_and_stcs (stated atcs.now atc_rows) (stated stcs.now stc_rows))) }
 {
-    answer_of(stc_sequence_by_id(atcs, atc_rows, stcs, stc_rows, id))
+    let atcs = table(atcs, atc_rows);
+    let stcs = table(stcs, stc_rows);
+    answer_of(stc_sequence_by_id(atcs, stcs, id))
 }
 
 // The row of the STC of a packet in one ATC, through all ATCs.
@@ -85,5 +95,7 @@ pub fn clpi_stc_sequence_for_spn(
 ) -> ClpiAnswer
     ensures { found_numbers result ≡ answer_numbers (ask (stc_sequence_for_spn atc spn) (atcs_and_stcs (stated atcs.now atc_rows) (stated stcs.now stc_rows))) }
 {
-    answer_of(stc_sequence_for_spn(atcs, atc_rows, stcs, stc_rows, atc, spn))
+    let atcs = table(atcs, atc_rows);
+    let stcs = table(stcs, stc_rows);
+    answer_of(stc_sequence_for_spn(atcs, stcs, atc, spn))
 }

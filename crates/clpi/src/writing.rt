@@ -9,10 +9,11 @@ ghost use Rattle.queries.specs.Asked.{tables_with};
 ghost use Rattle.rewrite.specs.Rewrite.{rewrite_answer, length_answer, length_numbers};
 ghost use Rattle.clpi_writing.specs.Numbers.{writing_numbers, new_length_numbers};
 
+use crate::table;
 use clip_sections::info::ClipInfo;
 use clpi_writing::{ClpiLength, ClpiWriting, length_of, writing_of};
 use encode::write::write;
-use limits::tables::StatedRows;
+use limits::tables::ClipTables;
 use rewrite::rewrite::{rewrite, rewritten_length};
 
 // Writes the record of six tables with their stated rows into the output; a refusal leaves it as it was.
@@ -35,17 +36,21 @@ pub fn clpi_write(
     ensures result_value { writing_numbers result ≡ write_numbers (write_answer (tables_with (scalars_by info) (stated atcs.now atc_rows) (stated stcs.now stc_rows) (stated programs.now program_rows) (stated streams.now stream_rows) (stated maps.now map_rows) (stated entries.now entry_rows)) output.old) }
     ensures output_after { output.new ≡ output_after (tables_with (scalars_by info) (stated atcs.now atc_rows) (stated stcs.now stc_rows) (stated programs.now program_rows) (stated streams.now stream_rows) (stated maps.now map_rows) (stated entries.now entry_rows)) output.old }
 {
-    let rows = StatedRows {
-        atcs: atc_rows,
-        stcs: stc_rows,
-        programs: program_rows,
-        streams: stream_rows,
-        maps: map_rows,
-        entries: entry_rows,
+    let atcs = table(atcs, atc_rows);
+    let stcs = table(stcs, stc_rows);
+    let programs = table(programs, program_rows);
+    let streams = table(streams, stream_rows);
+    let maps = table(maps, map_rows);
+    let entries = table(entries, entry_rows);
+    let tables = ClipTables {
+        atcs,
+        stcs,
+        programs,
+        streams,
+        maps,
+        entries,
     };
-    writing_of(write(
-        info, rows, atcs, stcs, programs, streams, maps, entries, output,
-    ))
+    writing_of(write(info, tables, output))
 }
 
 // Rewrites a file into the output; a refusal leaves it as it was.

@@ -1,7 +1,9 @@
 -- The numbers of the structs with which C is answered, in the order of the definitions.
-use Rattle.std.specs.Prelude.{ℕ, List, [], ◌∷◌}
+use Rattle.std.specs.Prelude.{ℕ, List, [], ◌∷◌, Result, Ok, Err}
 use Rattle.std.specs.Float.{binary64}
 use Rattle.std.specs.Float.Ieee.{to_bits}
+use Rattle.refusals.specs.declared.Refusal.{Refusal}
+use Rattle.refusals.specs.Numbers.{number_of}
 use Rattle.extension_entry.specs.declared.Part.{Part}
 use Rattle.clpi_answers.specs.declared.part.ClpiPart.{ClpiPart}
 use Rattle.clpi_answers.specs.declared.ClpiAnswer.{ClpiAnswer}
@@ -24,7 +26,7 @@ rows_numbers r = r.refusal ∷ r.first ∷ r.count ∷ []
 abbrev pub part_numbers : ClpiPart → List ℕ
 part_numbers p = p.refusal ∷ p.offset ∷ p.length ∷ []
 
--- those of a place: 22 and zeros where it is refused
-abbrev pub place_numbers : Part → List ℕ
-place_numbers (Part.At start len) = 0 ∷ start ∷ len ∷ []
-place_numbers Part.Refused = 22 ∷ 0 ∷ 0 ∷ []
+-- those of a place: the refusal's number and zeros where it is refused
+abbrev pub place_numbers : Result Part Refusal → List ℕ
+place_numbers (Ok part) = 0 ∷ part.start ∷ part.len ∷ []
+place_numbers (Err refusal) = number_of refusal ∷ 0 ∷ 0 ∷ []

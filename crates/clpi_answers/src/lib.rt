@@ -11,7 +11,8 @@ ghost use Rattle.table_rows.specs.OwnRows.{owned_of, owned_numbers};
 ghost use Rattle.clpi_answers.specs.Numbers.{found_numbers, rows_numbers};
 
 use queries::{Found, Time45, Time90};
-use table_rows::own::Own;
+use refusals::Refusal;
+use table_rows::own::OwnRows;
 
 // A refusal; whether there is a value; the value. The other numbers are 0.
 #[repr(C)]
@@ -36,20 +37,20 @@ pub fn answer_of(found: Found) -> ClpiAnswer
     ensures { found_numbers result ≡ answer_numbers (found_of found) }
 {
     match found {
-        Found::Refused(refusal) => ClpiAnswer {
-            refusal,
-            found: 0,
-            value: 0,
-        },
-        Found::Nothing => ClpiAnswer {
-            refusal: 0,
-            found: 0,
-            value: 0,
-        },
-        Found::Number(value) => ClpiAnswer {
+        Ok(Some(value)) => ClpiAnswer {
             refusal: 0,
             found: 1,
             value,
+        },
+        Ok(None) => ClpiAnswer {
+            refusal: 0,
+            found: 0,
+            value: 0,
+        },
+        Err(refusal) => ClpiAnswer {
+            refusal: refusal.number(),
+            found: 0,
+            value: 0,
         },
     }
 }
@@ -58,57 +59,30 @@ pub fn answer_of(found: Found) -> ClpiAnswer
 pub fn answer_of_45(time: Time45) -> ClpiAnswer
     ensures { found_numbers result ≡ answer_numbers (time45_of time) }
 {
-    match time {
-        Time45::Refused(refusal) => ClpiAnswer {
-            refusal,
-            found: 0,
-            value: 0,
-        },
-        Time45::Ticks(t) => ClpiAnswer {
-            refusal: 0,
-            found: 1,
-            value: t.0 as u64,
-        },
-    }
+    answer_of(time.map(|t| Some(u64::from(t.0))))
 }
 
 // The numbers of a time in 90 kHz ticks.
 pub fn answer_of_90(time: Time90) -> ClpiAnswer
     ensures { found_numbers result ≡ answer_numbers (time90_of time) }
 {
-    match time {
-        Time90::Refused(refusal) => ClpiAnswer {
-            refusal,
-            found: 0,
-            value: 0,
-        },
-        Time90::Nothing => ClpiAnswer {
-            refusal: 0,
-            found: 0,
-            value: 0,
-        },
-        Time90::Ticks(t) => ClpiAnswer {
-            refusal: 0,
-            found: 1,
-            value: t.0,
-        },
-    }
+    answer_of(time.map(|t| t.map(|t| t.0)))
 }
 
 // The numbers of the rows of a header row.
-pub fn rows_of(own: Own) -> ClpiRows
+pub fn rows_of(own: Result<OwnRows, Refusal>) -> ClpiRows
     ensures { rows_numbers result ≡ owned_numbers (owned_of own) }
 {
     match own {
-        Own::Refused => ClpiRows {
-            refusal: 22,
-            count: 0,
-            first: 0,
-        },
-        Own::Rows { first, count } => ClpiRows {
+        Ok(OwnRows { first, count }) => ClpiRows {
             refusal: 0,
             count,
             first,
+        },
+        Err(refused) => ClpiRows {
+            refusal: refused.number(),
+            count: 0,
+            first: 0,
         },
     }
 }

@@ -3,6 +3,7 @@ ghost use Rattle.std.specs.Prelude.{◌≡◌};
 ghost use Rattle.clpi_answers.specs.Numbers.{part_numbers, place_numbers};
 
 use extension_entry::Part;
+use refusals::Refusal;
 
 // Where the data of a row stands, or 22 and zeros.
 #[repr(C)]
@@ -14,17 +15,17 @@ pub struct ClpiPart {
 }
 
 // The numbers of a place.
-pub fn part_of(place: Part) -> ClpiPart
+pub fn part_of(place: Result<Part, Refusal>) -> ClpiPart
     ensures { part_numbers result ≡ place_numbers place }
 {
     match place {
-        Part::At { start, len } => ClpiPart {
+        Ok(Part { start, len }) => ClpiPart {
             refusal: 0,
             offset: start,
             length: len,
         },
-        Part::Refused => ClpiPart {
-            refusal: 22,
+        Err(refusal) => ClpiPart {
+            refusal: refusal.number(),
             offset: 0,
             length: 0,
         },

@@ -1,22 +1,20 @@
 -- The numbers of an answer are the definition's, and its counts fit their cells.
-use Prim.Native.Nat.{ℕ, ◌≤◌}
+use Prim.Native.Nat.{ℕ}
 use mathlib.Core.Path.{◌≡◌, refl, sym, ap, ◌∙◌}
 use mathlib.Core.List.{List}
 use mathlib.Core.Bool.{Bool, true, false}
 use lib.Dec.{lit≤}
 use mir.Val.{bool_byte}
+use Rattle.std.specs.Prelude.{Result, Ok, Err}
 use Rattle.format.specs.Bytes.{IsBytes}
-use Rattle.format.specs.Refusals.{Stated, read_answer, read_numbers, flag, tables_of, stated_of, table_by, tables_after}
+use Rattle.format.specs.Refusals.{Stated, read_answer, flag, tables_of, stated_of, table_by, tables_after}
 use Rattle.format.specs.Tables.{Nine}
 use Rattle.format.proofs.Counts.{tables_few, needed_few}
 use Rattle.format.proofs.Listing.{accepted_is}
 use Rattle.clip_information.specs.Read.{read_answer_of}
-use Rattle.clip_information.specs.declared.read.Answer.{Answer}
+use Rattle.clip_prepare.specs.declared.ReadError.{ReadError}
+use Rattle.clip_information.specs.declared.read.Accepted.{Accepted}
 use Rattle.clpi_reading.specs.Numbers.{CountsFit}
-
--- the numbers of an answer are those of the case it is
-pub numbers_of_lem : {a b : Answer} → a ≡ b → read_numbers (read_answer_of b) ≡ read_numbers (read_answer_of a)
-numbers_of_lem e = ap (λ x. read_numbers (read_answer_of x)) (sym e)
 
 -- a flag's number
 pub flag_is : (b : Bool) → bool_byte b ≡ flag b
@@ -24,16 +22,16 @@ flag_is true = refl
 flag_is false = refl
 
 -- no count of an answer is above 66,846,465
-pub counts_fit : (f : List ℕ) → IsBytes f → (t : Nine (List ℕ)) (a : Answer) → read_answer_of a ≡ read_answer f t → CountsFit a
+pub counts_fit : (f : List ℕ) → IsBytes f → (t : Nine (List ℕ)) (a : Result Accepted ReadError) → read_answer_of a ≡ read_answer f t → CountsFit a
 unfolding stated_of
-counts_fit f bytes t (Answer.Refused n) h = lit≤ tt
-counts_fit f bytes t (Answer.TooShort k n) h = needed_few f t (tables_few f bytes) (sym h)
-counts_fit f bytes t (Answer.Accepted info marks rows has) h =
+counts_fit f bytes t (Err (ReadError.Refused refusal)) h = lit≤ tt
+counts_fit f bytes t (Err (ReadError.TableShort short)) h = needed_few f t (tables_few f bytes) (sym h)
+counts_fit f bytes t (Ok answer) h =
     let e = (accepted_is f t (sym h)).1 in
     rw (ap (λ (s : Stated). s.rows) e) (tables_few f bytes)
 
 -- nine equations for the tables are one
-pub tables_are : (f : List ℕ) (t x : Nine (List ℕ)) (a : Answer) → read_answer_of a ≡ read_answer f t
+pub tables_are : (f : List ℕ) (t x : Nine (List ℕ)) (a : Result Accepted ReadError) → read_answer_of a ≡ read_answer f t
     → x.atcs ≡ table_by (read_answer_of a) (tables_of f).atcs t.atcs
     → x.stcs ≡ table_by (read_answer_of a) (tables_of f).stcs t.stcs
     → x.programs ≡ table_by (read_answer_of a) (tables_of f).programs t.programs

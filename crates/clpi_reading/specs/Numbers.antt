@@ -1,9 +1,10 @@
 -- The numbers of reading's answer as C is handed it, in the order of the definitions.
-use Rattle.std.specs.Prelude.{ℕ, ◌≤◌, List, [], ◌∷◌, replicate}
+use Rattle.std.specs.Prelude.{ℕ, ◌≤◌, List, [], ◌∷◌, replicate, Result, Ok, Err}
 use Rattle.format.specs.Tables.{same_nine, AllNine}
 use Rattle.nine_tables.specs.declared.Rows.{Rows}
 use Rattle.clip_information.specs.Read.{nine_by}
-use Rattle.clip_information.specs.declared.read.Answer.{Answer}
+use Rattle.clip_prepare.specs.declared.ReadError.{ReadError}
+use Rattle.clip_information.specs.declared.read.Accepted.{Accepted}
 use Rattle.clpi_reading.specs.declared.ClpiReading.{ClpiReading}
 
 -- the 22 numbers of reading's answer
@@ -24,7 +25,7 @@ abbrev pub RowsFit : Rows → Type 0
 RowsFit rows = AllNine ◌≤◌ (nine_by rows) (same_nine 66846465)
 
 -- the counts that an answer tells are so small: the rows needed, or those of all nine tables; a refusal tells none
-abbrev pub CountsFit : Answer → Type 0
-CountsFit (Answer.Refused n) = 0 ≤ 0
-CountsFit (Answer.TooShort k n) = n ≤ 66846465
-CountsFit (Answer.Accepted info marks rows has) = RowsFit rows
+abbrev pub CountsFit : Result Accepted ReadError → Type 0
+CountsFit (Ok answer) = RowsFit answer.rows
+CountsFit (Err (ReadError.Refused refusal)) = 0 ≤ 0
+CountsFit (Err (ReadError.TableShort short)) = short.rows ≤ 66846465

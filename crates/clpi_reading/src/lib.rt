@@ -6,11 +6,12 @@ ghost use Rattle.format.specs.Refusals.{read_numbers};
 ghost use Rattle.clip_information.specs.Read.{read_answer_of};
 ghost use Rattle.clpi_reading.specs.Numbers.{reading_numbers, refused_numbers, CountsFit};
 
-use clip_information::read::Answer;
+use clip_information::read::Accepted;
+use clip_prepare::ReadError;
 
 // What reading answers; every number beside a refusal is 0, but for the table and the rows that 21 tells.
 #[repr(C)]
-#[derive(Clone, Copy)]
+#[derive(Clone, Copy, Default)]
 pub struct ClpiReading {
     pub refusal: u32,
     pub table: u32,
@@ -44,64 +45,45 @@ fn refused(refusal: u32, table: u32, rows_needed: u32) -> ClpiReading
         refusal,
         table,
         rows_needed,
-        letters: 0,
-        version: 0,
-        clip_stream_type: 0,
-        application_type: 0,
-        ts_recording_rate: 0,
-        number_of_source_packets: 0,
-        validity_flags: 0,
-        format_id: 0,
-        marks: 0,
-        atcs: 0,
-        stcs: 0,
-        programs: 0,
-        streams: 0,
-        maps: 0,
-        entries: 0,
-        extensions: 0,
-        list_programs: 0,
-        list_streams: 0,
-        has_list: 0,
+        ..ClpiReading::default()
     }
 }
 
 // The numbers of an answer.
-pub fn reading_of(answer: Answer) -> ClpiReading
+pub fn reading_of(answer: Result<Accepted, ReadError>) -> ClpiReading
     requires { CountsFit answer }
     ensures { reading_numbers result ≡ read_numbers (read_answer_of answer) }
 {
     match answer {
-        Answer::Refused(number) => refused(number, 0, 0),
-        Answer::TooShort { table, rows } => refused(21, table, rows as u32),
-        Answer::Accepted {
-            info,
-            marks,
-            rows,
-            has_list,
-        } => ClpiReading {
-            refusal: 0,
-            table: 0,
-            rows_needed: 0,
-            letters: info.letters,
-            version: info.version,
-            clip_stream_type: info.clip_stream_type,
-            application_type: info.application_type,
-            ts_recording_rate: info.ts_recording_rate,
-            number_of_source_packets: info.number_of_source_packets,
-            validity_flags: info.validity_flags,
-            format_id: info.format_id,
-            marks,
-            atcs: rows.atcs as u32,
-            stcs: rows.stcs as u32,
-            programs: rows.programs as u32,
-            streams: rows.streams as u32,
-            maps: rows.maps as u32,
-            entries: rows.entries as u32,
-            extensions: rows.extensions as u32,
-            list_programs: rows.list_programs as u32,
-            list_streams: rows.list_streams as u32,
-            has_list: has_list as u32,
-        },
+        Ok(read) => {
+            let info = read.info;
+            let rows = read.rows;
+            ClpiReading {
+                refusal: 0,
+                table: 0,
+                rows_needed: 0,
+                letters: info.letters,
+                version: info.version,
+                clip_stream_type: info.clip_stream_type,
+                application_type: info.application_type,
+                ts_recording_rate: info.ts_recording_rate,
+                number_of_source_packets: info.number_of_source_packets,
+                validity_flags: info.validity_flags,
+                format_id: info.format_id,
+                marks: read.marks,
+                atcs: rows.atcs as u32,
+                stcs: rows.stcs as u32,
+                programs: rows.programs as u32,
+                streams: rows.streams as u32,
+                maps: rows.maps as u32,
+                entries: rows.entries as u32,
+                extensions: rows.extensions as u32,
+                list_programs: rows.list_programs as u32,
+                list_streams: rows.list_streams as u32,
+                has_list: read.has_list as u32,
+            }
+        }
+        Err(ReadError::Refused(refusal)) => refused(refusal.number(), 0, 0),
+        Err(ReadError::TableShort(short)) => refused(21, short.table, short.rows as u32),
     }
 }

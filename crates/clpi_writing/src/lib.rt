@@ -7,8 +7,8 @@ ghost use Rattle.encode.specs.Writing.{write_answer_of, bytes_in};
 ghost use Rattle.rewrite.specs.Rewrite.{length_of, length_numbers, length_in};
 ghost use Rattle.clpi_writing.specs.Numbers.{writing_numbers, new_length_numbers};
 
-use encode::write::Answer;
-use rewrite::rewrite::NewLength;
+use encode::write::WriteError;
+use refusals::Refusal;
 
 // A refusal; with 23 how many bytes the output needs; without one how many were written. The other numbers are 0.
 #[repr(C)]
@@ -19,23 +19,23 @@ pub struct ClpiWriting {
     pub bytes_written: u32,
 }
 
-// The numbers of an answer.
-pub fn writing_of(answer: Answer) -> ClpiWriting
+// The numbers of an answer. No `From`, since it asks that the length fits.
+pub fn writing_of(answer: Result<usize, WriteError>) -> ClpiWriting
     requires { bytes_in (write_answer_of answer) < 2 ^ 32 }
     ensures { writing_numbers result ≡ write_numbers (write_answer_of answer) }
 {
     match answer {
-        Answer::Written(bytes) => ClpiWriting {
+        Ok(bytes) => ClpiWriting {
             refusal: 0,
             bytes_needed: 0,
             bytes_written: bytes as u32,
         },
-        Answer::Refused(refusal) => ClpiWriting {
-            refusal,
+        Err(WriteError::Refused(e)) => ClpiWriting {
+            refusal: e.number(),
             bytes_needed: 0,
             bytes_written: 0,
         },
-        Answer::TooShort(bytes) => ClpiWriting {
+        Err(WriteError::OutputShort(bytes)) => ClpiWriting {
             refusal: 23,
             bytes_needed: bytes as u32,
             bytes_written: 0,
@@ -51,16 +51,19 @@ pub struct ClpiLength {
     pub bytes: u32,
 }
 
-// The numbers of a length.
-pub fn length_of(length: NewLength) -> ClpiLength
+// The numbers of a length. No `From`, since it asks that the length fits.
+pub fn length_of(length: Result<usize, Refusal>) -> ClpiLength
     requires { length_in (length_of «length») < 2 ^ 32 }
     ensures { new_length_numbers result ≡ length_numbers (length_of «length») }
 {
     match length {
-        NewLength::Bytes(bytes) => ClpiLength {
+        Ok(bytes) => ClpiLength {
             refusal: 0,
             bytes: bytes as u32,
         },
-        NewLength::Refused(refusal) => ClpiLength { refusal, bytes: 0 },
+        Err(refusal) => ClpiLength {
+            refusal: refusal.number(),
+            bytes: 0,
+        },
     }
 }

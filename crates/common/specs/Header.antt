@@ -1,9 +1,9 @@
 -- What the front of a file says, and where its sections start.
-use Rattle.std.specs.Prelude.{ℕ, ◌≡◌, List, length, leb}
+use Rattle.std.specs.Prelude.{ℕ, ◌≡◌, List, length, leb, Result, Ok, Err}
 use Rattle.format.specs.Bytes.{pick}
 use Rattle.format.specs.ClipRecord.{letters_of, letters_right, version_of, sequences_start, programs_start, cpi_start, marks_start, extensions_start}
 use Rattle.common.specs.declared.header.BdmvHeader.{BdmvHeader}
-use Rattle.common.specs.declared.header.Parsed.{Parsed}
+use Rattle.refusals.specs.declared.Refusal.{Refusal}
 use Rattle.common.specs.declared.header.Starts.{Starts}
 
 -- the letters and the version that were read
@@ -12,11 +12,11 @@ pub record HeaderIs (f : List ℕ) (h : BdmvHeader) : Type 0 where
   pub version : h.version_number ≡ version_of f
 
 -- eight bytes are there, the letters are right, and then the header counts
-abbrev pub parsed_of : List ℕ → Parsed
+abbrev pub parsed_of : List ℕ → Result BdmvHeader Refusal
 parsed_of f =
     pick (leb 8 (length f))
-    (pick (letters_right f) (Parsed.Clip (record { type_indicator = letters_of f; version_number = version_of f })) Parsed.OtherLetters)
-    Parsed.Truncated
+    (pick (letters_right f) (Ok (record { type_indicator = letters_of f; version_number = version_of f })) (Err Refusal.Letters))
+    (Err Refusal.HeaderShort)
 
 -- the five starts that were read
 pub record StartsAre (f : List ℕ) (s : Starts) : Type 0 where

@@ -4,20 +4,13 @@ ghost use Rattle.format.specs.ClipRecord.{are_letters};
 ghost use Rattle.common.specs.Header.{HeaderIs, parsed_of, StartsAre};
 
 use numbers::u32_at;
+use refusals::Refusal;
 
 // The letters and the version, a number each with its first byte highest, whatever they say.
 #[derive(Clone, Copy)]
 pub struct BdmvHeader {
     pub type_indicator: u32,
     pub version_number: u32,
-}
-
-// What the front of a file says.
-#[derive(Clone, Copy)]
-pub enum Parsed {
-    Clip(BdmvHeader),
-    Truncated,
-    OtherLetters,
 }
 
 // Where the sections start, counted from the file's first byte; a start may lie past the end.
@@ -43,11 +36,7 @@ const CLPI: u32 = 0x434C5049;
 pub fn is_clip(letters: u32) -> bool
     ensures { result ≡ are_letters letters }
 {
-    if letters == HDMV {
-        true
-    } else {
-        letters == CLPI
-    }
+    letters == HDMV || letters == CLPI
 }
 
 impl BdmvHeader {
@@ -63,17 +52,17 @@ impl BdmvHeader {
     }
 
     // The letters and the version of any file, the letters tested.
-    pub fn parse(buf: &[u8]) -> Parsed
+    pub fn parse(buf: &[u8]) -> Result<BdmvHeader, Refusal>
         ensures { result ≡ parsed_of buf.now }
     {
         if buf.len() < SIZE {
-            return Parsed::Truncated;
+            return Err(Refusal::HeaderShort);
         }
         let header = BdmvHeader::read(buf);
         if is_clip(header.type_indicator) {
-            Parsed::Clip(header)
+            Ok(header)
         } else {
-            Parsed::OtherLetters
+            Err(Refusal::Letters)
         }
     }
 }

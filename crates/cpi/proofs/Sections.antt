@@ -1,6 +1,6 @@
 -- Maps measured one by one, and what the section's measure says.
 use Prim.Native.Nat.{ℕ, zero, suc, ◌+◌, ◌*◌, ◌-◌, ◌<◌, ◌≤◌}
-use mathlib.Core.Path.{◌≡◌, refl, sym, ◌∙◌}
+use mathlib.Core.Path.{◌≡◌, refl, sym, ap, ◌∙◌}
 use mathlib.Core.List.{List}
 use mathlib.Core.Bool.{Bool, true, false}
 use native.Mathlib.Omega.{arith}
@@ -15,35 +15,37 @@ use Rattle.format.proofs.Cpi.{count_by}
 use Rattle.format.proofs.Read.{own_length}
 use Rattle.format.proofs.Loops.{one_left, none_left}
 use Rattle.ep_rows.proofs.Headers.{counts_small}
+use Rattle.std.specs.Prelude.{Option, Some, None, Result, Ok, Err}
+use Rattle.refusals.specs.declared.Refusal.{Refusal}
+use Rattle.refusals.specs.Numbers.{number_of}
 use Rattle.cpi.specs.Maps.{cpi_head, map_told_by, map_rows_of, cpi_told_by, maps_measured, cpi_measured, HeadersIn}
-use Rattle.cpi.specs.declared.maps.CpiHead.{CpiHead}
-use Rattle.cpi.specs.declared.maps.MapRows.{MapRows}
+use Rattle.cpi.specs.declared.maps.Headers.{Headers}
 use Rattle.cpi.specs.declared.maps.CpiCounts.{CpiCounts}
 
 -- ---- one map, test by test
 
 module _ (f : List ℕ) (c p : ℕ) where
   -- a map whose body begins at the section's end or behind it is 7
-  pub address_past : cpi_end f c ≤ body_at f c p → MapRows.Refused 7 ≡ map_rows_of f c p
+  pub address_past : cpi_end f c ≤ body_at f c p → Err 7 ≡ map_rows_of f c p
   unfolding map_rows_of
   address_past h = rw (le-ltb (body_at f c p) (cpi_end f c) h)
 
   module _ (address : body_at f c p < cpi_end f c) where
     -- else one whose first four bytes or coarse rows pass the file's end is 42
-    pub coarse_past : length f < body_at f c p + 4 + 8 * coarse_count_at f p → MapRows.Refused 42 ≡ map_rows_of f c p
+    pub coarse_past : length f < body_at f c p + 4 + 8 * coarse_count_at f p → Err 42 ≡ map_rows_of f c p
     unfolding map_rows_of
     coarse_past h = rw (lt-ltb (body_at f c p) (cpi_end f c) address, lt-leb (body_at f c p + 4 + 8 * coarse_count_at f p) (length f) h)
 
     module _ (coarse : body_at f c p + 4 + 8 * coarse_count_at f p ≤ length f) where
       -- else one whose fine rows begin behind the section's end is 41
-      pub fine_address_past : cpi_end f c < fine_start f c p → MapRows.Refused 41 ≡ map_rows_of f c p
+      pub fine_address_past : cpi_end f c < fine_start f c p → Err 41 ≡ map_rows_of f c p
       unfolding map_rows_of
       fine_address_past h =
           rw (lt-ltb (body_at f c p) (cpi_end f c) address, le-leb (body_at f c p + 4 + 8 * coarse_count_at f p) (length f) coarse, lt-leb (fine_start f c p) (cpi_end f c) h)
 
       module _ (fine : fine_start f c p ≤ cpi_end f c) where
         -- else one whose fine rows pass the file's end is 42
-        pub fine_past : length f < fine_start f c p + 4 * fine_count_at f p → MapRows.Refused 42 ≡ map_rows_of f c p
+        pub fine_past : length f < fine_start f c p + 4 * fine_count_at f p → Err 42 ≡ map_rows_of f c p
         unfolding map_rows_of
         fine_past h =
             rw (
@@ -54,7 +56,7 @@ module _ (f : List ℕ) (c p : ℕ) where
             )
 
         -- else it has an entry for each fine row
-        pub map_fits_lem : fine_start f c p + 4 * fine_count_at f p ≤ length f → MapRows.Entries (fine_count_at f p) ≡ map_rows_of f c p
+        pub map_fits_lem : fine_start f c p + 4 * fine_count_at f p ≤ length f → Ok (fine_count_at f p) ≡ map_rows_of f c p
         unfolding map_rows_of
         map_fits_lem h =
             rw (
@@ -65,11 +67,11 @@ module _ (f : List ℕ) (c p : ℕ) where
             )
 
 -- entries are told of a map that is not refused, one for each fine row
-pub map_said : (f : List ℕ) (c p n : ℕ) → map_rows_of f c p ≡ MapRows.Entries n → (map_refusal f c p ≡ 0) × (n ≡ fine_count_at f p)
+pub map_said : (f : List ℕ) (c p n : ℕ) → map_rows_of f c p ≡ Ok n → (map_refusal f c p ≡ 0) × (n ≡ fine_count_at f p)
 unfolding map_rows_of
 map_said f c p n e = go (map_refusal f c p) e
   where
-    go : (refusal : ℕ) → map_told_by refusal (fine_count_at f p) ≡ MapRows.Entries n → (refusal ≡ 0) × (n ≡ fine_count_at f p)
+    go : (refusal : ℕ) → map_told_by refusal (fine_count_at f p) ≡ Ok n → (refusal ≡ 0) × (n ≡ fine_count_at f p)
     go zero e = (refl, cc)
     go (suc m) e = let z : ◌≡◌ {A = ℕ} 0 1 = cc in absurd (omega arith)
 
@@ -97,7 +99,7 @@ module _ (f : List ℕ) (c count : ℕ) (counted : count ≡ map_count f c) wher
     next_at = omega arith
 
     -- a turn: the entries of a map that is not refused are counted
-    pub counting_next : (n : ℕ) → k < count → map_rows_of f c (c + 8 + 12 * k) ≡ MapRows.Entries n → Counting f c count (entries + n) (k + 1)
+    pub counting_next : (n : ℕ) → k < count → map_rows_of f c (c + 8 + 12 * k) ≡ Ok n → Counting f c count (entries + n) (k + 1)
     counting_next n h e =
         let m = map_said f c (c + 8 + 12 * k) n e in
         let d = rw (one_left count k h, m.0, next_at) at i.decide in
@@ -108,21 +110,21 @@ module _ (f : List ℕ) (c count : ℕ) (counted : count ≡ map_count f c) wher
         record { few = omega arith; decide = d; still = omega arith }
 
     -- a turn: the first map that is refused decides for all
-    pub counting_bad : (r : ℕ) → k < count → map_rows_of f c (c + 8 + 12 * k) ≡ MapRows.Refused r → CpiCounts.Refused r ≡ maps_measured f c
+    pub counting_bad : (r : ℕ) → k < count → map_rows_of f c (c + 8 + 12 * k) ≡ Err r → Err r ≡ maps_measured f c
     unfolding map_rows_of maps_measured
     counting_bad r h e = go (map_refusal f c p) e (rw (one_left count k h) at i.decide)
       where
         p : ℕ
         p = c + 8 + 12 * k
 
-        go : (refusal : ℕ) → map_told_by refusal (fine_count_at f p) ≡ MapRows.Refused r
+        go : (refusal : ℕ) → map_told_by refusal (fine_count_at f p) ≡ Err r
             → or_later refusal (first_refusal (rows_at (map_refusal f c) next_map (next_map p) (count - (k + 1)))) ≡ maps_refusal f c
-            → CpiCounts.Refused r ≡ cpi_told_by (maps_refusal f c) (length (maps_from f c)) (length (entries_from f c))
+            → Err r ≡ cpi_told_by (maps_refusal f c) (length (maps_from f c)) (length (entries_from f c))
         go zero e d = let z : ◌≡◌ {A = ℕ} 0 1 = cc in absurd (omega arith)
         go (suc m) e d = let is : r ≡ suc m = cc in rw (is, ← d)
 
     -- after the last turn no map is refused and every entry is counted
-    pub counting_done : count ≤ k → CpiCounts.Counts count entries ≡ maps_measured f c
+    pub counting_done : count ≤ k → Ok (record { maps = count; entries = entries }) ≡ maps_measured f c
     unfolding maps_measured maps_from
     counting_done h =
         let d : 0 ≡ maps_refusal f c = rw (none_left count k h) at i.decide in
@@ -133,52 +135,58 @@ module _ (f : List ℕ) (c count : ℕ) (counted : count ≡ map_count f c) wher
 
 -- ---- the section
 
+-- what the head says, by its two tests
+abbrev head_told : List ℕ → ℕ → (inside maps : Bool) → Result (Option Headers) Refusal
+head_told f c inside maps = pick inside (Ok (pick maps (Some (record { count = be_at f (c + 7) 1; end = cpi_end f c })) None)) (Err Refusal.Cpi)
+
 module _ (f : List ℕ) (c : ℕ) where
   -- without maps both counts are 0
-  no_maps : has_maps f c ≡ false → CpiCounts.Counts 0 0 ≡ maps_measured f c
+  no_maps : has_maps f c ≡ false → Ok (record { maps = 0; entries = 0 }) ≡ maps_measured f c
   unfolding maps_measured maps_refusal maps_from entries_from map_count
   no_maps h = rw h
 
   -- what the head's answer says
-  pub head_said : (n e : ℕ) → length f ≤ 536870912 → cpi_head f c ≡ CpiHead.Maps n e → (cpi_in f c ≡ true) × HeadersIn f c n e
+  pub head_said : (maps : Headers) → length f ≤ 536870912 → cpi_head f c ≡ Ok (Some maps) → (cpi_in f c ≡ true) × HeadersIn f c maps.count maps.end
   unfolding cpi_head
-  head_said n e small h = go (cpi_in f c) (has_maps f c) refl refl h
+  head_said maps small h = go (cpi_in f c) (has_maps f c) refl refl h
     where
       go : (a m : Bool) → cpi_in f c ≡ a → has_maps f c ≡ m
-          → pick a (pick m (CpiHead.Maps (be_at f (c + 7) 1) (cpi_end f c)) CpiHead.NoMaps) CpiHead.PastEnd ≡ CpiHead.Maps n e
-          → (a ≡ true) × HeadersIn f c n e
+          → head_told f c a m ≡ Ok (Some maps)
+          → (a ≡ true) × HeadersIn f c maps.count maps.end
       go false m p q h = let z : ◌≡◌ {A = ℕ} 0 1 = cc in absurd (omega arith)
       go true false p q h = let z : ◌≡◌ {A = ℕ} 0 1 = cc in absurd (omega arith)
       go true true p q h =
-          let is-n : n ≡ be_at f (c + 7) 1 = cc in
-          let is-e : e ≡ cpi_end f c = cc in
+          let there-are : Headers = record { count = be_at f (c + 7) 1; end = cpi_end f c } in
+          let same : maps ≡ there-are = cc in
+          let is-n : maps.count ≡ be_at f (c + 7) 1 = ap (λ (x : Headers). x.count) same in
+          let is-e : maps.end ≡ cpi_end f c = ap (λ (x : Headers). x.end) same in
           let count : map_count f c ≡ be_at f (c + 7) 1 = count_by f c true q in
           let there = section_in_lem f c q p in
           (refl, record { small = small; counted = is-n ∙ sym count; end_is = is-e; end_in = omega (arith, there.0); headers = omega (arith, there.1) })
 
   -- where the head tells of no maps, both counts of the section are 0
-  pub head_none : cpi_head f c ≡ CpiHead.NoMaps → CpiCounts.Counts 0 0 ≡ cpi_measured f c
+  pub head_none : cpi_head f c ≡ Ok None → Ok (record { maps = 0; entries = 0 }) ≡ cpi_measured f c
   unfolding cpi_head cpi_measured maps_measured
   head_none h = go (cpi_in f c) (has_maps f c) refl h
     where
-      go : (a m : Bool) → has_maps f c ≡ m → pick a (pick m (CpiHead.Maps (be_at f (c + 7) 1) (cpi_end f c)) CpiHead.NoMaps) CpiHead.PastEnd ≡ CpiHead.NoMaps
-          → CpiCounts.Counts 0 0 ≡ cpi_told_by (unless a 6 (maps_refusal f c)) (length (maps_from f c)) (length (entries_from f c))
+      go : (a m : Bool) → has_maps f c ≡ m → head_told f c a m ≡ Ok None
+          → Ok (record { maps = 0; entries = 0 }) ≡ cpi_told_by (unless a 6 (maps_refusal f c)) (length (maps_from f c)) (length (entries_from f c))
       go true false q h = no_maps q
       go true true q h = let z : ◌≡◌ {A = ℕ} 0 1 = cc in absurd (omega arith)
       go false m q h = let z : ◌≡◌ {A = ℕ} 0 1 = cc in absurd (omega arith)
 
-  -- where the head is past the end, the section is 6
-  pub head_refused : cpi_head f c ≡ CpiHead.PastEnd → CpiCounts.Refused 6 ≡ cpi_measured f c
+  -- where the head is refused, so is the section, by the same number
+  pub head_refused : {e : Refusal} → cpi_head f c ≡ Err e → Err (number_of e) ≡ cpi_measured f c
   unfolding cpi_head cpi_measured
-  head_refused h = go (cpi_in f c) (has_maps f c) h
+  head_refused {e} h = go (cpi_in f c) (has_maps f c) h
     where
-      go : (a m : Bool) → pick a (pick m (CpiHead.Maps (be_at f (c + 7) 1) (cpi_end f c)) CpiHead.NoMaps) CpiHead.PastEnd ≡ CpiHead.PastEnd
-          → CpiCounts.Refused 6 ≡ cpi_told_by (unless a 6 (maps_refusal f c)) (length (maps_from f c)) (length (entries_from f c))
+      go : (a m : Bool) → head_told f c a m ≡ Err e
+          → Err (number_of e) ≡ cpi_told_by (unless a 6 (maps_refusal f c)) (length (maps_from f c)) (length (entries_from f c))
       go true true h = let z : ◌≡◌ {A = ℕ} 0 1 = cc in absurd (omega arith)
       go true false h = let z : ◌≡◌ {A = ℕ} 0 1 = cc in absurd (omega arith)
-      go false m h = refl
+      go false m h = let is : e ≡ Refusal.Cpi = cc in rw is
 
   -- of a section that is in the file the maps decide
-  pub maps_then : {r : CpiCounts} → cpi_in f c ≡ true → r ≡ maps_measured f c → r ≡ cpi_measured f c
+  pub maps_then : {r : Result CpiCounts ℕ} → cpi_in f c ≡ true → r ≡ maps_measured f c → r ≡ cpi_measured f c
   unfolding cpi_measured maps_measured
   maps_then h e = e ∙ rw h

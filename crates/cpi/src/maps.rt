@@ -1,129 +1,107 @@
 // The maps of the entry index measured: the section's head, and each map's bounds.
 ghost use Rattle.std.specs.Prelude.{◌≡◌, ◌≤◌, length};
+ghost use Rattle.refusals.specs.Numbers.{numbered};
 ghost use Rattle.cpi.specs.Maps.{cpi_head, map_rows_of, maps_measured, cpi_measured, HeaderIn, HeadersIn};
 
-use common::reader::{Moved, Number, Reader};
+use common::reader::Reader;
 use ep_rows::map_header;
-use numbers::{u8_at, u16_at, u32_at, u48_at};
+use numbers::{be_at, u8_at, u16_at, u32_at};
+use refusals::Refusal;
 
-// What the head of the section says: maps, of which the headers are in the file; none; or a length or headers that pass the end.
+// The headers of a section's maps, all of them in the file, and where the section ends.
 #[derive(Clone, Copy)]
-pub enum CpiHead {
-    Maps { count: usize, end: usize },
-    NoMaps,
-    PastEnd,
+struct Headers {
+    count: usize,
+    end: usize,
 }
 
-// What is told of one map: so many entries, or its refusal, 7, 41 or 42.
+// The rows of both tables.
 #[derive(Clone, Copy)]
-pub enum MapRows {
-    Entries(usize),
-    Refused(u32),
+pub struct CpiCounts {
+    pub maps: usize,
+    pub entries: usize,
 }
 
-// The rows of both tables; or the refusal, 6 or that of the first map that has one.
-#[derive(Clone, Copy)]
-pub enum CpiCounts {
-    Counts { maps: usize, entries: usize },
-    Refused(u32),
-}
-
-// Reads the head of the section: its length, its type, its map count.
-fn read_head(file: &[u8], start: usize) -> CpiHead
+// Reads the head of the section: its length, its type, its map count. None where the section has no maps.
+fn read_head(file: &[u8], start: usize) -> Result<Option<Headers>, Refusal>
     requires { length file.now ≤ 536870912 }
     ensures { result ≡ cpi_head file.now start }
 {
     if start == 0 {
-        return CpiHead::NoMaps;
+        return Ok(None);
     }
     if file.len() <= start {
-        return CpiHead::NoMaps;
+        return Ok(None);
     }
-    let at = Reader { pos: start };
-    let Number::Read(len, body) = at.read_u32(file) else {
-        return CpiHead::PastEnd;
-    };
-    let Moved::At(last) = body.skip(file, len as usize) else {
-        return CpiHead::PastEnd;
-    };
+    let (len, body) = Reader { pos: start }.read::<4>(file).ok_or(Refusal::Cpi)?;
+    let last = body.skip(file, len as usize).ok_or(Refusal::Cpi)?;
     if len < 2 {
-        return CpiHead::NoMaps;
+        return Ok(None);
     }
     if u16_at(file, start + 4) % 16 != 1 {
-        return CpiHead::NoMaps;
+        return Ok(None);
     }
     if len < 4 {
-        return CpiHead::NoMaps;
+        return Ok(None);
     }
     let count = u8_at(file, start + 7) as usize;
-    let headers = Reader { pos: start + 8 };
-    let Moved::At(_) = headers.skip(file, 12 * count) else {
-        return CpiHead::PastEnd;
-    };
-    CpiHead::Maps {
+    Reader { pos: start + 8 }
+        .skip(file, 12 * count)
+        .ok_or(Refusal::Cpi)?;
+    Ok(Some(Headers {
         count,
         end: last.pos,
-    }
+    }))
 }
 
-// The map whose header is at q: its address, coarse rows, fine address and fine rows, in this order.
-fn map_rows(file: &[u8], start: usize, end: usize, q: usize) -> MapRows
+// The entries of the map whose header is at q: its address, coarse rows, fine address and fine rows are tested, in this order.
+fn map_rows(file: &[u8], start: usize, end: usize, q: usize) -> Result<usize, Refusal>
     requires { HeaderIn file.now start end q }
-    ensures { result ≡ map_rows_of file.now start q }
+    ensures { numbered result ≡ map_rows_of file.now start q }
 {
-    let header = map_header(u48_at(file, q + 2));
+    let header = map_header(be_at::<6>(file, q + 2));
     let body = start + 6 + u32_at(file, q + 8) as usize;
     if end <= body {
-        return MapRows::Refused(7);
+        return Err(Refusal::MapAddress);
     }
     if file.len() < body + 4 + 8 * (header.num_coarse as usize) {
-        return MapRows::Refused(42);
+        return Err(Refusal::MapBody);
     }
     let fine = body + u32_at(file, body) as usize;
     if end < fine {
-        return MapRows::Refused(41);
+        return Err(Refusal::FineAddress);
     }
     if file.len() < fine + 4 * (header.num_fine as usize) {
-        return MapRows::Refused(42);
+        return Err(Refusal::MapBody);
     }
-    MapRows::Entries(header.num_fine as usize)
+    Ok(header.num_fine as usize)
 }
 
 // All maps, and all their entries; the first map that is refused ends it.
-fn measure_maps(file: &[u8], start: usize, count: usize, end: usize) -> CpiCounts
-    requires { HeadersIn file.now start count end }
-    ensures { result ≡ maps_measured file.now start }
+fn measure_maps(file: &[u8], start: usize, maps: Headers) -> Result<CpiCounts, Refusal>
+    requires { HeadersIn file.now start maps.count maps.end }
+    ensures { numbered result ≡ maps_measured file.now start }
 {
     let mut entries: usize = 0;
-    let mut k: usize = 0;
-    while k < count {
-        match map_rows(file, start, end, start + 8 + 12 * k) {
-            MapRows::Refused(number) => {
-                return CpiCounts::Refused(number);
-            }
-            MapRows::Entries(n) => {
-                entries += n;
-            }
-        }
-        k += 1;
+    for k in 0..maps.count {
+        entries += map_rows(file, start, maps.end, start + 8 + 12 * k)?;
     }
-    CpiCounts::Counts {
-        maps: count,
+    Ok(CpiCounts {
+        maps: maps.count,
         entries,
-    }
+    })
 }
 
-// The rows that the section needs of both tables, or its refusal.
-pub fn measure(file: &[u8], start: usize) -> CpiCounts
+// The rows that the section needs of both tables, or the refusal: its own, or that of the first map that has one. A file is lent as a slice everywhere: no type keeps the bound on its length, which two crates' passes alone need.
+pub fn measure(file: &[u8], start: usize) -> Result<CpiCounts, Refusal>
     requires { length file.now ≤ 536870912 }
-    ensures { result ≡ cpi_measured file.now start }
+    ensures { numbered result ≡ cpi_measured file.now start }
 {
-    match read_head(file, start) {
-        CpiHead::NoMaps => CpiCounts::Counts {
+    match read_head(file, start)? {
+        Some(maps) => measure_maps(file, start, maps),
+        None => Ok(CpiCounts {
             maps: 0,
             entries: 0,
-        },
-        CpiHead::PastEnd => CpiCounts::Refused(6),
-        CpiHead::Maps { count, end } => measure_maps(file, start, count, end),
+        }),
     }
 }

@@ -7,21 +7,21 @@ ghost use Rattle.format.specs.EntryPoints.{map_at, entries_of, fine_count_at, ma
 ghost use Rattle.format.specs.Tables.{row_bytes_of, table_bytes, overwritten};
 ghost use Rattle.cpi_fill.specs.Fill.{OneMap, Fill};
 
-use cells::put_row3;
+use cells::put_row;
 use entry_rows::SIZE;
 use ep_entries::body::map_body;
 use ep_entries::entries::put_entries;
 use ep_rows::map_header;
-use numbers::{u16_at, u48_at};
+use numbers::{be_at, u16_at};
 
 // One map's row: PID, type, entry count.
 fn put_map(file: &[u8], q: usize, table: &mut [u8], at: usize)
     requires { (q + 12 ≤ length file.now) × (at + 12 ≤ length table.old) }
     ensures { table.new ≡ sets table.old at (row_bytes_of (map_at file.now q)) }
 {
-    let header = map_header(u48_at(file, q + 2));
+    let header = map_header(be_at::<6>(file, q + 2));
     let pid = u16_at(file, q);
-    put_row3(table, at, pid, header.ep_stream_type, header.num_fine);
+    put_row(table, at, [pid, header.ep_stream_type, header.num_fine]);
 }
 
 // One map's entries; the answer is how many.
@@ -41,13 +41,11 @@ pub fn fill(file: &[u8], start: usize, count: usize, maps: &mut [u8], entries: &
     ensures maps_after { maps.new ≡ overwritten (table_bytes (maps_from file.now start)) maps.old }
     ensures entries_after { entries.new ≡ overwritten (table_bytes (entries_from file.now start)) entries.old }
 {
-    let mut k: usize = 0;
     let mut at: usize = 0;
-    while k < count {
+    for k in 0..count {
         let q = start + 8 + 12 * k;
         put_map(file, q, maps, 12 * k);
         let n = put_map_entries(file, start, q, entries, at);
         at += SIZE * n;
-        k += 1;
     }
 }

@@ -18,31 +18,30 @@ use Rattle.format.proofs.Rows.{rows_length}
 use Rattle.format.proofs.Tests.{both_true}
 use Rattle.cells.specs.Reads.{CellIs}
 use Rattle.format.proofs.Cell.{row_cell}
+use Rattle.nearest.specs.declared.Side.{Side}
 use Rattle.queries.specs.Asked.{only_maps, maps_and_entries}
 use Rattle.row_search.specs.FirstRow.{ask_row}
-use Rattle.row_search.specs.declared.Test.{Test}
 use Rattle.table_rows.proofs.Scans.{rows_left, left_all, left_turn, left_done}
 use Rattle.row_search.proofs.FirstRow.{row_answers, through, next_through}
 use Rattle.queries.proofs.Asking.{through_test}
 use Rattle.ep_map_queries.specs.InMap.{seek_in, seek_question, primary_seek_question}
-use Rattle.cpi_queries.specs.PrimaryMap.{less_pid, as_best, least_pid, video_or_least}
-use Rattle.cpi_queries.specs.declared.PidRow.{PidRow}
+use Rattle.cpi_queries.specs.PrimaryMap.{less_pid, least_pid, video_or_least}
 use Rattle.ep_map_queries.proofs.Answers.{seek_asks}
 
 -- ---- by type
 
 -- the searches of the type's low four bits
-pub kind_asked : (t : Table) (kind : ℕ) → ask_row map_cells 1 0 (Test.MapKind (kind % 16)) t ≡ ask (ep_map_by_kind kind) (only_maps t)
+pub kind_asked : (t : Table) (kind : ℕ) → ask_row map_cells 1 0 (λ y. eqb (y % 16) (kind % 16)) t ≡ ask (ep_map_by_kind kind) (only_maps t)
 unfolding answer clip_in
 kind_asked t kind =
-    row_answers (ep_map_by_kind kind) (only_maps t) of.maps map_cells 1 0 (Test.MapKind (kind % 16)) t refl refl
+    row_answers (ep_map_by_kind kind) (only_maps t) of.maps map_cells 1 0 (λ y. eqb (y % 16) (kind % 16)) t refl refl
     (through (λ y. y % 16) (λ y. eqb y (kind % 16)) map_type_of 0 (rows_of map_cells t))
 
 -- the search of a video type from a row on is the question for the next video map
-pub video_asked : (t : Table) (from : ℕ) → ask_row map_cells 1 from Test.VideoMap t ≡ ask (next_video_ep_map from) (only_maps t)
+pub video_asked : (t : Table) (from : ℕ) → ask_row map_cells 1 from (λ y. is_video_map (y % 16)) t ≡ ask (next_video_ep_map from) (only_maps t)
 unfolding answer clip_in
 video_asked t from =
-    row_answers (next_video_ep_map from) (only_maps t) of.maps map_cells 1 from Test.VideoMap t refl refl
+    row_answers (next_video_ep_map from) (only_maps t) of.maps map_cells 1 from (λ y. is_video_map (y % 16)) t refl refl
     (next_through (λ y. y % 16) is_video_map map_type_of from (rows_of map_cells t))
 
 -- ---- the least PID
@@ -52,32 +51,25 @@ module _ (t : List ℕ) (n : ℕ) where
   abbrev all : Best
   all = best_of (λ y. true) less_pid 0 (map map_pid (table_rows_of map_cells t n)) nothing
 
-  abbrev pub Pids : ℕ → PidRow → Type 0
-  Pids k s = best_of (λ y. true) less_pid k (map map_pid (rows_left map_cells t n k)) (as_best s) ≡ all
+  abbrev pub Pids : ℕ → Best → Type 0
+  Pids k b = best_of (λ y. true) less_pid k (map map_pid (rows_left map_cells t n k)) b ≡ all
 
   -- the PID of row k stands in its first cell
   pid_at_lem : (k : ℕ) {at x : ℕ} → at ≡ 12 * k → CellIs t at x → x ≡ map_pid (cells_at t map_cells (4 * map_cells * k))
   pid_at_lem k e c = row_cell t map_cells (4 * map_cells * k) 0 (lit< tt) (omega (arith, e)) c.same
 
-  -- without rows there is none
-  pub no_pid : n ≡ 0 → none ≡ least_pid (map map_pid (table_rows_of map_cells t n))
-  unfolding table_rows_of
-  no_pid e = rw e
-
-  -- the first row is the least so far
-  pub pids_first : (n ≡ 0 → ⊥) → {x : ℕ} → CellIs t 0 x → Pids 1 (record { row = 0; pid = x })
-  pids_first some {x} c =
-      let rows = sym (left_all map_cells t n) ∙ left_turn map_cells t n 0 (omega (arith, some)) in
-      rw (pid_at_lem 0 refl c, rows)
+  -- before the first row
+  pub pids_first : Pids 0 nothing
+  pids_first = rw (left_all map_cells t n)
 
   -- a row with a lesser PID takes over, so among equals the earliest stays
-  pub pids_turn : (k : ℕ) (s : PidRow) {x : ℕ} {r : PidRow} → k < n → CellIs t (12 * k) x → as_best r ≡ better less_pid k x (as_best s) → Pids k s → Pids (k + 1) r
-  pids_turn k s h c chose i =
+  pub pids_turn : (k : ℕ) (b : Best) {x : ℕ} {r : Best} → k < n → CellIs t (12 * k) x → r ≡ better less_pid k x b → Pids k b → Pids (k + 1) r
+  pids_turn k b h c chose i =
       rw (chose, pid_at_lem k refl c, add-one) (rw (left_turn map_cells t n k h, add-one) at i)
 
   -- behind the last row the least so far is that of all
-  pub pid_is : (k : ℕ) (s : PidRow) → n ≤ k → Pids k s → number s.row ≡ least_pid (map map_pid (table_rows_of map_cells t n))
-  pid_is k s h i = let done = rw (left_done map_cells t n k h) at i in ap (row_or none) done
+  pub pid_is : (k : ℕ) {a b : Best} → a ≡ b → n ≤ k → Pids k a → row_or none b ≡ least_pid (map map_pid (table_rows_of map_cells t n))
+  pid_is k e h i = let done = rw (left_done map_cells t n k h) at i in ap (row_or none) (sym e ∙ done)
 
 -- ---- the choice
 
@@ -127,17 +119,17 @@ refused_through true maps h = absurd (no_refusal (primary_rows maps) (sym h))
     no_refusal (NoneOrRow.a_row k l) e = let z : ◌≡◌ {A = ℕ} 0 1 = cc in omega arith
 refused_through false maps h = (refl, cc)
 
-module _ (side : Bool) (at : ℕ) (maps entries : Table) where
+module _ (side : Side) (at : ℕ) (maps entries : Table) where
   -- the question, by its tests
   asks : ask (primary_seek_question side at) (maps_and_entries maps entries)
       ≡ unless22 (both (is_stated map_cells maps) (both (is_stated entry_cells entries) true)) (of_primary_map (rows_of map_cells maps) (rows_of entry_cells entries) (λ es. seek_in side es at))
   unfolding ask answer clip_in
   asks = go side
     where
-      go : (s : Bool) → ask (primary_seek_question s at) (maps_and_entries maps entries)
+      go : (s : Side) → ask (primary_seek_question s at) (maps_and_entries maps entries)
           ≡ unless22 (both (is_stated map_cells maps) (both (is_stated entry_cells entries) true)) (of_primary_map (rows_of map_cells maps) (rows_of entry_cells entries) (λ es. seek_in s es at))
-      go true = refl
-      go false = refl
+      go Side.After = refl
+      go Side.AtOrBefore = refl
 
   -- a refusal of the choice is one of the packet's question too
   pub not_there : {n : ℕ} → refused n ≡ ask primary_video_ep_map (only_maps maps) → refused n ≡ ask (primary_seek_question side at) (maps_and_entries maps entries)

@@ -1,5 +1,5 @@
 -- The parts of the choice of the primary map.
-use Rattle.std.specs.Prelude.{ℕ, List, map, Bool, true, ltb}
+use Rattle.std.specs.Prelude.{ℕ, List, map, Bool, true, Option, None, Some, ltb}
 use Rattle.format.specs.ClipRecord.{map_pid}
 use Rattle.format.specs.Questions.{next_video_ep_map, Answer, none, Best, nothing, best, best_of, row_or, or_else, ask}
 use Rattle.format.specs.Tables.{Table, rows_of, map_cells}
@@ -11,8 +11,9 @@ abbrev pub less_pid : ℕ → ℕ → Bool
 less_pid y z = ltb y z
 
 -- a row with its PID, as the best so far
-abbrev pub as_best : PidRow → Best
-as_best r = best r.row r.pid
+abbrev pub as_best : Option PidRow → Best
+as_best None = nothing
+as_best (Some r) = best r.row r.pid
 
 -- the least, the earliest among equals
 abbrev pub least_pid : List ℕ → Answer

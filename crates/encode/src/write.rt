@@ -6,83 +6,38 @@ ghost use Rattle.format.specs.Rewriting.{encode};
 ghost use Rattle.format.specs.Tables.{clip_in};
 ghost use Rattle.clip_information.specs.Read.{scalars_by};
 ghost use Rattle.limits.specs.Stated.{stated_tables};
-ghost use Rattle.encode_sections.specs.Sections.{section_in, Storable};
-ghost use Rattle.section_heads.specs.declared.Section.{Section};
 ghost use Rattle.encode_measure.specs.Places.{Ready};
 ghost use Rattle.encode.specs.Writing.{write_answer_of};
+ghost use Rattle.encode.specs.declared.write.WriteError.{WriteError};
 
 use clip_sections::info::ClipInfo;
 use encode_cpi::put_cpi;
 use encode_head::put_head;
-use encode_measure::{Measured, Places, measure};
+use encode_measure::{Places, measure};
 use encode_sections::put_section;
-use limits::tables::StatedRows;
+use limits::tables::ClipTables;
+use refusals::Refusal;
 use section_heads::{Section, put_marks};
 
-// How many bytes were written; the refusal's number; or how many bytes the output needs.
-#[derive(Clone, Copy)]
-pub enum Answer {
-    Written(usize),
-    Refused(u32),
-    TooShort(usize),
+// Why nothing was written: a refusal, or an output that is too short, with how many bytes it needs.
+#[derive(Clone, Copy, Debug, PartialEq, Eq)]
+pub enum WriteError {
+    Refused(Refusal),
+    OutputShort(usize),
 }
 
-// Stores the sequences, of `len` bytes, which are at 220.
-fn put_sequences(rows: StatedRows, atcs: &[u8], stcs: &[u8], len: usize, out: &mut [u8])
-    requires { Storable Section.Sequences atcs.now rows.atcs stcs.now rows.stcs len out.old 220 }
-    ensures { out.new ≡ sets out.old 220 (section_in Section.Sequences atcs.now rows.atcs stcs.now rows.stcs) }
-{
-    put_section(
-        Section::Sequences,
-        atcs,
-        rows.atcs,
-        stcs,
-        rows.stcs,
-        len,
-        out,
-        220,
-    );
-}
+impl From<Refusal> for WriteError {
+    ghost from_gives = { λ refusal error. error ≡ WriteError.Refused refusal };
 
-// Stores the programs, of `len` bytes, from `at`.
-fn put_programs(
-    rows: StatedRows,
-    programs: &[u8],
-    streams: &[u8],
-    len: usize,
-    out: &mut [u8],
-    at: usize,
-)
-    requires { Storable Section.Programs programs.now rows.programs streams.now rows.streams len out.old at }
-    ensures { out.new ≡ sets out.old at (section_in Section.Programs programs.now rows.programs streams.now rows.streams) }
-{
-    put_section(
-        Section::Programs,
-        programs,
-        rows.programs,
-        streams,
-        rows.streams,
-        len,
-        out,
-        at,
-    );
+    fn from(refusal: Refusal) -> WriteError {
+        WriteError::Refused(refusal)
+    }
 }
 
 // Stores the new file, section by section.
-fn put_sections(
-    info: ClipInfo,
-    rows: StatedRows,
-    atcs: &[u8],
-    stcs: &[u8],
-    programs: &[u8],
-    streams: &[u8],
-    maps: &[u8],
-    entries: &[u8],
-    places: Places,
-    out: &mut [u8],
-)
-    requires { Ready (stated_tables (scalars_by info) rows atcs.now stcs.now programs.now streams.now maps.now entries.now) places (length out.old) }
-    ensures { out.new ≡ sets out.old 0 (encode (clip_in (stated_tables (scalars_by info) rows atcs.now stcs.now programs.now streams.now maps.now entries.now))) }
+fn put_sections(info: ClipInfo, tables: ClipTables, places: Places, out: &mut [u8])
+    requires { Ready (stated_tables (scalars_by info) tables) places (length out.old) }
+    ensures { out.new ≡ sets out.old 0 (encode (clip_in (stated_tables (scalars_by info) tables.entry))) }
 {
     put_head(
         info,
@@ -91,40 +46,42 @@ fn put_sections(
         places.marks as u32,
         out,
     );
-    put_sequences(rows, atcs, stcs, places.programs - 220, out);
-    let len = places.cpi - places.programs;
-    put_programs(rows, programs, streams, len, out, places.programs);
-    let len = places.marks - places.cpi;
-    put_cpi(maps, rows.maps, entries, rows.entries, len, out, places.cpi);
+    put_section(
+        Section::Sequences,
+        tables.atcs,
+        tables.stcs,
+        places.programs - 220,
+        out,
+        220,
+    );
+    put_section(
+        Section::Programs,
+        tables.programs,
+        tables.streams,
+        places.cpi - places.programs,
+        out,
+        places.programs,
+    );
+    put_cpi(
+        tables.maps,
+        tables.entries,
+        places.marks - places.cpi,
+        out,
+        places.cpi,
+    );
     put_marks(out, places.marks);
 }
 
-// Writes the record that the six tables hold; a refusal leaves the output as it was.
-pub fn write(
-    info: ClipInfo,
-    rows: StatedRows,
-    atcs: &[u8],
-    stcs: &[u8],
-    programs: &[u8],
-    streams: &[u8],
-    maps: &[u8],
-    entries: &[u8],
-    out: &mut [u8],
-) -> Answer
-    ensures result_value { write_answer_of result ≡ write_answer (stated_tables (scalars_by info) rows atcs.now stcs.now programs.now streams.now maps.now entries.now) out.old }
-    ensures out_after { out.new ≡ output_by (write_answer_of result) (encode (clip_in (stated_tables (scalars_by info) rows atcs.now stcs.now programs.now streams.now maps.now entries.now))) out.old }
+// Writes the record that the six tables hold, and answers how many bytes it has; an error leaves the output as it was.
+pub fn write(info: ClipInfo, tables: ClipTables, out: &mut [u8]) -> Result<usize, WriteError>
+    ensures result_value { write_answer_of result ≡ write_answer (stated_tables (scalars_by info) tables.entry) out.old }
+    ensures out_after { out.new ≡ output_by (write_answer_of result) (encode (clip_in (stated_tables (scalars_by info) tables.entry))) out.old }
 {
-    match measure(info, rows, atcs, stcs, programs, streams, maps, entries) {
-        Measured::Refused(n) => Answer::Refused(n),
-        Measured::Places(places) => {
-            let len = places.marks + 6;
-            if out.len() < len {
-                return Answer::TooShort(len);
-            }
-            put_sections(
-                info, rows, atcs, stcs, programs, streams, maps, entries, places, out,
-            );
-            Answer::Written(len)
-        }
+    let places = measure(info, tables)?;
+    let len = places.marks + 6;
+    if out.len() < len {
+        return Err(WriteError::OutputShort(len));
     }
+    put_sections(info, tables, places, out);
+    Ok(len)
 }

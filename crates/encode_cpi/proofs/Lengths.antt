@@ -1,8 +1,9 @@
 -- How long the section is, and the pass that measures it and tests the entries.
+use Rattle.std.proofs.Common.{Option, Some, None, Ok, Err}
 use Prim.Native.Nat.{ℕ, ◌+◌, ◌*◌, ◌<◌, ◌≤◌}
 use mathlib.Core.Path.{◌≡◌, refl, sym, ap, ◌∙◌}
 use mathlib.Core.List.{List, [], ◌∷◌, ◌++◌}
-use mathlib.Core.Bool.{Bool, true, false}
+use mathlib.Core.Bool.{Bool, true, false, ◌&&◌}
 use native.Mathlib.Omega.{arith}
 use lib.Dec.{leb}
 use lib.ListN.{length, length-append}
@@ -19,12 +20,10 @@ use Rattle.table_rows.proofs.Scans.{left_all, left_done}
 use Rattle.format.proofs.Cell.{row_cell}
 use Rattle.runs.specs.Runs.{entries_at}
 use Rattle.entry_runs.specs.Fitting.{count_fit}
-use Rattle.entry_runs.specs.declared.RunCount.{RunCount}
 use Rattle.entry_runs.proofs.Choices.{runs_told, unfit_told}
 use Rattle.encode_map.proofs.Bodies.{body_size, runs_within}
 use Rattle.encode_cpi.specs.Cpi.{Counted, few_runs, entries_fit, map_rows_of, entry_rows_of, cpi_length_of, tested_of}
-use Rattle.encode_cpi.specs.declared.Length.{Length}
-use Rattle.encode_cpi.specs.declared.Tested.{Tested}
+use Rattle.refusals.specs.declared.Refusal.{Refusal}
 use Rattle.encode_cpi.proofs.Maps.{maps_left, entries_left, map_row, maps_count, Walk, walk_first, walk_turn, count_few, every_turn, bodies_turn}
 
 -- ---- lists
@@ -59,6 +58,11 @@ before_true : (a : Bool) → both a true ≡ a
 before_true true = refl
 before_true false = refl
 
+-- both of two tests
+pub and_both : (a b : Bool) → a && b ≡ both a b
+and_both true b = refl
+and_both false b = refl
+
 module _ (maps : List ℕ) (n : ℕ) (entries : List ℕ) (m : ℕ) where
   -- the entries of the first k maps fit, whether one of these has too many runs is told, and they are measured
   pub record MeasuredTo (len : ℕ) (few : Bool) (j k : ℕ) : Type 0 where
@@ -79,7 +83,7 @@ module _ (maps : List ℕ) (n : ℕ) (entries : List ℕ) (m : ℕ) where
   }
 
   module _ (len : ℕ) (few : Bool) (j k : ℕ) (i : MeasuredTo len few j k) (h : k < n) {type c : ℕ} (kind : CellIs maps (12 * k + 4) type) (cell : CellIs maps (12 * k + 8) c)
-      {told : RunCount} (is : told ≡ count_fit type (entries_at entries (entry_size * j) c)) where
+      {told : Option ℕ} (is : told ≡ count_fit type (entries_at entries (entry_size * j) c)) where
     -- the map's own entries
     abbrev own : List Row
     own = entries_at entries (entry_size * j) c
@@ -94,13 +98,13 @@ module _ (maps : List ℕ) (n : ℕ) (entries : List ℕ) (m : ℕ) where
     fit_turn = rw type_is (rw (every_turn maps n entries m j k i.walk h cell entries_fit) at i.fit)
 
     -- an entry does not fit
-    pub measured_unfit : told ≡ RunCount.Unfit → Tested.Unfit ≡ tested_of (map_rows_of maps n) (entry_rows_of entries m)
+    pub measured_unfit : told ≡ None → Err Refusal.Cells ≡ tested_of (map_rows_of maps n) (entry_rows_of entries m)
     unfolding tested_of
     measured_unfit u =
         let fails = unfit_told type own is u in
         rw (← fit_turn, fails)
 
-    module _ {r : ℕ} (counted : told ≡ RunCount.Runs r) where
+    module _ {r : ℕ} (counted : told ≡ Some r) where
       -- there are not more runs than entries
       pub runs_within_count : r ≤ c
       runs_within_count = omega (arith, (runs_told type own is counted).1, runs_within entries (entry_size * j) c)
@@ -132,12 +136,12 @@ module _ (maps : List ℕ) (n : ℕ) (entries : List ℕ) (m : ℕ) where
     few_is = sym (before_true few) ∙ rw (left_done map_cells maps n k h) at i.runs_few
 
     -- one has
-    pub measured_many : few ≡ false → Tested.Fit Length.TooManyRuns ≡ tested_of (map_rows_of maps n) (entry_rows_of entries m)
+    pub measured_many : few ≡ false → Err Refusal.Runs ≡ tested_of (map_rows_of maps n) (entry_rows_of entries m)
     unfolding tested_of cpi_length_of
     measured_many y = rw (all_fit, ← few_is, y)
 
     -- none has
-    pub measured_done : few ≡ true → (n ≡ 0 → ⊥) → Tested.Fit (Length.Bytes len) ≡ tested_of (map_rows_of maps n) (entry_rows_of entries m)
+    pub measured_done : few ≡ true → (n ≡ 0 → ⊥) → Ok len ≡ tested_of (map_rows_of maps n) (entry_rows_of entries m)
     unfolding tested_of cpi_length_of
     measured_done y some =
         let rest = rw (left_done map_cells maps n k h) at i.rest in
@@ -147,20 +151,22 @@ module _ (maps : List ℕ) (n : ℕ) (entries : List ℕ) (m : ℕ) where
         rw (all_fit, ← few_is, y, long)
 
   -- without maps there are four bytes
-  pub measured_none : n ≡ 0 → Tested.Fit (Length.Bytes 4) ≡ tested_of (map_rows_of maps n) (entry_rows_of entries m)
+  pub measured_none : n ≡ 0 → Ok 4 ≡ tested_of (map_rows_of maps n) (entry_rows_of entries m)
   unfolding tested_of cpi_length_of table_rows_of
   measured_none z = rw (z, bytes_length 4 0)
 
 -- ---- what an answer says
 
 -- a length: no map has too many runs, and the section is so long
-pub length_said : (ms es : List Row) {n : ℕ} → cpi_length_of ms es ≡ Length.Bytes n → (every_map few_runs ms es ≡ true) × (n ≡ length (cpi_bytes_by ms es))
+pub length_said : (ms es : List Row) {n : ℕ} → cpi_length_of ms es ≡ Ok n → (every_map few_runs ms es ≡ true) × (n ≡ length (cpi_bytes_by ms es))
 unfolding cpi_length_of
 length_said ms es is =
     let p = picked (every_map few_runs ms es) (λ e. let z : ◌≡◌ {A = ℕ} 0 1 = cc in omega arith) is in
     (p.0, cc p.1)
 
--- none: a map has too many
-pub length_refused : (ms es : List Row) → cpi_length_of ms es ≡ Length.TooManyRuns → every_map few_runs ms es ≡ false
+-- none: a map has too many, and that is what is told
+pub length_refused : (ms es : List Row) {r : Refusal} → cpi_length_of ms es ≡ Err r → (every_map few_runs ms es ≡ false) × (r ≡ Refusal.Runs)
 unfolding cpi_length_of
-length_refused ms es is = (not_picked (every_map few_runs ms es) (λ e. let z : ◌≡◌ {A = ℕ} 0 1 = cc in omega arith) is).0
+length_refused ms es is =
+    let p = not_picked (every_map few_runs ms es) (λ e. let z : ◌≡◌ {A = ℕ} 0 1 = cc in omega arith) is in
+    (p.0, cc p.1)

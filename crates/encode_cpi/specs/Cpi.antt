@@ -1,12 +1,11 @@
 -- What is wanted of maps and entries that the CPI section is made of, and how long it is.
-use Rattle.std.specs.Prelude.{ℕ, ◌+◌, ◌*◌, ◌≤◌, ◌≡◌, List, Bool, true, length, leb}
+use Rattle.std.specs.Prelude.{ℕ, ◌+◌, ◌*◌, ◌≤◌, ◌≡◌, List, Bool, true, length, leb, Result, Ok, Err}
 use Rattle.format.specs.Bytes.{pick, every}
 use Rattle.format.specs.ClipRecord.{Row, map_type_of, entry_count, entry_cells}
 use Rattle.format.specs.Refusals.{map_fits, entry_fits, every_map}
 use Rattle.format.specs.Rewriting.{runs, bodies, cpi_bytes_by}
 use Rattle.format.specs.Tables.{add_up, table_rows_of, row_room, map_cells}
-use Rattle.encode_cpi.specs.declared.Length.{Length}
-use Rattle.encode_cpi.specs.declared.Tested.{Tested}
+use Rattle.refusals.specs.declared.Refusal.{Refusal}
 
 -- the stated rows of both tables are there
 pub record BothThere (maps : List ℕ) (n : ℕ) (entries : List ℕ) (m : ℕ) : Type 0 where
@@ -40,13 +39,13 @@ map_rows_of maps n = table_rows_of map_cells maps n
 abbrev pub entry_rows_of : List ℕ → ℕ → List Row
 entry_rows_of entries m = table_rows_of entry_cells entries m
 
--- the section's length, or that a map has too many runs
-unfoldable pub cpi_length_of : List Row → List Row → Length
-cpi_length_of ms es = pick (every_map few_runs ms es) (Length.Bytes (length (cpi_bytes_by ms es))) Length.TooManyRuns
+-- the section's length; 31 where a map has too many runs
+unfoldable pub cpi_length_of : List Row → List Row → Result ℕ Refusal
+cpi_length_of ms es = pick (every_map few_runs ms es) (Ok (length (cpi_bytes_by ms es))) (Err Refusal.Runs)
 
--- the length where every entry fits, which is tested first; else that one does not
-unfoldable pub tested_of : List Row → List Row → Tested
-tested_of ms es = pick (every_map entries_fit ms es) (Tested.Fit (cpi_length_of ms es)) Tested.Unfit
+-- the length where every entry fits, which is tested first; else 30
+unfoldable pub tested_of : List Row → List Row → Result ℕ Refusal
+tested_of ms es = pick (every_map entries_fit ms es) (cpi_length_of ms es) (Err Refusal.Cells)
 
 -- the tables are there and what they hold can be written; the length is the section's, and the output has room for it
 pub record CpiRoom (maps : List ℕ) (n : ℕ) (entries : List ℕ) (m len size at : ℕ) : Type 0 where

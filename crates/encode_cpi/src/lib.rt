@@ -1,17 +1,20 @@
 // The CPI section, made of tables 5 and 6: how long it is, and its bytes.
 #![tactic(auto)]
 
-ghost use Rattle.std.specs.Prelude.{◌≡◌, [], ◌∷◌, ◌++◌, ◌+◌, ◌*◌, ◌≤◌, length, leb};
+ghost use Rattle.std.specs.Prelude.{◌≡◌, [], ◌∷◌, ◌++◌, ◌+◌, ◌*◌, ◌≤◌, length};
 ghost use Rattle.std.proofs.lemmas.List.Edits.{sets};
-ghost use Rattle.format.specs.Bytes.{both, field_bytes};
+ghost use Rattle.format.specs.Bytes.{field_bytes};
 ghost use Rattle.format.specs.Rewriting.{headers, bodies, cpi_bytes_by};
 ghost use Rattle.encode_cpi.specs.Cpi.{BothThere, Counted, map_rows_of, entry_rows_of, tested_of, MapsRoom, CpiRoom};
 
 use cells::cell_at;
 use encode_map::put_map;
 use entry_rows::SIZE;
-use entry_runs::{RunCount, count_runs};
+use entry_runs::count_runs;
 use numbers::{put_u8, put_u16, put_u32};
+use refusals::Refusal;
+use runs::Entries;
+use table_rows::Table;
 
 // The bytes of a map in its table; its header has as many in the file.
 const MAP: usize = 12;
@@ -19,72 +22,49 @@ const MAP: usize = 12;
 // The most coarse rows that a map can count.
 const MOST_RUNS: usize = 65535;
 
-// How many bytes the section has, or that a map has more runs than it can count.
-#[derive(Clone, Copy)]
-pub enum Length {
-    Bytes(usize),
-    TooManyRuns,
-}
-
-// The length where every entry fits, else that one does not.
-#[derive(Clone, Copy)]
-pub enum Tested {
-    Fit(Length),
-    Unfit,
-}
-
-// Whether no map has too many runs, where `few` says so of those before one with this many.
-fn still_few(few: bool, runs: usize) -> bool
-    ensures { result ≡ both few (leb runs 65535) }
+// The length of the section of these maps and entries, in the walk that tests whether every entry fits. An entry that does not is refused also behind a map with more runs than it can count.
+pub fn cpi_length(maps: Table, entries: Table) -> Result<usize, Refusal>
+    requires { BothThere maps.bytes.now maps.rows entries.bytes.now entries.rows × Counted (map_rows_of maps.bytes.now maps.rows) (entry_rows_of entries.bytes.now entries.rows) }
+    ensures { result ≡ tested_of (map_rows_of maps.entry.bytes.now maps.entry.rows) (entry_rows_of entries.entry.bytes.now entries.entry.rows) }
 {
-    if !few {
-        return false;
+    if maps.rows == 0 {
+        return Ok(4);
     }
-    runs <= MOST_RUNS
-}
-
-// The length of the section of n maps and m entries, in the walk that tests whether every entry fits. An entry that does not is told also behind a map with too many runs.
-pub fn cpi_length(maps: &[u8], n: u32, entries: &[u8], m: u32) -> Tested
-    requires { BothThere maps.now n entries.now m × Counted (map_rows_of maps.now n) (entry_rows_of entries.now m) }
-    ensures { result ≡ tested_of (map_rows_of maps.now n) (entry_rows_of entries.now m) }
-{
-    if n == 0 {
-        return Tested::Fit(Length::Bytes(4));
-    }
-    let mut len = 8 + MAP * (n as usize);
+    let mut len = 8 + MAP * (maps.rows as usize);
     let mut few = true;
     let mut row: usize = 0;
-    let mut k: usize = 0;
-    while k < (n as usize) {
-        let map_type = cell_at(maps, MAP * k + 4);
-        let count = cell_at(maps, MAP * k + 8) as usize;
-        let RunCount::Runs(runs) = count_runs(entries, SIZE * row, count, map_type) else {
-            return Tested::Unfit;
+    for k in 0..maps.rows as usize {
+        let map_type = cell_at(maps.bytes, MAP * k + 4);
+        let count = cell_at(maps.bytes, MAP * k + 8) as usize;
+        let own = Entries {
+            table: entries.bytes,
+            first: SIZE * row,
+            count,
         };
-        few = still_few(few, runs);
+        let runs = count_runs(own, map_type).ok_or(Refusal::Cells)?;
+        few &= runs <= MOST_RUNS;
         len += 4 + 8 * runs + 4 * count;
         row += count;
-        k += 1;
     }
-    if !few {
-        return Tested::Fit(Length::TooManyRuns);
-    }
-    Tested::Fit(Length::Bytes(len))
+    if few { Ok(len) } else { Err(Refusal::Runs) }
 }
 
-// The headers of n maps, and behind them the bodies, in the section that starts at `at` and ends at `end`: the last map first, since a body's end is known before its start.
-fn put_maps(maps: &[u8], n: usize, entries: &[u8], m: u32, out: &mut [u8], at: usize, end: usize)
-    requires { MapsRoom maps.now n entries.now m (length out.old) at end }
-    ensures { out.new ≡ sets out.old (at + 8) (headers (map_rows_of maps.now n) (entry_rows_of entries.now m) (2 + 12 * n) ++ bodies (map_rows_of maps.now n) (entry_rows_of entries.now m)) }
+// The headers of the maps, and behind them the bodies, in the section that starts at `at` and ends at `end`: the last map first, since a body's end is known before its start.
+fn put_maps(maps: Table, entries: Table, out: &mut [u8], at: usize, end: usize)
+    requires { MapsRoom maps.bytes.now maps.rows entries.bytes.now entries.rows (length out.old) at end }
+    ensures { out.new ≡ sets out.old (at + 8) (headers (map_rows_of maps.entry.bytes.now maps.entry.rows) (entry_rows_of entries.entry.bytes.now entries.entry.rows) (2 + 12 * maps.entry.rows) ++ bodies (map_rows_of maps.entry.bytes.now maps.entry.rows) (entry_rows_of entries.entry.bytes.now entries.entry.rows)) }
 {
     let mut body = end;
-    let mut row = m as usize;
-    let mut k = n;
-    while k > 0 {
-        k -= 1;
-        let count = cell_at(maps, MAP * k + 8) as usize;
+    let mut row = entries.rows as usize;
+    for k in (0..maps.rows as usize).rev() {
+        let count = cell_at(maps.bytes, MAP * k + 8) as usize;
         row -= count;
-        body = put_map(maps, k, entries, SIZE * row, count, out, at, body);
+        let own = Entries {
+            table: entries.bytes,
+            first: SIZE * row,
+            count,
+        };
+        body = put_map(maps.bytes, k, own, out, at, body);
     }
 }
 
@@ -99,25 +79,17 @@ pub fn put_top(behind: u32, n: u32, out: &mut [u8], at: usize)
     put_u8(out, at + 7, n);
 }
 
-// The section of n maps and m entries, which has `len` bytes, from `at`: without maps a length of 0 alone. Answers the place behind it.
-pub fn put_cpi(
-    maps: &[u8],
-    n: u32,
-    entries: &[u8],
-    m: u32,
-    len: usize,
-    out: &mut [u8],
-    at: usize,
-) -> usize
-    requires { CpiRoom maps.now n entries.now m len (length out.old) at }
+// The section of these maps and entries, which has `len` bytes, from `at`: without maps a length of 0 alone. Answers the place behind it.
+pub fn put_cpi(maps: Table, entries: Table, len: usize, out: &mut [u8], at: usize) -> usize
+    requires { CpiRoom maps.bytes.now maps.rows entries.bytes.now entries.rows len (length out.old) at }
     ensures value { result ≡ at + len }
-    ensures out_after { out.new ≡ sets out.old at (cpi_bytes_by (map_rows_of maps.now n) (entry_rows_of entries.now m)) }
+    ensures out_after { out.new ≡ sets out.old at (cpi_bytes_by (map_rows_of maps.entry.bytes.now maps.entry.rows) (entry_rows_of entries.entry.bytes.now entries.entry.rows)) }
 {
-    if n == 0 {
+    if maps.rows == 0 {
         put_u32(out, at, 0);
         return at + 4;
     }
-    put_top((len - 4) as u32, n, out, at);
-    put_maps(maps, n as usize, entries, m, out, at, at + len);
+    put_top((len - 4) as u32, maps.rows, out, at);
+    put_maps(maps, entries, out, at, at + len);
     at + len
 }

@@ -11,15 +11,13 @@ ghost use Rattle.encode_head.specs.Heads.{header_widths, header_numbers, format_
 use clip_sections::info::ClipInfo;
 use numbers::{put_u8, put_u16, put_u32};
 
-// Stores n zero bytes from `at`.
+// Stores n zero bytes from `at`. Not by `fill`: the bytes of a new file are stored by `numbers` alone.
 fn put_zeros(out: &mut [u8], at: usize, n: usize)
     requires { at + n ≤ length out.old }
     ensures { out.new ≡ sets out.old at (bytes_of n 0) }
 {
-    let mut k: usize = 0;
-    while k < n {
+    for k in 0..n {
         put_u8(out, at + k, 0);
-        k += 1;
     }
 }
 

@@ -23,12 +23,11 @@ use Rattle.format.proofs.Stores.{part_then}
 use Rattle.format.proofs.Rows.{all_rows, rows_length, left_all, left_turn, left_done, flat_length}
 use Rattle.format.proofs.Tests.{both_true}
 use Rattle.cells.specs.Reads.{CellIs}
-use Rattle.entry_rows.specs.Reads.{EntryHas}
-use Rattle.runs.specs.Runs.{entries_at, entries_from, PairIs, begun}
-use Rattle.runs.specs.declared.Pair.{Pair}
+use Rattle.runs.specs.Runs.{entries_at, entries_from, begun}
+use Rattle.entry_rows.specs.declared.EntryRow.{EntryRow}
 use Rattle.format.proofs.Cell.{row_cell, item_at}
 use Rattle.runs.proofs.Runs.{begun_none, begun_first, begun_later, begun_few}
-use Rattle.encode_map.specs.Bodies.{EntriesFit, own_coarse, own_by}
+use Rattle.encode_map.specs.Bodies.{EntriesFit, EntryIs, own_coarse, own_by}
 use Rattle.map_rows.proofs.Puts.{sets_before, put_below}
 
 -- ---- an entry that fits
@@ -48,13 +47,9 @@ narrow : (type : ℕ) (e : Row) → entry_fits type e ≡ true → Narrow e
 narrow type e h = narrow_by e (fits_fit entry_bits e (both_true h).0)
 
 module _ (t : List ℕ) (q type : ℕ) (f : entry_fits type (cells_at t entry_cells q) ≡ true) where
-  -- so are the angle and the I-end that were read
-  pub entry_narrow : {a i : ℕ} → EntryHas angle 32 t q a → EntryHas i_end_of 32 t q i → (a < 2 ^ 1) × (i < 2 ^ 3)
-  entry_narrow c d = let fits = narrow type (cells_at t entry_cells q) f in (rw c.same fits.angle_fits, rw d.same fits.end_fits)
-
-  -- and the time
-  pub pair_narrow : {pair : Pair} → PairIs t q pair → pair.time < 2 ^ 33
-  pair_narrow is = rw is.time_is.same (narrow type (cells_at t entry_cells q) f).time_fits
+  -- so are those of one that was read
+  pub entry_narrow : {e : EntryRow} → EntryIs t q e → (e.angle < 2 ^ 1) × (e.i_end < 2 ^ 3) × (e.time < 2 ^ 33)
+  entry_narrow is = let fits = narrow type (cells_at t entry_cells q) f in (rw is.angle_is.same fits.angle_fits, rw is.end_is.same fits.end_fits, rw is.time_is.same fits.time_fits)
 
 -- each of n entries that fit does
 pub row_fits : (t : List ℕ) (p n k : ℕ) (f : EntriesFit (entries_at t p n)) → k < n → entry_fits f.type (cells_at t entry_cells (p + entry_size * k)) ≡ true
@@ -65,27 +60,27 @@ row_fits t p n k f h =
 -- ---- the rows of one entry
 
 -- a fine row stored by its numbers is the entry's
-pub fine_put : (t : List ℕ) (q : ℕ) (pair : Pair) (o : List ℕ) (at : ℕ) {a b : ℕ} {o' : List ℕ} → EntryHas angle 32 t q a → EntryHas i_end_of 32 t q b → PairIs t q pair
-    → o' ≡ sets o at (bytes_of 4 (packed fine_widths (fine_by a b pair.time pair.packet))) → o' ≡ sets o at (fine_bytes (cells_at t entry_cells q))
-fine_put t q pair o at a b is put = put ∙ rw (a.same, b.same, is.time_is.same, is.packet_is.same)
+pub fine_put : (t : List ℕ) (q : ℕ) (e : EntryRow) (o : List ℕ) (at : ℕ) {o' : List ℕ} → EntryIs t q e
+    → o' ≡ sets o at (bytes_of 4 (packed fine_widths (fine_by e.angle e.i_end e.time e.packet))) → o' ≡ sets o at (fine_bytes (cells_at t entry_cells q))
+fine_put t q e o at is put = put ∙ rw (is.angle_is.same, is.end_is.same, is.time_is.same, is.packet_is.same)
 
--- an entry by its pair has the entry's coarse row
-pub own_pairs : (t : List ℕ) (q q' k : ℕ) {before pair : Pair} → PairIs t q before → PairIs t q' pair → own_by k before pair ≡ own_coarse k (cells_at t entry_cells q) (cells_at t entry_cells q')
+-- an entry by its numbers has the entry's coarse row
+pub own_pairs : (t : List ℕ) (q q' k : ℕ) {before e : EntryRow} → EntryIs t q before → EntryIs t q' e → own_by k before e ≡ own_coarse k (cells_at t entry_cells q) (cells_at t entry_cells q')
 own_pairs t q q' k b w = rw (b.time_is.same, b.packet_is.same, w.time_is.same, w.packet_is.same)
 
 -- a coarse row stored by its numbers is that of the entry
-pub coarse_put : (t : List ℕ) (q k : ℕ) (pair : Pair) (o : List ℕ) (at : ℕ) {o' : List ℕ} → PairIs t q pair
-    → o' ≡ sets o at (coarse_bytes (coarse_by k pair.time pair.packet)) → o' ≡ sets o at (coarse_bytes (coarse_row k (cells_at t entry_cells q)))
-coarse_put t q k pair o at is put = put ∙ rw (is.time_is.same, is.packet_is.same)
+pub coarse_put : (t : List ℕ) (q k : ℕ) (e : EntryRow) (o : List ℕ) (at : ℕ) {o' : List ℕ} → EntryIs t q e
+    → o' ≡ sets o at (coarse_bytes (coarse_by k e.time e.packet)) → o' ≡ sets o at (coarse_bytes (coarse_row k (cells_at t entry_cells q)))
+coarse_put t q k e o at is put = put ∙ rw (is.time_is.same, is.packet_is.same)
 
 -- in the run of the entry before it an entry has no coarse row
-pub own_none : (k : ℕ) (before pair : Pair) {s : Bool} → s ≡ same_keys before.time before.packet pair.time pair.packet → s ≡ true → own_by k before pair ≡ []
-own_none k before pair is h = rw (← is, h)
+pub own_none : (k : ℕ) (before e : EntryRow) {s : Bool} → s ≡ same_keys before.time before.packet e.time e.packet → s ≡ true → own_by k before e ≡ []
+own_none k before e is h = rw (← is, h)
 
 -- else it has one
-pub own_one : (k : ℕ) (before pair : Pair) {s : Bool} → s ≡ same_keys before.time before.packet pair.time pair.packet → s ≡ false
-    → own_by k before pair ≡ coarse_by k pair.time pair.packet ∷ []
-own_one k before pair is h = rw (← is, h)
+pub own_one : (k : ℕ) (before e : EntryRow) {s : Bool} → s ≡ same_keys before.time before.packet e.time e.packet → s ≡ false
+    → own_by k before e ≡ coarse_by k e.time e.packet ∷ []
+own_one k before e is h = rw (← is, h)
 
 -- none is stored
 pub own_kept : (rows : List Row) (o : List ℕ) (to : ℕ) → rows ≡ [] → (to + 8 * length rows ≡ to) × (o ≡ sets o to (flat coarse_bytes rows))
@@ -178,43 +173,46 @@ module _ (t : List ℕ) (p n : ℕ) (o₀ : List ℕ) (fine : ℕ) where
 
   -- ---- the entries that are not the first
 
-  -- the rows behind entry k are stored, and its pair is at hand
-  pub record Turning (o : List ℕ) (to k : ℕ) (pair : Pair) : Type 0 where
+  -- the rows behind entry k are stored, and its numbers are at hand
+  pub record Turning (o : List ℕ) (to k : ℕ) (e : EntryRow) : Type 0 where
     pub stored : Stored o to (suc k)
-    pub is : PairIs t (p + entry_size * k) pair
+    pub is : EntryIs t (p + entry_size * k) e
 
   -- before the first turn none is
-  pub turning_first : (k : ℕ) {pair : Pair} → 0 < n → k ≡ n - 1 → PairIs t (p + entry_size * k) pair → Turning o₀ fine k pair
+  pub turning_first : (k : ℕ) {e : EntryRow} → 0 < n → k ≡ n - 1 → EntryIs t (p + entry_size * k) e → Turning o₀ fine k e
   turning_first k h e is = let up : n ≡ suc k = omega arith in record { stored = subst (λ (x : ℕ). Stored o₀ fine x) up stored_none; is = is }
 
-  module _ (o : List ℕ) (to k : ℕ) (pair : Pair) (i : Turning o to k pair) (h : 0 < k) {before : Pair} (b : PairIs t (p + entry_size * k - entry_size) before) where
-    -- what the entry adds, by the pairs
-    adds : begun t p n k ≡ own_by k before pair ++ begun t p n (suc k)
-    adds = own_later k h i.stored.within ∙ ap (λ (l : List Row). l ++ begun t p n (suc k)) (sym (own_pairs t (p + entry_size * k - entry_size) (p + entry_size * k) k b i.is))
+  module _ (o : List ℕ) (to k : ℕ) (e : EntryRow) (i : Turning o to k e) (h : 0 < k) {before : EntryRow} (b : EntryIs t (p + entry_size * (k - 1)) before) where
+    -- the entry before it is one row below
+    below_it : EntryIs t (p + entry_size * k - entry_size) before
+    below_it = let place : p + entry_size * (k - 1) ≡ p + entry_size * k - entry_size = omega arith in subst (λ (q : ℕ). EntryIs t q before) place b
+
+    -- what the entry adds, by the numbers
+    adds : begun t p n k ≡ own_by k before e ++ begun t p n (suc k)
+    adds = own_later k h i.stored.within ∙ ap (λ (l : List Row). l ++ begun t p n (suc k)) (sym (own_pairs t (p + entry_size * k - entry_size) (p + entry_size * k) k below_it i.is))
 
     -- there is room for it
-    pub turning_room : 8 * runs (entries_at t p n) ≤ fine → 8 * length (own_by k before pair) ≤ to
-    turning_room room = stored_room o to k i.stored (own_by k before pair) adds room
+    pub turning_room : 8 * runs (entries_at t p n) ≤ fine → 8 * length (own_by k before e) ≤ to
+    turning_room room = stored_room o to k i.stored (own_by k before e) adds room
 
     -- its rows are stored
-    pub turning_next : {r : ℕ} {o₁ o₂ : List ℕ} → o₁ ≡ sets o (fine + 4 * k) (fine_bytes (cells_at t entry_cells (p + entry_size * k))) → r + 8 * length (own_by k before pair) ≡ to
-        → o₂ ≡ sets o₁ r (flat coarse_bytes (own_by k before pair)) → Turning o₂ r (k - 1) before
-    turning_next {r} {o₂ = o₂} x e y =
+    pub turning_next : {r : ℕ} {o₁ o₂ : List ℕ} → o₁ ≡ sets o (fine + 4 * k) (fine_bytes (cells_at t entry_cells (p + entry_size * k))) → r + 8 * length (own_by k before e) ≡ to
+        → o₂ ≡ sets o₁ r (flat coarse_bytes (own_by k before e)) → Turning o₂ r (k - 1) before
+    turning_next {r} {o₂ = o₂} x size y =
         let up : k ≡ suc (k - 1) = omega arith in
-        let place : p + entry_size * k - entry_size ≡ p + entry_size * (k - 1) = omega arith in
-        let next = stored_turn o to k i.stored (own_by k before pair) adds x e y in
-        record { stored = subst (λ (j : ℕ). Stored o₂ r j) up next; is = subst (λ (q : ℕ). PairIs t q before) place b }
+        let next = stored_turn o to k i.stored (own_by k before e) adds x size y in
+        record { stored = subst (λ (j : ℕ). Stored o₂ r j) up next; is = b }
 
   -- ---- the first entry, which begins a run
 
-  module _ (some : 0 < n) (o : List ℕ) (to k : ℕ) (pair : Pair) (i : Turning o to k pair) (last : k ≡ 0) where
+  module _ (some : 0 < n) (o : List ℕ) (to k : ℕ) (e : EntryRow) (i : Turning o to k e) (last : k ≡ 0) where
     -- the rows behind the first entry are stored
     one_left : Stored o to 1
     one_left = subst (λ (x : ℕ). Stored o to (suc x)) last i.stored
 
-    -- its pair is at hand
-    pub first_pair : PairIs t p pair
-    first_pair = let e : p + entry_size * k ≡ p = omega arith in subst (λ (q : ℕ). PairIs t q pair) e i.is
+    -- its numbers are at hand
+    pub first_is : EntryIs t p e
+    first_is = let place : p + entry_size * k ≡ p = omega arith in subst (λ (q : ℕ). EntryIs t q e) place i.is
 
     -- there is room for its coarse row
     pub first_room : 8 * runs (entries_at t p n) ≤ fine → 8 ≤ to
@@ -222,14 +220,14 @@ module _ (t : List ℕ) (p n : ℕ) (o₀ : List ℕ) (fine : ℕ) where
 
     -- with its rows all are stored
     pub first_stored : {o₁ o₂ : List ℕ} → 8 * runs (entries_at t p n) ≤ fine → o₁ ≡ sets o fine (fine_bytes (cells_at t entry_cells p))
-        → o₂ ≡ sets o₁ (to - 8) (coarse_bytes (coarse_by 0 pair.time pair.packet))
+        → o₂ ≡ sets o₁ (to - 8) (coarse_bytes (coarse_by 0 e.time e.packet))
         → (to - 8 + 8 * runs (entries_at t p n) ≡ fine) × (o₂ ≡ sets o₀ (to - 8) (flat coarse_bytes (coarse_rows (entries_at t p n)) ++ flat fine_bytes (entries_at t p n)))
     first_stored {o₁ = o₁} {o₂ = o₂} room x y =
         let row = coarse_row 0 (cells_at t entry_cells (p + entry_size * 0)) in
         let start : p + entry_size * 0 ≡ p = omega arith in
         let place : fine + 4 * 0 ≡ fine = omega arith in
         let x' : o₁ ≡ sets o (fine + 4 * 0) (fine_bytes (cells_at t entry_cells (p + entry_size * 0))) = rw (start, place) x in
-        let y' : o₂ ≡ sets o₁ (to - 8) (coarse_bytes row) = rw start (coarse_put t p 0 pair o₁ (to - 8) first_pair y) in
+        let y' : o₂ ≡ sets o₁ (to - 8) (coarse_bytes row) = rw start (coarse_put t p 0 e o₁ (to - 8) first_is y) in
         let own = own_stored (row ∷ []) row o₁ to refl (first_room room) y' in
         stored_all o₂ (to - 8) (stored_turn o to 0 one_left (row ∷ []) (begun_first t p n some) x' own.0 own.1)
 

@@ -1,39 +1,39 @@
 -- What is wanted of a map's entries and of the output before the map's rows are stored.
 use Rattle.std.specs.Prelude.{ℕ, ◌+◌, ◌*◌, ◌-◌, ◌^◌, ◌<◌, ◌≤◌, ◌≡◌, List, [], true, length}
 use Rattle.format.specs.Bytes.{every}
-use Rattle.format.specs.ClipRecord.{Row, map_type_of, entry_cells, entry_size}
+use Rattle.format.specs.ClipRecord.{Row, map_type_of, angle, i_end_of, packet, entry_size}
 use Rattle.format.specs.Refusals.{entry_fits}
 use Rattle.format.specs.Rewriting.{same_run, unless_same, coarse_row, runs, body_bytes, same_keys, coarse_by}
 use Rattle.format.specs.Tables.{cells_at, map_cells}
-use Rattle.runs.specs.Runs.{entries_at, PairIs}
-use Rattle.runs.specs.declared.Pair.{Pair}
+use Rattle.entry_rows.specs.declared.EntryRow.{EntryRow}
+use Rattle.entry_rows.specs.Reads.{EntryHas, TimeIs}
+use Rattle.runs.specs.Runs.{entries_at}
 
 -- entries of one type, each of which fits
 pub record EntriesFit (es : List Row) : Type 0 where
   pub type : ℕ
   pub fit : every (entry_fits type) es ≡ true
 
--- the entry at byte q, with its time and packet as a pair, of which the fine row has room from `at` in so many bytes
-pub record FineRoom (t : List ℕ) (q : ℕ) (pair : Pair) (size at : ℕ) : Type 0 where
-  pub there : q + entry_size ≤ length t
-  pub is : PairIs t q pair
-  pub type : ℕ
-  pub fit : entry_fits type (cells_at t entry_cells q) ≡ true
-  pub room : at + 4 ≤ size
+-- the entry at byte q by its numbers
+pub record EntryIs (t : List ℕ) (q : ℕ) (e : EntryRow) : Type 0 where
+  pub angle_is : EntryHas angle 32 t q e.angle
+  pub end_is : EntryHas i_end_of 32 t q e.i_end
+  pub time_is : TimeIs t q e.time
+  pub packet_is : EntryHas packet 32 t q e.packet
 
 -- the coarse row of entry k; none where it is in the run of the entry before it
 abbrev pub own_coarse : ℕ → Row → Row → List Row
 own_coarse k before e = unless_same (same_run before e) (coarse_row k e) []
 
--- the same by the times and packets of the two
-abbrev pub own_by : ℕ → Pair → Pair → List Row
-own_by k before pair = unless_same (same_keys before.time before.packet pair.time pair.packet) (coarse_by k pair.time pair.packet) []
+-- the same by the numbers of the two
+abbrev pub own_by : ℕ → EntryRow → EntryRow → List Row
+own_by k before e = unless_same (same_keys before.time before.packet e.time e.packet) (coarse_by k e.time e.packet) []
 
 -- it has room below `to`, and the time fits the row
-pub record CoarseRoom (k : ℕ) (before pair : Pair) (size to : ℕ) : Type 0 where
+pub record CoarseRoom (k : ℕ) (before e : EntryRow) (size to : ℕ) : Type 0 where
   pub few : k < 2 ^ 18
-  pub narrow : pair.time < 2 ^ 33
-  pub below : 8 * length (own_by k before pair) ≤ to
+  pub narrow : e.time < 2 ^ 33
+  pub below : 8 * length (own_by k before e) ≤ to
   pub room : to ≤ size
 
 -- n entries at byte p, of which the fine rows have room from `fine` and the coarse rows below

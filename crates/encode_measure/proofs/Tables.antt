@@ -1,4 +1,5 @@
 -- What the tests have shown of the six tables, as the section's functions ask for it, and what a test that fails says of the refusal.
+use Rattle.std.proofs.Common.{Result, Ok, Err}
 use Prim.Native.Nat.{ℕ, ◌+◌, ◌-◌, ◌≤◌}
 use mathlib.Core.Path.{◌≡◌, refl, sym, ap, ◌∙◌}
 use mathlib.Core.List.{List}
@@ -6,24 +7,27 @@ use mathlib.Core.Bool.{Bool, true, false}
 use native.Mathlib.Omega.{arith}
 use lib.ListN.{length}
 use Rattle.format.specs.Bytes.{both, unless}
-use Rattle.format.specs.ClipRecord.{are_letters, entry_cells}
-use Rattle.format.specs.Tables.{ClipTables, clip_in, is_stated, rows_of, row_room, atc_cells, stc_cells, program_cells, stream_cells, map_cells}
+use Rattle.format.specs.ClipRecord.{Scalars, are_letters, entry_cells}
+use Rattle.format.specs.Tables.{ClipTables, clip_in, is_stated, rows_of, stc_cells, stream_cells, map_cells}
 use Rattle.format.specs.Rewriting.{sequences_bytes, programs_bytes, cpi_bytes, cpi_bytes_by}
 use Rattle.format.specs.Refusals.{scalars_fit, cells_fit, runs_fit, all_stated, write_refusal}
-use Rattle.format.proofs.Tests.{both_true, true_both, passed, picked, not_picked, left_fails, right_fails}
+use Rattle.format.proofs.Tests.{both_true, true_both, passed, picked, left_fails, right_fails}
 use Rattle.format.proofs.Maker.{good_made}
 use Rattle.queries.specs.Asked.{no_scalars, tables_with}
 use Rattle.table_rows.specs.OwnRows.{is_counted}
+use Rattle.limits.specs.declared.tables.ClipTables as lent
+use Rattle.limits.specs.Stated.{stated_tables, TablesThere}
 use Rattle.limits.specs.Clips.{entries_fit, tables_fit}
 use Rattle.limits.proofs.Walks.{counts}
 use Rattle.limits.proofs.Clips.{fields_and_entries, maps_fit}
 use Rattle.section_heads.specs.declared.Section.{Section}
 use Rattle.encode_sections.specs.Sections as sections
 use Rattle.encode_sections.proofs.Sections.{sequences_are, programs_are}
-use Rattle.encode_cpi.specs.declared.Length.{Length}
-use Rattle.encode_cpi.specs.declared.Tested.{Tested}
 use Rattle.encode_cpi.specs.Cpi as cpi
 use Rattle.encode_cpi.proofs.Lengths.{length_said, length_refused}
+use Rattle.refusals.specs.declared.Refusal.{Refusal}
+use Rattle.refusals.specs.Numbers.{number_of}
+use Rattle.refusals.specs.Numbers as numbers
 use Rattle.encode_measure.specs.declared.Places.{Places}
 use Rattle.encode_measure.specs.Places.{refusal_in, pairs_counted, marks_place, Ready}
 use Rattle.encode_measure.proofs.Tests.{passes_by, fails_by, refusal_is}
@@ -66,6 +70,27 @@ in_order l r = placed_order (clip_in l) (marks_bound l r.writable) r.placed
 pub ready_kept : (l : ClipTables) {at : Places} {bytes bytes' : ℕ} → bytes' ≡ bytes → Ready l at bytes → Ready l at bytes'
 ready_kept l same r = rw same r
 
+-- the rows of every table but that of the entries are there
+pub tables_there : (s : Scalars) (t : lent.ClipTables) → pairs_counted (stated_tables s t) ≡ true → TablesThere t
+unfolding pairs_counted
+tables_there s t h =
+    let l = stated_tables s t in
+    let tests = both_true h in
+    let more = both_true tests.1 in
+    let first = counts 1 stc_cells l.atcs l.stcs tests.0 in
+    let second = counts 2 stream_cells l.programs l.streams more.0 in
+    record {
+      atcs_there = first.heads_there;
+      stcs_there = first.rows_there;
+      programs_there = second.heads_there;
+      streams_there = second.rows_there;
+      maps_there = (counts 2 entry_cells l.maps l.entries more.1).heads_there;
+    }
+
+-- an error by its number
+err_number : {a b : Refusal} → ◌≡◌ {A = Result ℕ Refusal} (Err a) (Err b) → number_of a ≡ number_of b
+err_number h = ap numbers.refusal_in h
+
 -- ---- six tables
 
 module _ (l : ClipTables) where
@@ -99,7 +124,7 @@ module _ (l : ClipTables) where
 
   -- every cell but those of the entries fits
   abbrev pub fields_of : Bool
-  fields_of = both (scalars_fit l.scalars) (tables_fit l.atcs l.stcs l.programs l.streams l.maps)
+  fields_of = both (scalars_fit l.scalars) (tables_fit l)
 
   -- those of the entries do
   abbrev all_entries_fit : Bool
@@ -112,52 +137,38 @@ module _ (l : ClipTables) where
       refusal_is l ∙ rw (p, q, fails)
 
   -- what is told of the maps and entries
-  abbrev tested_in : Tested
+  abbrev pub tested_in : Result ℕ Refusal
   tested_in = cpi.tested_of (cpi.map_rows_of l.maps.bytes l.maps.rows) (cpi.entry_rows_of l.entries.bytes l.entries.rows)
 
-  -- an entry does not fit
-  pub entries_refused : pairs_counted l ≡ true → are_letters l.scalars.letters ≡ true → tested_in ≡ Tested.Unfit → refusal_in l ≡ 30
-  unfolding cpi.tested_of
-  entries_refused p q is =
-      let unfit : all_entries_fit ≡ false = (not_picked all_entries_fit (λ e. let z : ◌≡◌ {A = ℕ} 0 1 = cc in omega arith) is).0 in
-      let fails : cells_fit (clip_in l) ≡ false = fields_and_entries l ∙ right_fails fields_of unfit in
-      refusal_is l ∙ rw (p, q, fails)
-
-  -- what the maps and entries are, for the functions of the CPI
-  abbrev pub length_in : Length
+  -- the length where every entry fits
+  abbrev length_in : Result ℕ Refusal
   length_in = cpi.cpi_length_of (cpi.map_rows_of l.maps.bytes l.maps.rows) (cpi.entry_rows_of l.entries.bytes l.entries.rows)
 
-  -- every entry fits, and the length is told
-  pub entries_fit_lem : {length : Length} → fields_of ≡ true → tested_in ≡ Tested.Fit length → (cells_fit (clip_in l) ≡ true) × (length ≡ length_in)
-  unfolding cpi.tested_of
-  entries_fit_lem fields is =
+  -- an entry does not fit, or a map has too many runs
+  pub cpi_refused : {r : Refusal} → pairs_counted l ≡ true → are_letters l.scalars.letters ≡ true → fields_of ≡ true → tested_in ≡ Err r → refusal_in l ≡ number_of r
+  unfolding cpi.tested_of clip_in runs_fit
+  cpi_refused {r} p q fields is = go all_entries_fit refl
+    where
+      go : (b : Bool) → all_entries_fit ≡ b → refusal_in l ≡ number_of r
+      go true fit =
+          let cells : cells_fit (clip_in l) ≡ true = fields_and_entries l ∙ true_both fields fit in
+          let told : length_in ≡ Err r = rw fit at is in
+          let many = length_refused (cpi.map_rows_of l.maps.bytes l.maps.rows) (cpi.entry_rows_of l.entries.bytes l.entries.rows) told in
+          let fails : runs_fit (clip_in l) ≡ false = many.0 in
+          refusal_is l ∙ rw (p, q, cells, fails, many.1)
+      go false unfit =
+          let cells : cells_fit (clip_in l) ≡ false = fields_and_entries l ∙ right_fails fields_of unfit in
+          let told : ◌≡◌ {A = Result ℕ Refusal} (Err Refusal.Cells) (Err r) = rw unfit at is in
+          refusal_is l ∙ rw (p, q, cells) (err_number told)
+
+  -- every entry fits, no map has too many runs, and the section's length is told
+  pub cpi_told : {len : ℕ} → fields_of ≡ true → tested_in ≡ Ok len → (cells_fit (clip_in l) ≡ true) × ((runs_fit (clip_in l) ≡ true) × (len ≡ length (cpi_bytes (clip_in l))))
+  unfolding cpi.tested_of clip_in runs_fit cpi_bytes
+  cpi_told fields is =
       let p = picked all_entries_fit (λ e. let z : ◌≡◌ {A = ℕ} 0 1 = cc in omega arith) is in
-      (fields_and_entries l ∙ true_both fields p.0, cc p.1)
-
-  -- a map has too many runs
-  pub runs_refused : pairs_counted l ≡ true → are_letters l.scalars.letters ≡ true → cells_fit (clip_in l) ≡ true → length_in ≡ Length.TooManyRuns → refusal_in l ≡ 31
-  unfolding clip_in runs_fit
-  runs_refused p q fit is =
-      let fails : runs_fit (clip_in l) ≡ false = length_refused (cpi.map_rows_of l.maps.bytes l.maps.rows) (cpi.entry_rows_of l.entries.bytes l.entries.rows) is in
-      refusal_is l ∙ rw (p, q, fit, fails)
-
-  -- none has, and the section's length is told
-  pub runs_few : {len : ℕ} → length_in ≡ Length.Bytes len → (runs_fit (clip_in l) ≡ true) × (len ≡ length (cpi_bytes (clip_in l)))
-  unfolding clip_in runs_fit cpi_bytes
-  runs_few is = length_said (cpi.map_rows_of l.maps.bytes l.maps.rows) (cpi.entry_rows_of l.entries.bytes l.entries.rows) is
+      (fields_and_entries l ∙ true_both fields p.0, length_said (cpi.map_rows_of l.maps.bytes l.maps.rows) (cpi.entry_rows_of l.entries.bytes l.entries.rows) p.1)
 
   -- ---- what the tests and the section's functions ask
-
-  -- the rows of every table but that of the entries are there
-  pub fields_there : pairs_counted l ≡ true
-      → ((l.atcs.rows ≤ row_room atc_cells l.atcs.bytes) × (l.stcs.rows ≤ row_room stc_cells l.stcs.bytes))
-      × (((l.programs.rows ≤ row_room program_cells l.programs.bytes) × (l.streams.rows ≤ row_room stream_cells l.streams.bytes))
-      × (l.maps.rows ≤ row_room map_cells l.maps.bytes))
-  fields_there h =
-      let first = counts 1 stc_cells l.atcs l.stcs (pairs h).0 in
-      let second = counts 2 stream_cells l.programs l.streams (pairs h).1.0 in
-      let third = counts 2 entry_cells l.maps l.entries (pairs h).1.1 in
-      ((first.heads_there, first.rows_there), ((second.heads_there, second.rows_there), third.heads_there))
 
   -- the ATCs and STCs are there, and the counts add up
   pub sequences_counted : pairs_counted l ≡ true → sections.Counted Section.Sequences l.atcs.bytes l.atcs.rows l.stcs.bytes l.stcs.rows

@@ -1,12 +1,11 @@
 -- What writing tests and measures first: the refusal, and the places of the sections.
-use Rattle.std.specs.Prelude.{ℕ, ◌+◌, ◌≤◌, ◌≡◌, length, eqb, Bool}
+use Rattle.std.specs.Prelude.{ℕ, ◌+◌, ◌≤◌, ◌≡◌, length, eqb, Bool, Result, Ok, Err}
 use Rattle.format.specs.Bytes.{both, pick, unless}
 use Rattle.format.specs.ClipRecord.{Clip, entry_cells}
 use Rattle.format.specs.Tables.{ClipTables, clip_in, stc_cells, stream_cells}
 use Rattle.format.specs.Rewriting.{sequences_bytes, programs_bytes, cpi_bytes}
 use Rattle.format.specs.Refusals.{all_stated, write_refusal}
 use Rattle.table_rows.specs.OwnRows.{is_counted}
-use Rattle.encode_measure.specs.declared.Measured.{Measured}
 use Rattle.encode_measure.specs.declared.Places.{Places}
 
 -- 22, 40, 30 or 31; 0 where the record can be written
@@ -35,11 +34,11 @@ abbrev pub places_of : Clip → Places
 places_of c = record { programs = programs_place c; cpi = cpi_place c; marks = marks_place c }
 
 -- the refusal, or these places
-unfoldable pub measured_by : ℕ → Clip → Measured
-measured_by refusal c = pick (eqb refusal 0) (Measured.Places (places_of c)) (Measured.Refused refusal)
+unfoldable pub measured_by : ℕ → Clip → Result Places ℕ
+measured_by refusal c = pick (eqb refusal 0) (Ok (places_of c)) (Err refusal)
 
 -- those of a record in tables
-abbrev pub measured_in : ClipTables → Measured
+abbrev pub measured_in : ClipTables → Result Places ℕ
 measured_in l = measured_by (refusal_in l) (clip_in l)
 
 -- the places of a record's sections, and room for its file in an output of so many bytes

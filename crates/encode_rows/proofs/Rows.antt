@@ -12,17 +12,9 @@ use Rattle.format.proofs.Cell.{rows_room}
 use Rattle.format.proofs.Loops.{end_ge}
 use Rattle.format.proofs.Sweep.{end_steps, Along, along_first, along_turn, along_within}
 use Rattle.row_values.specs.declared.RowKind.{RowKind}
-use Rattle.row_values.specs.declared.Row as value
 use Rattle.row_values.specs.Kinds.{cells_of, row_of, bytes_by}
 use Rattle.row_values.proofs.Lengths.{row_short}
 use Rattle.encode_rows.specs.Rows.{step_of}
-
--- no kind has more than five cells
-pub cells_few : (kind : RowKind) → cells_of kind ≤ 5
-cells_few RowKind.Atc = omega arith
-cells_few RowKind.Stc = omega arith
-cells_few RowKind.Program = omega arith
-cells_few RowKind.Stream = omega arith
 
 -- the next row is not before this one
 pub step_up : (kind : RowKind) (p : ℕ) → p ≤ step_of kind p
@@ -49,7 +41,7 @@ module _ (kind : RowKind) {len p₀ n p k : ℕ} (a : Along (step_of kind) len p
   pass_turn e = along_turn a h e (omega (arith, e, row_inside))
 
 -- what was read by value is the row of the table
-module _ (kind : RowKind) (r : value.Row) {row : Row} (is : row_of kind r ≡ row) where
+module _ (kind : RowKind) (r : List ℕ) {row : Row} (is : row_of kind r ≡ row) where
   -- its bytes
   pub same_bytes_lem : bytes_by kind (row_of kind r) ≡ bytes_by kind row
   same_bytes_lem = ap (bytes_by kind) is

@@ -10,39 +10,32 @@ ghost use Rattle.encode_rows.specs.Rows.{step_of, rows_bytes};
 
 use row_bytes::put_row;
 use row_values::{RowKind, cells_of, row_length, table_row};
+use table_rows::Table;
 
-// The bytes that a table's first n rows have in a file, at most 14 for each.
-pub fn rows_length(kind: RowKind, t: &[u8], n: u32) -> usize
-    requires { n ≤ row_room (cells_of kind) t.now }
-    ensures value { result ≡ length (flat (bytes_by kind) (table_rows_of (cells_of kind) t.now n)) }
-    ensures upper_bound { result ≤ 14 * n }
+// The bytes that a table's rows have in a file, at most 14 for each.
+pub fn rows_length(kind: RowKind, table: Table) -> usize
+    requires { table.rows ≤ row_room (cells_of kind) table.bytes.now }
+    ensures value { result ≡ length (flat (bytes_by kind) (table_rows_of (cells_of kind) table.entry.bytes.now table.entry.rows)) }
+    ensures upper_bound { result ≤ 14 * table.entry.rows }
 {
     let step = 4 * cells_of(kind);
     let mut sum: usize = 0;
-    let mut p: usize = 0;
-    let mut k: u32 = 0;
-    while k < n {
-        sum += row_length(kind, table_row(kind, t, p));
-        p += step;
-        k += 1;
+    for k in 0..table.rows as usize {
+        sum += row_length(kind, table_row(kind, table.bytes, step * k));
     }
     sum
 }
 
-// Stores n rows of a table, from byte p of it on; answers the place behind them.
+// Stores n rows of a table, from byte p of it on; answers the place behind them. Not a `Table`: the rows of a group begin in the middle of theirs.
 pub fn put_rows(kind: RowKind, t: &[u8], p: usize, n: u32, out: &mut [u8], at: usize) -> usize
     requires { (end_of (step_of kind) p n ≤ length t.now) × (at + length (rows_bytes kind t.now p n) ≤ length out.old) }
     ensures value { result ≡ at + length (rows_bytes kind t.now p n) }
     ensures out_after { out.new ≡ sets out.old at (rows_bytes kind t.now p n) }
 {
     let step = 4 * cells_of(kind);
-    let mut q = p;
     let mut to = at;
-    let mut k: u32 = 0;
-    while k < n {
-        to = put_row(kind, table_row(kind, t, q), out, to);
-        q += step;
-        k += 1;
+    for k in 0..n as usize {
+        to = put_row(kind, table_row(kind, t, p + step * k), out, to);
     }
     to
 }

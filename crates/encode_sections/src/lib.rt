@@ -10,11 +10,12 @@ use encode_rows::{put_rows, rows_length};
 use row_bytes::put_row;
 use row_values::{Row, RowKind, cells_of, table_row};
 use section_heads::{Section, put_head};
+use table_rows::Table;
 
 // The bytes of a header row in its table.
 const HEAD: usize = 12;
 
-// The kind of a section's header rows.
+// The kind of a section's header rows. A `match`, here and below: it picks data, which a trait with two impls would say at more length.
 fn head_kind(section: Section) -> RowKind
     ensures { result ≡ head_kind section }
 {
@@ -39,8 +40,8 @@ fn own_count(section: Section, head: Row) -> u32
     ensures { result ≡ count_of section (row_of (head_kind section) head) }
 {
     match section {
-        Section::Sequences => head.cell1,
-        Section::Programs => head.cell2,
+        Section::Sequences => head[1],
+        Section::Programs => head[2],
     }
 }
 
@@ -61,60 +62,44 @@ fn put_group(section: Section, head: Row, rows: &[u8], q: usize, out: &mut [u8],
     )
 }
 
-// Stores n header rows, each with its own rows behind it; answers the place behind them.
-fn put_groups(
-    section: Section,
-    heads: &[u8],
-    n: u32,
-    rows: &[u8],
-    out: &mut [u8],
-    at: usize,
-) -> usize
-    requires { ItemsThere section heads.now n rows.now out.old at }
-    ensures value { result ≡ at + length (items_in section heads.now n rows.now) }
-    ensures out_after { out.new ≡ sets out.old at (items_in section heads.now n rows.now) }
+// Stores the header rows, each with its own rows behind it; answers the place behind them.
+fn put_groups(section: Section, heads: Table, rows: &[u8], out: &mut [u8], at: usize) -> usize
+    requires { ItemsThere section heads.bytes.now heads.rows rows.now out.old at }
+    ensures value { result ≡ at + length (items_in section heads.entry.bytes.now heads.entry.rows rows.now) }
+    ensures out_after { out.new ≡ sets out.old at (items_in section heads.entry.bytes.now heads.entry.rows rows.now) }
 {
     let step = 4 * cells_of(row_kind(section));
-    let mut p: usize = 0;
     let mut q: usize = 0;
     let mut to = at;
-    let mut k: u32 = 0;
-    while k < n {
-        let head = table_row(head_kind(section), heads, p);
+    for k in 0..heads.rows as usize {
+        let head = table_row(head_kind(section), heads.bytes, HEAD * k);
         to = put_group(section, head, rows, q, out, to);
-        p += HEAD;
         q += step * (own_count(section, head) as usize);
-        k += 1;
     }
     to
 }
 
-// How long the section is whose n header rows and m rows stand in these tables.
-pub fn section_length(section: Section, heads: &[u8], n: u32, rows: &[u8], m: u32) -> usize
-    requires { Counted section heads.now n rows.now m }
-    ensures { result ≡ length (section_in section heads.now n rows.now m) }
+// How long the section is whose header rows and rows stand in these tables.
+pub fn section_length(section: Section, heads: Table, rows: Table) -> usize
+    requires { Counted section heads.bytes.now heads.rows rows.bytes.now rows.rows }
+    ensures { result ≡ length (section_in section heads.entry.bytes.now heads.entry.rows rows.entry.bytes.now rows.entry.rows) }
 {
-    let head_bytes = rows_length(head_kind(section), heads, n);
-    let row_bytes = rows_length(row_kind(section), rows, m);
-    6 + head_bytes + row_bytes
+    6 + rows_length(head_kind(section), heads) + rows_length(row_kind(section), rows)
 }
 
-// Stores the section of `len` bytes whose n header rows and m rows stand in these tables; answers the place behind it.
-// The length is `section_length`'s answer, so that no row is measured twice; m is what the counts add up to, and only the contract speaks of it.
+// Stores the section of `len` bytes whose header rows and rows stand in these tables; answers the place behind it. The length is `section_length`'s answer, so that no row is measured twice.
 pub fn put_section(
     section: Section,
-    heads: &[u8],
-    n: u32,
-    rows: &[u8],
-    m: u32,
+    heads: Table,
+    rows: Table,
     len: usize,
     out: &mut [u8],
     at: usize,
 ) -> usize
-    requires { Storable section heads.now n rows.now m len out.old at }
-    ensures value { result ≡ at + length (section_in section heads.now n rows.now m) }
-    ensures out_after { out.new ≡ sets out.old at (section_in section heads.now n rows.now m) }
+    requires { Storable section heads.bytes.now heads.rows rows.bytes.now rows.rows len out.old at }
+    ensures value { result ≡ at + length (section_in section heads.entry.bytes.now heads.entry.rows rows.entry.bytes.now rows.entry.rows) }
+    ensures out_after { out.new ≡ sets out.old at (section_in section heads.entry.bytes.now heads.entry.rows rows.entry.bytes.now rows.entry.rows) }
 {
-    put_head((len - 4) as u32, n, out, at);
-    put_groups(section, heads, n, rows, out, at + 6)
+    put_head((len - 4) as u32, heads.rows, out, at);
+    put_groups(section, heads, rows.bytes, out, at + 6)
 }

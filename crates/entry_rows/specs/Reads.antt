@@ -2,6 +2,7 @@
 use Rattle.std.specs.Prelude.{ℕ, ◌/◌, ◌%◌, ◌<◌, ◌^◌, ◌≡◌, List}
 use Rattle.format.specs.ClipRecord.{Row, entry_row, angle, i_end_of, time_low, time_high, time, packet, entry_type_of, entry_cells}
 use Rattle.format.specs.Tables.{cells_at}
+use Rattle.entry_rows.specs.declared.EntryRow.{EntryRow}
 use Rattle.entry_rows.specs.declared.Words.{Words}
 
 -- a number, of so many bits, of the entry at byte q
@@ -15,6 +16,10 @@ pub record TimeIs (t : List ℕ) (q r : ℕ) : Type 0 where
   pub below : r < 2 ^ 64
   pub lower : r % 2 ^ 32 ≡ time_low (cells_at t entry_cells q)
   pub upper : r / 2 ^ 32 ≡ time_high (cells_at t entry_cells q)
+
+-- the row that these numbers are
+abbrev pub row_of : EntryRow → Row
+row_of e = entry_row e.angle e.i_end e.time e.packet e.entry_type
 
 -- its three words have two numbers in the halves of the first and of the last
 abbrev pub words_angle : Words → ℕ

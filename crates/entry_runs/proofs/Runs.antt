@@ -1,4 +1,5 @@
 -- The loops that walk over runs of entries and test each entry.
+use Rattle.std.proofs.Common.{Option, Some, None}
 use Prim.Native.Nat.{ℕ, suc, ◌+◌, ◌*◌, ◌-◌, ◌<◌, ◌≤◌}
 use mathlib.Core.Path.{◌≡◌, refl, sym, ap, ◌∙◌}
 use mathlib.Core.List.{List, ◌∷◌}
@@ -18,11 +19,9 @@ use Rattle.entry_rows.specs.declared.Words.{Words}
 use Rattle.entry_rows.specs.Reads.{WordsAre}
 use Rattle.runs.specs.Runs.{entries_at, entries_from, run_end, end_from, coarse_from}
 use Rattle.runs.proofs.Runs.{run_ends, after_run, coarse_all}
-use Rattle.entry_runs.specs.Fitting.{fit_until, end_fit, count_fit, words_same, goes_on}
-use Rattle.entry_runs.specs.declared.RunEnd.{RunEnd}
-use Rattle.entry_runs.specs.declared.RunCount.{RunCount}
+use Rattle.entry_runs.specs.Fitting.{fit_until, end_fit, count_fit, goes_on}
 use Rattle.entry_runs.proofs.Choices.{every_parts}
-use Rattle.entry_runs.proofs.Words.{words_same_lem, words_go_on}
+use Rattle.entry_runs.proofs.Words.{words_go_on}
 
 -- an entry is in its own run
 same_self : (e : Row) → same_run e e ≡ true
@@ -60,14 +59,14 @@ module _ (t : List ℕ) (p n type : ℕ) where
     along_first h = record { past = omega arith; within = omega arith; rest = rw (left_turn (cells_at t entry_cells) entry_size p n from h, same_self (row_at from)); fit = refl }
 
     -- where it ends, its end is told
-    at_end : (k : ℕ) → Along k → k ≡ its_end → RunEnd.At k ≡ end_fit type from (entries_from t p n from)
+    at_end : (k : ℕ) → Along k → k ≡ its_end → Some k ≡ end_fit type from (entries_from t p n from)
     at_end k i e =
         let none : its_end - k ≡ 0 = omega arith in
-        ap RunEnd.At e ∙ rw none at i.fit
+        ap Some e ∙ rw none at i.fit
 
     module _ (k : ℕ) (i : Along k) (h : k < n) where
       -- row k is the first behind the run
-      along_stop : same_run (row_at from) (row_at k) ≡ false → RunEnd.At k ≡ end_fit type from (entries_from t p n from)
+      along_stop : same_run (row_at from) (row_at k) ≡ false → Some k ≡ end_fit type from (entries_from t p n from)
       unfolding run_end
       along_stop differs = at_end k i (rw (left_turn (cells_at t entry_cells) entry_size p n k h, differs) at i.rest)
 
@@ -78,7 +77,7 @@ module _ (t : List ℕ) (p n type : ℕ) where
         later = rw (left_turn (cells_at t entry_cells) entry_size p n k h, same) at i.rest
 
         -- so it is tested with those behind it
-        tested : pick (both (entry_fits type (row_at k)) (every (entry_fits type) (take (its_end - (k + 1)) (entries_from t p n (k + 1))))) (RunEnd.At its_end) RunEnd.Unfit
+        tested : pick (both (entry_fits type (row_at k)) (every (entry_fits type) (take (its_end - (k + 1)) (entries_from t p n (k + 1))))) (Some its_end) None
             ≡ end_fit type from (entries_from t p n from)
         tested =
             let e = later in
@@ -86,7 +85,7 @@ module _ (t : List ℕ) (p n type : ℕ) where
             rw (left_turn (cells_at t entry_cells) entry_size p n k h, more) at i.fit
 
         -- it does not fit
-        along_unfit : entry_fits type (row_at k) ≡ false → RunEnd.Unfit ≡ end_fit type from (entries_from t p n from)
+        along_unfit : entry_fits type (row_at k) ≡ false → None ≡ end_fit type from (entries_from t p n from)
         along_unfit fails = rw fails at tested
 
         -- it fits
@@ -95,47 +94,47 @@ module _ (t : List ℕ) (p n type : ℕ) where
 
     module _ (h : from < n) where
       -- the run's first entry does not fit
-      pub first_unfit : {f : Bool} → f ≡ entry_fits type (row_at from) → f ≡ false → RunEnd.Unfit ≡ end_fit type from (entries_from t p n from)
+      pub first_unfit : {f : Bool} → f ≡ entry_fits type (row_at from) → f ≡ false → None ≡ end_fit type from (entries_from t p n from)
       first_unfit {f} is y = along_unfit from (along_first h) h (same_self (row_at from)) (sym is ∙ y)
 
       -- it fits
       pub first_fit : {f : Bool} → f ≡ entry_fits type (row_at from) → f ≡ true → Along (from + 1)
       first_fit {f} is y = along_fit from (along_first h) h (same_self (row_at from)) (sym is ∙ y)
 
-    -- row k is compared with the run's first entry: g says whether it is in the run and fits, s whether it is in the run
-    pub record Compared (k : ℕ) (g s : Bool) : Type 0 where
+    -- row k is compared with the run's first entry: g says whether it is in the run and fits
+    pub record Compared (k : ℕ) (g : Bool) : Type 0 where
       pub along : Along k
       pub there : k < n
       pub both_are : g ≡ both (same_run (row_at from) (row_at k)) (entry_fits type (row_at k))
-      pub run_is : s ≡ same_run (row_at from) (row_at k)
 
     -- by the words of both, where the run's first entry fits
     pub words_compared : (k : ℕ) → Along k → k < n → {a b : Words} {f g : Bool} → WordsAre t (p + entry_size * from) a → WordsAre t (p + entry_size * k) b
-        → f ≡ entry_fits type (row_at from) → f ≡ true → g ≡ goes_on a b → Compared k g (words_same a b)
+        → f ≡ entry_fits type (row_at from) → f ≡ true → g ≡ goes_on a b → Compared k g
     words_compared k i h {f = f} are those fits y is = record {
       along = i;
       there = h;
       both_are = is ∙ words_go_on t (p + entry_size * from) (p + entry_size * k) are those type (sym fits ∙ y);
-      run_is = words_same_lem t (p + entry_size * from) (p + entry_size * k) are those;
     }
 
-    module _ (k : ℕ) {g s : Bool} (c : Compared k g s) where
+    module _ (k : ℕ) {g : Bool} (c : Compared k g) where
       -- it is in the run and fits
       pub along_turn : g ≡ true → Along (k + 1)
       along_turn y = let parts = both_true (sym c.both_are ∙ y) in along_fit k c.along c.there parts.0 parts.1
 
       -- it isn't, or doesn't: which, is told
-      pub along_stopped : g ≡ false → {r : RunEnd} → r ≡ pick s RunEnd.Unfit (RunEnd.At k) → r ≡ end_fit type from (entries_from t p n from)
-      along_stopped y {r} said = said ∙ go s (sym c.run_is)
+      pub along_stopped : g ≡ false → {r : Option ℕ} → r ≡ pick (same_run (row_at from) (row_at k)) None (Some k) → r ≡ end_fit type from (entries_from t p n from)
+      along_stopped y {r} said = said ∙ go (same_run (row_at from) (row_at k)) refl
         where
-          go : (s : Bool) → same_run (row_at from) (row_at k) ≡ s → pick s RunEnd.Unfit (RunEnd.At k) ≡ end_fit type from (entries_from t p n from)
+          go : (s : Bool) → same_run (row_at from) (row_at k) ≡ s → pick s None (Some k) ≡ end_fit type from (entries_from t p n from)
           go true same = along_unfit k c.along c.there same (rw same at (sym c.both_are ∙ y))
           go false differs = along_stop k c.along c.there differs
 
     -- the run ends with the entries
-    pub along_done : (k : ℕ) → Along k → n ≤ k → RunEnd.At k ≡ end_fit type from (entries_from t p n from)
+    pub along_done : (k : ℕ) → Along k → n ≤ k → Some n ≡ end_fit type from (entries_from t p n from)
     unfolding run_end
-    along_done k i h = at_end k i (rw (left_done (cells_at t entry_cells) entry_size p n k h) at i.rest)
+    along_done k i h =
+        let e : n ≡ k = omega (arith, i.within) in
+        ap Some e ∙ at_end k i (rw (left_done (cells_at t entry_cells) entry_size p n k h) at i.rest)
 
   -- ---- from run to run
 
@@ -146,9 +145,9 @@ module _ (t : List ℕ) (p n type : ℕ) where
     pub rows : coarse_from k (entries_from t p n k) ≡ coarse_row k (row_at k) ∷ coarse_from r (entries_from t p n r)
     pub fit : every (entry_fits type) (entries_from t p n k) ≡ every (entry_fits type) (entries_from t p n r)
 
-  module _ (k : ℕ) (h : k < n) {x : RunEnd} (is : x ≡ end_fit type k (entries_from t p n k)) where
+  module _ (k : ℕ) (h : k < n) {x : Option ℕ} (is : x ≡ end_fit type k (entries_from t p n k)) where
     -- one run, and those behind it
-    pub next_run : {r : ℕ} → x ≡ RunEnd.At r → NextRun k r
+    pub next_run : {r : ℕ} → x ≡ Some r → NextRun k r
     unfolding end_fit
     next_run {r} told =
         let es = entries_from t p n k in
@@ -173,7 +172,7 @@ module _ (t : List ℕ) (p n type : ℕ) where
         }
 
     -- an entry of the run does not fit
-    pub run_unfit : x ≡ RunEnd.Unfit → every (entry_fits type) (entries_from t p n k) ≡ false
+    pub run_unfit : x ≡ None → every (entry_fits type) (entries_from t p n k) ≡ false
     unfolding end_fit
     run_unfit told =
         let es = entries_from t p n k in
@@ -206,12 +205,12 @@ module _ (t : List ℕ) (p n type : ℕ) where
         record { within = next.within; small = omega (arith, next.past, i.small); rest = omega arith; fit = sym next.fit ∙ i.fit }
 
     -- an entry does not fit
-    pub counted_unfit : every (entry_fits type) (entries_from t p n k) ≡ false → RunCount.Unfit ≡ count_fit type (entries_at t p n)
+    pub counted_unfit : every (entry_fits type) (entries_from t p n k) ≡ false → None ≡ count_fit type (entries_at t p n)
     unfolding count_fit
     counted_unfit fails = rw (← i.fit, fails)
 
     -- all are counted
-    pub counted_done : n ≤ k → RunCount.Runs count ≡ count_fit type (entries_at t p n)
+    pub counted_done : n ≤ k → Some count ≡ count_fit type (entries_at t p n)
     unfolding count_fit
     counted_done h =
         let rest = rw (left_done (cells_at t entry_cells) entry_size p n k h) at i.rest in

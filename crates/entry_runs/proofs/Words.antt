@@ -7,10 +7,10 @@ use native.Mathlib.Omega.{arith}
 use borrow.Author.Tests.{lt-ltb, eqb-true, eqb-false, eq-eqb, ne_eqb}
 use lib.Bits.{bit_and}
 use lib.Dec.{eqb, ltb, lit≤}
-use Rattle.format.specs.Bytes.{both, pick, fits}
+use Rattle.format.specs.Bytes.{both, fits}
 use Rattle.format.specs.ClipRecord.{Row, time, entry_type_of, entry_cells}
 use Rattle.format.specs.Refusals.{entry_bits, entry_fits}
-use Rattle.format.specs.Rewriting.{same_run, same_keys}
+use Rattle.format.specs.Rewriting.{same_run}
 use Rattle.format.proofs.Fields.{Fit, one, fits_fit, words_masked, gap_masked, time_cells}
 use Rattle.format.proofs.Tests.{both_true}
 use Rattle.format.specs.Tables.{cells_at}
@@ -19,7 +19,6 @@ use Rattle.entry_rows.specs.Reads.{WordsAre, words_row, words_type}
 use Rattle.entry_rows.proofs.Laws.{entry_whole}
 use Rattle.row_limits.proofs.Fits.{angle_masked, last_test, last_fails}
 use Rattle.entry_runs.specs.Fitting.{words_same, goes_on}
-use Rattle.entry_runs.specs.declared.RunEnd.{RunEnd}
 
 -- two times of which the first is a multiple of 512 agree in all bits but those of a fine time where their keys are equal and the second is one too
 pub times_masked : (s t : ℕ) → s < 2 ^ 64 → t < 2 ^ 64 → s % 512 ≡ 0
@@ -139,11 +138,6 @@ module _ (a b : Words) (x : Wide a) (y : Wide b) (fit : entry_fits (words_type a
 pub words_row_lem : (t : List ℕ) (q : ℕ) {w : Words} → WordsAre t q w → words_row w ≡ cells_at t entry_cells q
 words_row_lem t q are = entry_whole t q are.angle_is are.end_is are.time_is are.packet_is are.type_is
 
--- the keys tell what a run that does not go on ends with
-pub stopped_as : (a b : Words) (k : ℕ) {p q : ℕ} {same is : Bool} → p ≡ a.back % 4294967296 → q ≡ b.back % 4294967296 → same ≡ same_keys a.time p b.time q → same ≡ is
-    → pick is RunEnd.Unfit (RunEnd.At k) ≡ pick (words_same a b) RunEnd.Unfit (RunEnd.At k)
-stopped_as a b k x y keys answer = ap (λ (t : Bool). pick t RunEnd.Unfit (RunEnd.At k)) (sym answer ∙ rw (x, y) at keys)
-
 -- an entry in a table that fits a map of some type is of that type
 fit_type : (type : ℕ) (e : Row) → entry_fits type e ≡ true → entry_type_of e ≡ type
 fit_type type e h = eqb-true (entry_type_of e) type (both_true {a = eqb (time e % 512) 0} (both_true {a = fits entry_bits e} h).1).1
@@ -157,7 +151,7 @@ words_fit t q type {w} {f} are is y =
 -- the words of two entries in a table
 module _ (t : List ℕ) (p q : ℕ) {a b : Words} (are : WordsAre t p a) (those : WordsAre t q b) where
   -- tell whether they are in one run
-  pub words_same_lem : words_same a b ≡ same_run (cells_at t entry_cells p) (cells_at t entry_cells q)
+  words_same_lem : words_same a b ≡ same_run (cells_at t entry_cells p) (cells_at t entry_cells q)
   words_same_lem = rw (are.time_is.same, are.packet_is.same, those.time_is.same, those.packet_is.same)
 
   -- and, where the first fits a map of some type, whether the second is in its run and fits

@@ -16,11 +16,12 @@ use Rattle.format.proofs.Sweep.{row_bytes_lem, rows_bytes_lem}
 use Rattle.ep_rows.specs.Rows.{fine_of}
 use Rattle.ep_rows.specs.declared.FineRow.{FineRow}
 use Rattle.ep_entries.specs.Body.{coarse_in, entries_in, entries_left, entry_in}
-use Rattle.ep_entries.specs.Entries.{joined, row_of, entry_by, stretch_bytes}
+use Rattle.entry_rows.specs.Reads.{row_of}
+use Rattle.entry_rows.specs.declared.EntryRow.{EntryRow}
+use Rattle.ep_entries.specs.Entries.{joined, entry_by, stretch_bytes}
 use Rattle.ep_entries.specs.Walks.{walk_at, IsWalk}
 use Rattle.ep_entries.proofs.Walks.{walk_step, walk_stop, walk_later}
 use Rattle.ep_entries.specs.declared.body.MapBody.{MapBody}
-use Rattle.ep_entries.specs.declared.entries.Entry.{Entry}
 use Rattle.ep_entries.specs.declared.walk.Walk.{Walk}
 
 -- ---- the entries of a map from fine row k on
@@ -44,21 +45,21 @@ module _ (f : List ℕ) (m : MapBody) where
     row q = entry_by m.kind w.time w.packet (fine_at f q)
 
     -- where the walk is right and its next row is not reached before `end`: a stretch under its coarse row, and those behind it
-    stretch_left : (d k : ℕ) → k + d ≤ m.num_fine → k + d ≤ w.next → IsWalk f (coarse_in f m) k w
+    stretch_left : (d k : ℕ) → k + d ≤ m.num_fine → k + d ≤ w.end → IsWalk f m.num_fine (coarse_in f m) k w
         → table_bytes (entries_left f m k) ≡ table_bytes (rows_at row next_fine (m.fine + 4 * k) d) ++ table_bytes (entries_left f m (k + d))
     stretch_left zero k h g i = let e : k + 0 ≡ k = omega arith in rw e
     stretch_left (suc d) k h g i =
         let q = m.fine + 4 * k in
-        let at = walk_stop f (coarse_in f m) k w i (omega arith) in
+        let at = walk_stop f m.num_fine (coarse_in f m) k w i (omega arith) in
         let here : entry_in f m k ≡ row q = rw (at.0, at.1) in
         let b : m.fine + 4 * (k + 1) ≡ q + 4 = omega arith in
         let e : k + 1 + d ≡ k + suc d = omega arith in
-        let later = rw (b, e) at (stretch_left d (k + 1) (omega arith) (omega arith) (walk_later f (coarse_in f m) k (k + 1) w (omega arith) i)) in
+        let later = rw (b, e) at (stretch_left d (k + 1) (omega arith) (omega arith) (walk_later f m.num_fine (coarse_in f m) k (k + 1) w (omega arith) i)) in
         rw b at (ap table_bytes (left_turn k (omega arith))) ∙ ap₂ (λ (x y : List ℕ). x ++ y) (ap (λ (r : Row). row_bytes_of r) here) later
         ∙ sym (append_assoc (row_bytes_of (row q)) (table_bytes (rows_at row next_fine (q + 4) d)) (table_bytes (entries_left f m (k + suc d))))
 
     -- a stretch is stored; what is left goes behind it
-    stretch_put : (k end : ℕ) (t : List ℕ) (at : ℕ) {t' whole : List ℕ} → k ≤ end → end ≤ w.next → end ≤ m.num_fine → IsWalk f (coarse_in f m) k w
+    stretch_put : (k end : ℕ) (t : List ℕ) (at : ℕ) {t' whole : List ℕ} → k ≤ end → end ≤ w.end → end ≤ m.num_fine → IsWalk f m.num_fine (coarse_in f m) k w
         → t' ≡ sets t (at + entry_size * k) (stretch_bytes f m.kind w.time w.packet m.fine k end)
         → sets t (at + entry_size * k) (table_bytes (entries_left f m k)) ≡ whole → sets t' (at + entry_size * end) (table_bytes (entries_left f m end)) ≡ whole
     stretch_put k end t at h b n i p whole =
@@ -74,32 +75,32 @@ module _ (f : List ℕ) (m : MapBody) (t₀ : List ℕ) (at : ℕ) where
   -- what holds before each turn: the entries before fine row k are stored, and the walk is right for it
   pub record Filled (t : List ℕ) (w : Walk) (k : ℕ) : Type 0 where
     pub within : k ≤ m.num_fine
-    pub walk : IsWalk f (coarse_in f m) k w
+    pub walk : IsWalk f m.num_fine (coarse_in f m) k w
     pub same : length t ≡ length t₀
     pub rest : sets t (at + entry_size * k) (table_bytes (entries_left f m k)) ≡ sets t₀ at (table_bytes (entries_in f m))
 
   -- before the first turn none is stored
-  pub filled_first : (w : Walk) → IsWalk f (coarse_in f m) 0 w → Filled t₀ w 0
+  pub filled_first : (w : Walk) → IsWalk f m.num_fine (coarse_in f m) 0 w → Filled t₀ w 0
   filled_first w i =
       let z : at + entry_size * 0 ≡ at = omega arith in
       record { within = omega arith; walk = i; same = refl; rest = rw (z, left_all f m) }
 
   module _ (t : List ℕ) (w : Walk) (k : ℕ) (g : Filled t w k) where
     -- a stretch up to fine row `end`, before which the next coarse row is not reached, is stored
-    pub filled_stretch : (end : ℕ) {t' : List ℕ} → k ≤ end → end ≤ w.next → end ≤ m.num_fine → length t' ≡ length t
+    pub filled_stretch : (end : ℕ) {t' : List ℕ} → k ≤ end → end ≤ w.end → end ≤ m.num_fine → length t' ≡ length t
         → t' ≡ sets t (at + entry_size * k) (stretch_bytes f m.kind w.time w.packet m.fine k end) → Filled t' w end
     filled_stretch end h b n same p = record {
       within = n;
-      walk = walk_later f (coarse_in f m) k end w h g.walk;
+      walk = walk_later f m.num_fine (coarse_in f m) k end w h g.walk;
       same = same ∙ g.same;
       rest = stretch_put f m w k end t at h b n g.walk p g.rest;
     }
 
     -- a step to a coarse row that is reached
-    pub filled_step : {w' : Walk} → m.num_fine ≤ 262143 → w.next ≤ k → w' ≡ walk_at f w.behind w.left → Filled t w' k
-    filled_step few h e = record {
+    pub filled_step : {w' : Walk} → w.end ≤ k → w.end < m.num_fine → w' ≡ walk_at f w.behind w.left m.num_fine → Filled t w' k
+    filled_step h b e = record {
       within = g.within;
-      walk = rw e (walk_step f (coarse_in f m) k w g.walk h (omega (arith, g.within)));
+      walk = rw e (walk_step f m.num_fine (coarse_in f m) k w g.walk h b);
       same = g.same;
       rest = g.rest;
     }
@@ -141,12 +142,12 @@ pub fine_packet_below : (word : ℕ) (r : FineRow) → r ≡ fine_of (unpacked f
 fine_packet_below word r e = rw e (omega arith)
 
 -- its fields with time and packet joined are the entry
-pub entry_joined : (word coarse-time coarse_packet_lem time packet : ℕ) (r : FineRow) → r ≡ fine_of (unpacked fine_widths word)
+pub entry_joined : (word kind coarse-time coarse_packet_lem time packet : ℕ) (r : FineRow) → r ≡ fine_of (unpacked fine_widths word)
     → time ≡ join_time coarse-time r.time → packet ≡ join_packet coarse_packet_lem r.packet
-    → record { angle = r.angle; i_end = r.i_end; time = time; packet = packet } ≡ joined coarse-time coarse_packet_lem (unpacked fine_widths word)
-entry_joined word ct cp time packet r e te pe = rw (te, pe, e)
+    → record { angle = r.angle; i_end = r.i_end; time = time; packet = packet; entry_type = kind } ≡ joined kind coarse-time coarse_packet_lem (unpacked fine_widths word)
+entry_joined word kind ct cp time packet r e te pe = rw (te, pe, e)
 
 -- the row that is stored of it
-pub entry_stored : (t : List ℕ) (at word kind coarse-time coarse_packet_lem : ℕ) (r : Entry) {t' : List ℕ} → r ≡ joined coarse-time coarse_packet_lem (unpacked fine_widths word)
-    → t' ≡ sets t at (row_bytes_of (row_of kind r)) → t' ≡ sets t at (row_bytes_of (entry_by kind coarse-time coarse_packet_lem (unpacked fine_widths word)))
+pub entry_stored : (t : List ℕ) (at word kind coarse-time coarse_packet_lem : ℕ) (r : EntryRow) {t' : List ℕ} → r ≡ joined kind coarse-time coarse_packet_lem (unpacked fine_widths word)
+    → t' ≡ sets t at (row_bytes_of (row_of r)) → t' ≡ sets t at (row_bytes_of (entry_by kind coarse-time coarse_packet_lem (unpacked fine_widths word)))
 entry_stored t at word kind ct cp r e p = p ∙ rw e

@@ -13,46 +13,46 @@ use Rattle.ep_rows.specs.declared.CoarseRow.{CoarseRow}
 use Rattle.ep_entries.specs.Walks.{next_first, walk_at, Steps, IsWalk, Reached}
 use Rattle.ep_entries.specs.declared.walk.Walk.{Walk}
 
--- with rows left, the next one's first fine row; with none, the number that is never reached
-pub next_some : (f : List ℕ) (p n : ℕ) → (n ≡ 0 → ⊥) → first_fine_of (coarse_at f p) ≡ next_first f p n
+-- with rows left, the next one's first fine row
+pub next_some : (f : List ℕ) (p n last : ℕ) → (n ≡ 0 → ⊥) → first_fine_of (coarse_at f p) ≡ next_first f p n last
 unfolding next_first
-next_some f p n h = rw (ne_eqb n 0 h)
+next_some f p n last h = rw (ne_eqb n 0 h)
 
--- with no row left the number is 262144, more than any fine row has
-pub next_none : (f : List ℕ) (p n : ℕ) → n ≡ 0 → 262144 ≡ next_first f p n
+-- with no row left, the last
+pub next_none : (f : List ℕ) (p n last : ℕ) → n ≡ 0 → last ≡ next_first f p n last
 unfolding next_first
-next_none f p n h = rw (eq-eqb n 0 h)
+next_none f p n last h = rw (eq-eqb n 0 h)
 
--- a next row that is reached is there
-some_left : (f : List ℕ) (p n k : ℕ) → next_first f p n ≤ k → k < 262144 → 0 < n
-some_left f p zero k h b = let e = next_none f p 0 refl in absurd (omega arith)
-some_left f p (suc n) k h b = omega arith
+-- a next row that begins before the last is there
+some_left : (f : List ℕ) (p n last : ℕ) → next_first f p n last < last → 0 < n
+some_left f p zero last h = let e = next_none f p 0 last refl in absurd (omega arith)
+some_left f p (suc n) last h = omega arith
 
 -- rows, where there are some, are one and the rest behind it
 one_more : (n : ℕ) → 0 < n → n ≡ suc (n - 1)
 one_more n h = omega arith
 
 -- a row that is stepped to is there, and the rows behind it
-pub steps_on : (f : List ℕ) (k : ℕ) (w : Walk) → Steps f w → w.next ≤ k → k < 262144 → (0 < w.left) × Steps f (walk_at f w.behind w.left)
+pub steps_on : (f : List ℕ) (last : ℕ) (w : Walk) → Steps f last w → w.end < last → (0 < w.left) × Steps f last (walk_at f w.behind w.left last)
 unfolding walk_at
-steps_on f k w s h b =
-    let some : 0 < w.left = some_left f w.behind w.left k (rw s.next_is at h) b in
+steps_on f last w s h =
+    let some : 0 < w.left = some_left f w.behind w.left last (rw s.end_is at h) in
     let room = s.room in
-    (some, record { room = omega arith; next_is = refl })
+    (some, record { room = omega arith; end_is = refl })
 
-module _ (f : List ℕ) (coarse : List Row) where
+module _ (f : List ℕ) (last : ℕ) (coarse : List Row) where
   -- the walk at a row that is stepped to
-  pub walk_step : (k : ℕ) (w : Walk) → IsWalk f coarse k w → w.next ≤ k → k < 262144 → IsWalk f coarse k (walk_at f w.behind w.left)
+  pub walk_step : (k : ℕ) (w : Walk) → IsWalk f last coarse k w → w.end ≤ k → w.end < last → IsWalk f last coarse k (walk_at f w.behind w.left last)
   unfolding walk_at
   walk_step k w i h b =
       let n = w.left in
       let p = w.behind in
-      let e = i.steps.next_is in
-      let on = steps_on f k w i.steps h b in
+      let e = i.steps.end_is in
+      let on = steps_on f last w i.steps b in
       let some : 0 < n = on.0 in
       let z : n ≡ suc (n - 1) = one_more n some in
       let ne : n ≡ 0 → ⊥ = λ q. omega arith in
-      let reached : first_fine_of (coarse_at f p) ≤ k = omega (arith, next_some f p n ne) in
+      let reached : first_fine_of (coarse_at f p) ≤ k = omega (arith, next_some f p n last ne) in
       record {
         row = coarse_at f p;
         same_time = refl;
@@ -66,19 +66,19 @@ module _ (f : List ℕ) (coarse : List Row) where
       stepped c p n m h = rw (step_on, le-leb (first_fine_of (coarse_at f p)) m h)
 
   -- a walk whose next row is not reached is at the row that fine row k uses
-  pub walk_stop : (k : ℕ) (w : Walk) → IsWalk f coarse k w → k < w.next → (w.time ≡ coarse_time (coarse_for coarse k)) × (w.packet ≡ coarse_packet (coarse_for coarse k))
+  pub walk_stop : (k : ℕ) (w : Walk) → IsWalk f last coarse k w → k < w.end → (w.time ≡ coarse_time (coarse_for coarse k)) × (w.packet ≡ coarse_packet (coarse_for coarse k))
   walk_stop k w i h =
-      let e : coarse_for coarse k ≡ i.row = i.reaches k (omega arith) ∙ stays i.row w.behind w.left (rw i.steps.next_is at h) in
+      let e : coarse_for coarse k ≡ i.row = i.reaches k (omega arith) ∙ stays i.row w.behind w.left (rw i.steps.end_is at h) in
       (i.same_time ∙ ap coarse_time (sym e), i.same_packet ∙ ap coarse_packet (sym e))
     where
-      stays : (c : Row) (p n : ℕ) → k < next_first f p n → step_on c (rows_at (coarse_at f) next_coarse p n) k ≡ c
+      stays : (c : Row) (p n : ℕ) → k < next_first f p n last → step_on c (rows_at (coarse_at f) next_coarse p n) k ≡ c
       stays c p zero h = refl
       stays c p (suc n) h =
           let ne : suc n ≡ 0 → ⊥ = λ q. omega arith in
-          rw (step_on, lt-leb (first_fine_of (coarse_at f p)) k (omega (arith, next_some f p (suc n) ne)))
+          rw (step_on, lt-leb (first_fine_of (coarse_at f p)) k (omega (arith, next_some f p (suc n) last ne)))
 
   -- right for row k, right for those behind it
-  pub walk_later : (k end : ℕ) (w : Walk) → k ≤ end → IsWalk f coarse k w → IsWalk f coarse end w
+  pub walk_later : (k end : ℕ) (w : Walk) → k ≤ end → IsWalk f last coarse k w → IsWalk f last coarse end w
   walk_later k end w h i = record {
     row = i.row;
     same_time = i.same_time;
@@ -88,27 +88,27 @@ module _ (f : List ℕ) (coarse : List Row) where
   }
 
 -- the walk at the first of n rows
-pub walk_first : (f : List ℕ) (p n : ℕ) → 0 < n → p + 8 * n ≤ length f → IsWalk f (rows_at (coarse_at f) next_coarse p n) 0 (walk_at f p n)
+pub walk_first : (f : List ℕ) (p n last : ℕ) → 0 < n → p + 8 * n ≤ length f → IsWalk f last (rows_at (coarse_at f) next_coarse p n) 0 (walk_at f p n last)
 unfolding walk_at
-walk_first f p n h r =
+walk_first f p n last h r =
     let z = one_more n h in
     record {
       row = coarse_at f p;
       same_time = refl;
       same_packet = refl;
-      steps = record { room = omega arith; next_is = refl };
+      steps = record { room = omega arith; end_is = refl };
       reaches = λ m l. ap (λ (x : ℕ). coarse_for (rows_at (coarse_at f) next_coarse p x) m) z;
     }
 
 -- the walk with no rows
-pub walk_none : (f : List ℕ) (p n : ℕ) (w : Walk) → n ≡ 0 → p ≤ length f
-    → w ≡ record { time = 0; packet = 0; behind = p; left = 0; next = 262144 } → IsWalk f (rows_at (coarse_at f) next_coarse p n) 0 w
-walk_none f p n w z r e =
+pub walk_none : (f : List ℕ) (p n last : ℕ) (w : Walk) → n ≡ 0 → p ≤ length f
+    → w ≡ record { time = 0; packet = 0; end = last; behind = p; left = 0 } → IsWalk f last (rows_at (coarse_at f) next_coarse p n) 0 w
+walk_none f p n last w z r e =
     rw (e, z) (record {
       row = 0 ∷ 0 ∷ 0 ∷ [];
       same_time = refl;
       same_packet = refl;
-      steps = record { room = omega arith; next_is = next_none f p 0 refl };
+      steps = record { room = omega arith; end_is = next_none f p 0 last refl };
       reaches = λ m l. refl;
     })
 
@@ -119,34 +119,34 @@ pub coarse_read : (f : List ℕ) (p w : ℕ) (r : CoarseRow) → w ≡ be_at f p
 coarse_read f p w r e h = h ∙ rw e
 
 -- its time and packet, and the first fine row of the next one, make the walk at that row
-pub walk_is : (f : List ℕ) (p n nx : ℕ) (r : CoarseRow) → r ≡ coarse_of (coarse_at f p) → nx ≡ next_first f (p + 8) (n - 1)
-    → record { time = r.time; packet = r.packet; behind = p + 8; left = n - 1; next = nx } ≡ walk_at f p n
+pub walk_is : (f : List ℕ) (p n last end : ℕ) (r : CoarseRow) → r ≡ coarse_of (coarse_at f p) → end ≡ next_first f (p + 8) (n - 1) last
+    → record { time = r.time; packet = r.packet; end = end; behind = p + 8; left = n - 1 } ≡ walk_at f p n last
 unfolding walk_at
-walk_is f p n nx r e h = rw (e, h)
+walk_is f p n last end r e h = rw (e, h)
 
 -- ---- the loop that steps on
 
 -- what holds before each turn
-pub record Walking (f : List ℕ) (k : ℕ) (from w : Walk) : Type 0 where
-  pub steps : Steps f w
-  pub still : (coarse : List Row) → IsWalk f coarse k from → IsWalk f coarse k w
+pub record Walking (f : List ℕ) (last k : ℕ) (from w : Walk) : Type 0 where
+  pub steps : Steps f last w
+  pub still : (coarse : List Row) → IsWalk f last coarse k from → IsWalk f last coarse k w
 
 -- before the first turn the walk is the one that the loop starts from
-pub walking_first : (f : List ℕ) (k : ℕ) (w : Walk) → Steps f w → Walking f k w w
-walking_first f k w s = record { steps = s; still = λ coarse i. i }
+pub walking_first : (f : List ℕ) (last k : ℕ) (w : Walk) → Steps f last w → Walking f last k w w
+walking_first f last k w s = record { steps = s; still = λ coarse i. i }
 
 -- a step to a row that is reached keeps what holds
-pub walking_on : (f : List ℕ) (k : ℕ) (from w : Walk) {w' : Walk} → Walking f k from w → w.next ≤ k → k < 262144
-    → w' ≡ walk_at f w.behind w.left → Walking f k from w'
-walking_on f k from w g h b e =
-    rw e (record { steps = (steps_on f k w g.steps h b).1; still = λ coarse i. walk_step f coarse k w (g.still coarse i) h b })
+pub walking_on : (f : List ℕ) (last k : ℕ) (from w : Walk) {w' : Walk} → Walking f last k from w → w.end ≤ k → w.end < last
+    → w' ≡ walk_at f w.behind w.left last → Walking f last k from w'
+walking_on f last k from w g h b e =
+    rw e (record { steps = (steps_on f last w g.steps b).1; still = λ coarse i. walk_step f last coarse k w (g.still coarse i) h b })
 
 -- a turn leaves a row less
-pub walking_less : (f : List ℕ) (k : ℕ) (w : Walk) {w' : Walk} → Steps f w → w.next ≤ k → k < 262144
-    → w' ≡ walk_at f w.behind w.left → w'.left < w.left
+pub walking_less : (f : List ℕ) (last : ℕ) (w : Walk) {w' : Walk} → Steps f last w → w.end < last
+    → w' ≡ walk_at f w.behind w.left last → w'.left < w.left
 unfolding walk_at
-walking_less f k w s h b e = let on = steps_on f k w s h b in rw e (omega arith)
+walking_less f last w s h e = let on = steps_on f last w s h in rw e (omega arith)
 
 -- where the next row is not reached yet the walk is right for fine row k, and the loop is done
-pub walking_done : (f : List ℕ) (k : ℕ) (from w : Walk) → Walking f k from w → k < w.next → Reached f k from w
-walking_done f k from w g h = record { reached = g.still; beyond = h }
+pub walking_done : (f : List ℕ) (last k : ℕ) (from w : Walk) → Walking f last k from w → k < w.end → Reached f last k from w
+walking_done f last k from w g h = record { reached = g.still; beyond = h }

@@ -4,47 +4,30 @@ ghost use Rattle.std.proofs.lemmas.List.Edits.{sets};
 ghost use Rattle.format.specs.Bytes.{unpacked};
 ghost use Rattle.format.specs.EntryPoints.{fine_widths};
 ghost use Rattle.format.specs.ClipRecord.{entry_size};
-ghost use Rattle.format.specs.Tables.{row_bytes_of, table_bytes};
+ghost use Rattle.format.specs.Tables.{table_bytes};
 ghost use Rattle.ep_entries.specs.Body.{entries_in};
-ghost use Rattle.ep_entries.specs.Entries.{joined, entry_by, stretch_bytes, Stretch, Fill};
+ghost use Rattle.ep_entries.specs.Entries.{joined, stretch_bytes, Stretch, Fill};
 
 use crate::body::MapBody;
-use crate::walk::{Walk, at_row, start};
-use entry_rows::{SIZE, put_row};
+use crate::walk::Walk;
+use entry_rows::{EntryRow, SIZE};
 use ep_rows::{entry_packet, entry_time, fine_row};
 use numbers::u32_at;
 
-// An entry beside its type: whether the angle may change, where the I picture ends, time and packet.
-#[derive(Clone, Copy)]
-pub struct Entry {
-    pub angle: u32,
-    pub i_end: u32,
-    pub time: u64,
-    pub packet: u32,
-}
-
-// The entry of a fine row under the walk's coarse row.
-pub fn join(word: u32, w: Walk) -> Entry
-    ensures { result ≡ joined w.time w.packet (unpacked fine_widths word) }
+// The entry of a fine row under the walk's coarse row, in a map of this type.
+pub fn join(word: u32, w: Walk, kind: u32) -> EntryRow
+    ensures { result ≡ joined kind w.time w.packet (unpacked fine_widths word) }
 {
     let fine = fine_row(word);
     let time = entry_time(w.time, fine.time);
     let packet = entry_packet(w.packet, fine.packet);
-    Entry {
+    EntryRow {
         angle: fine.angle,
         i_end: fine.i_end,
         time,
         packet,
+        entry_type: kind,
     }
-}
-
-// That entry as the row of a table from `at`.
-fn put_entry(word: u32, w: Walk, kind: u32, table: &mut [u8], at: usize)
-    requires { at + entry_size ≤ length table.old }
-    ensures { table.new ≡ sets table.old at (row_bytes_of (entry_by kind w.time w.packet (unpacked fine_widths word))) }
-{
-    let e = join(word, w);
-    put_row(table, at, e.angle, e.i_end, e.time, e.packet, kind);
 }
 
 // The entries of the fine rows from number `from` up to `end`, all under the walk's coarse row; the table's row for fine row 0 is at `at`.
@@ -60,16 +43,9 @@ fn put_stretch(
     requires { Stretch (length file.now) m.fine from end (length table.old) at }
     ensures { table.new ≡ sets table.old (at + entry_size * from) (stretch_bytes file.now m.kind w.time w.packet m.fine from end) }
 {
-    let mut k = from;
-    while k < end {
-        put_entry(
-            u32_at(file, m.fine + 4 * k),
-            w,
-            m.kind,
-            table,
-            at + SIZE * k,
-        );
-        k += 1;
+    for k in from..end {
+        let entry = join(u32_at(file, m.fine + 4 * k), w, m.kind);
+        entry.put(table, at + SIZE * k);
     }
 }
 
@@ -78,15 +54,15 @@ pub fn put_entries(file: &[u8], m: MapBody, table: &mut [u8], at: usize)
     requires { Fill file.now m (length table.old) at }
     ensures { table.new ≡ sets table.old at (table_bytes (entries_in file.now m)) }
 {
-    let mut w = start(file, m.coarse, m.num_coarse);
+    let mut w = Walk::start(file, m);
     let mut k: usize = 0;
-    while (w.next as usize) < m.num_fine {
-        let end = w.next as usize;
-        if k < end {
-            put_stretch(file, m, k, end, w, table, at);
-            k = end;
+    // a `while`: a turn for each coarse row, not for each fine row
+    while w.end < m.num_fine {
+        if k < w.end {
+            put_stretch(file, m, k, w.end, w, table, at);
+            k = w.end;
         }
-        w = at_row(file, w.behind, w.left);
+        w = w.step(file, m);
     }
     put_stretch(file, m, k, m.num_fine, w, table, at);
 }

@@ -1,29 +1,29 @@
 -- What a lookup answers, and what its steps do.
-use Rattle.std.specs.Prelude.{ℕ, ◌-◌, List, map, Bool, true, false}
+use Rattle.std.specs.Prelude.{ℕ, ◌-◌, List, map, Option, None, Some, eqb, length, get_or}
 use Rattle.format.specs.Bytes.{pick}
 use Rattle.format.specs.ClipRecord.{Row, time, packet, entry_time}
 use Rattle.format.specs.Ticks.{Ticks90, less90}
-use Rattle.format.specs.Questions.{Answer, refused, none, number, ticks45, ticks90, seconds, no_rate, of_row}
+use Rattle.format.specs.Questions.{Answer, of_row}
 use Rattle.nearest.specs.Nearest.{row_in}
+use Rattle.nearest.specs.declared.Side.{Side}
+use Rattle.ep_entry_steps.specs.declared.EpEntry.{EpEntry}
+use Rattle.ep_entry_steps.specs.Records.{no_entry}
 
--- the entry after a time, or at or before it: its packet, or its row
-abbrev pub look_up_of : Bool → Bool → List Row → ℕ → Answer
-look_up_of side true es at = of_row packet es (row_in side (map time es) at)
-look_up_of side false es at = row_in side (map time es) at
+-- the entry after a time, or at or before it: its row
+abbrev pub find_in : Side → List Row → ℕ → Answer
+find_in side es at = row_in side (map time es) at
 
--- the packet of an entry that was found, or its row
-abbrev pub row_or_packet : Bool → Row → Answer → Answer
-row_or_packet isPacket e (number k) = number (pick isPacket (packet e) k)
-row_or_packet isPacket e none = none
-row_or_packet isPacket e (refused n) = refused n
-row_or_packet isPacket e (ticks45 t) = ticks45 t
-row_or_packet isPacket e (ticks90 t) = ticks90 t
-row_or_packet isPacket e (seconds q) = seconds q
-row_or_packet isPacket e no_rate = no_rate
+-- its packet
+abbrev pub seek_in : Side → List Row → ℕ → Answer
+seek_in side es at = of_row packet es (row_in side (map time es) at)
 
 -- the last of so many rows
 abbrev pub last_row : ℕ → ℕ
 last_row rows = rows - 1
+
+-- the first record and the last, or none
+abbrev pub ends_of : List EpEntry → Option (EpEntry × EpEntry)
+ends_of es = pick (eqb (length es) 0) None (Some (get_or es 0 no_entry, get_or es (last_row (length es)) no_entry))
 
 -- the last time less the first, not below 0
 abbrev pub span_between : Row → Row → Ticks90

@@ -1,18 +1,16 @@
-// What is looked for in a row of `EpEntry` records, as steps by value: one for each record, and what is answered at the end.
+// What is looked for in a lent row of `EpEntry` records: the nearest to a time, its packet, and the span.
 #![tactic(auto)]
 
-ghost use Rattle.std.specs.Prelude.{◌≡◌};
+ghost use Rattle.std.specs.Prelude.{◌≡◌, Ok, map};
 ghost use Rattle.format.specs.ClipRecord.{time};
-ghost use Rattle.format.specs.Questions.{answer_numbers, ticks90};
+ghost use Rattle.format.specs.Questions.{span_of};
 ghost use Rattle.queries.specs.Answers.{found_of};
-ghost use Rattle.clpi_answers.specs.Numbers.{found_numbers};
-ghost use Rattle.nearest.specs.Nearest.{closer_of, row_found};
-ghost use Rattle.ep_entry_steps.specs.Records.{no_entry, as_row};
-ghost use Rattle.ep_entry_steps.specs.Lookups.{row_or_packet, last_row, span_between};
+ghost use Rattle.ticks.specs.Times.{as90};
+ghost use Rattle.nearest.specs.Nearest.{NearestIn, as_best, closer_of};
+ghost use Rattle.ep_entry_steps.specs.Records.{as_row, as_rows};
+ghost use Rattle.ep_entry_steps.specs.Lookups.{find_in, seek_in, ends_of, span_between};
 
-use clpi_answers::{ClpiAnswer, answer_of, answer_of_90};
-use nearest::{Nearest, found_row, look_at_time};
-use queries::{Found, Time90};
+use nearest::{Nearest, Side, found_row, look_at_time};
 use ticks::Ticks90;
 
 // An entry of a map.
@@ -26,70 +24,76 @@ pub struct EpEntry {
     pub ep_stream_type: u8,
 }
 
-// What stands past the end of a row.
-pub fn no_entry() -> EpEntry
-    ensures { result ≡ no_entry }
-{
-    EpEntry {
-        is_angle_change_point: false,
-        i_end_position_offset: 0,
-        pts_ep_start: 0,
-        spn_ep_start: 0,
-        ep_stream_type: 0,
-    }
-}
-
 // The nearest so far, or entry k where its time is nearer.
-pub fn look_at(so_far: Nearest, k: usize, entry: EpEntry, is_after: bool, at: u32) -> Nearest
-    ensures { result ≡ closer_of is_after at so_far k (time (as_row entry)) }
-{
-    look_at_time(so_far, k, is_after, at as u64, entry.pts_ep_start as u64)
-}
-
-// The row that was found, or the packet of its entry.
-fn row_or_packet(found: Found, entry: EpEntry, is_packet: bool) -> Found
-    ensures { found_of result ≡ row_or_packet is_packet (as_row entry) (found_of found) }
-{
-    match found {
-        Found::Refused(refusal) => Found::Refused(refusal),
-        Found::Nothing => Found::Nothing,
-        Found::Number(row) => {
-            if is_packet {
-                return Found::Number(entry.spn_ep_start as u64);
-            }
-            Found::Number(row)
-        }
-    }
-}
-
-// What is answered once all are looked at, with the entry that is nearest.
-pub fn answer(
-    nearest: Nearest,
-    rows: usize,
+pub fn look_at(
+    so_far: Option<Nearest>,
+    k: usize,
     entry: EpEntry,
-    is_after: bool,
-    is_packet: bool,
-) -> ClpiAnswer
-    ensures { found_numbers result ≡ answer_numbers (row_or_packet is_packet (as_row entry) (row_found is_after rows nearest)) }
+    side: Side,
+    at: u32,
+) -> Option<Nearest>
+    ensures { as_best result ≡ closer_of side at (as_best so_far) k (time (as_row entry)) }
 {
-    answer_of(row_or_packet(found_row(nearest, rows, is_after), entry, is_packet))
+    look_at_time(
+        so_far,
+        k,
+        side,
+        u64::from(at),
+        u64::from(entry.pts_ep_start),
+    )
 }
 
-// The last row of so many; 0 without any.
-pub fn last_row(rows: usize) -> usize
-    ensures { result ≡ last_row rows }
+// The nearest of the entries to a time, on one side of it.
+fn nearest(rows: &[EpEntry], side: Side, at: u32) -> Option<Nearest>
+    ensures { NearestIn side (map time (as_rows rows.now)) at result }
 {
-    if rows == 0 {
-        return 0;
+    let mut nearest = None;
+    for (k, entry) in rows.iter().enumerate() {
+        nearest = look_at(nearest, k, *entry, side, at);
     }
-    rows - 1
+    nearest
+}
+
+// The entry after a time, or at or before it: its row.
+pub fn find(rows: &[EpEntry], side: Side, at: u32) -> Option<u64>
+    ensures { found_of (Ok result) ≡ find_in side (as_rows rows.now) at }
+{
+    found_row(nearest(rows, side, at), rows.len(), side)
+}
+
+// The packet of that entry.
+pub fn seek(rows: &[EpEntry], side: Side, at: u32) -> Option<u64>
+    ensures { found_of (Ok result) ≡ seek_in side (as_rows rows.now) at }
+{
+    let row = find(rows, side, at)?;
+    let entry = rows.get(row as usize)?;
+    Some(u64::from(entry.spn_ep_start))
+}
+
+// The first entry and the last; none without any.
+fn ends(rows: &[EpEntry]) -> Option<(EpEntry, EpEntry)>
+    ensures { result ≡ ends_of rows.now }
+{
+    let first = rows.first()?;
+    let last = rows.last()?;
+    Some((*first, *last))
 }
 
 // The last time less the first, not below 0.
-pub fn span(first: EpEntry, last: EpEntry) -> ClpiAnswer
-    ensures { found_numbers result ≡ answer_numbers (ticks90 (span_between (as_row first) (as_row last))) }
+fn between(first: EpEntry, last: EpEntry) -> Ticks90
+    ensures { as90 result ≡ span_between (as_row first) (as_row last) }
 {
-    let end = Ticks90(last.pts_ep_start as u64);
-    let start = Ticks90(first.pts_ep_start as u64);
-    answer_of_90(Time90::Ticks(end.less(start)))
+    let start = Ticks90(u64::from(first.pts_ep_start));
+    let end = Ticks90(u64::from(last.pts_ep_start));
+    end.less(start)
+}
+
+// The span of the entries: the last time less the first, not below 0; 0 without entries.
+pub fn span(rows: &[EpEntry]) -> Ticks90
+    ensures { as90 result ≡ span_of (as_rows rows.now) }
+{
+    match ends(rows) {
+        Some((first, last)) => between(first, last),
+        None => Ticks90(0),
+    }
 }

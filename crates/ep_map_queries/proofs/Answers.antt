@@ -1,24 +1,52 @@
 -- What the entries of a map answer, and the refusals in front of it.
-use Prim.Native.Nat.{ℕ, ◌+◌, ◌*◌, ◌-◌, ◌<◌, ◌≤◌}
+use Prim.Native.Nat.{ℕ, ◌+◌, ◌*◌, ◌<◌, ◌≤◌}
 use mathlib.Core.Path.{◌≡◌, refl, sym, ap, ◌∙◌}
 use mathlib.Core.List.{List, [], ◌∷◌, map}
 use mathlib.Core.Bool.{Bool, true, false}
 use native.Mathlib.Omega.{arith}
-use lib.ListN.{length}
-use Rattle.format.specs.ClipRecord.{Row, entry_count, time, packet, entry_cells, entry_size}
-use Rattle.format.specs.Questions.{Question, parts_of, Answer, refused, number, of_row, own_rows, of_map, answer, ask}
+use lib.ListN.{length, get_or, length-map}
+use Rattle.std.specs.Prelude.{Result, Ok, Err}
+use Rattle.format.specs.Bytes.{pick}
+use Rattle.format.specs.ClipRecord.{Row, entry_count, time, entry_cells, entry_size}
+use Rattle.format.specs.Questions.{Question, parts_of, Answer, refused, number, of_row, first_row, own_rows, of_map, answer, ask}
 use Rattle.format.specs.Questions as of
 use Rattle.format.specs.Tables.{Table, rows_of, cells_at, clip_in, map_cells}
 use Rattle.format.proofs.Cell.{item_at}
 use Rattle.format.proofs.Lookups.{before_row, after_row}
-use Rattle.entry_rows.specs.Reads.{EntryHas}
+use Rattle.format.proofs.Rows.{rows_length}
 use Rattle.queries.specs.Asked.{maps_and_entries}
-use Rattle.table_rows.specs.OwnRows.{refusal, owns}
-use Rattle.table_rows.proofs.OwnRows.{own_rows_lem, behind_tests, tests_fail, tests_pass}
+use Rattle.nearest.specs.declared.Side.{Side}
+use Rattle.table_rows.specs.OwnRows.{refusal, owns, may_ask, owned_rows, cell_in}
+use Rattle.table_rows.proofs.OwnRows.{own_rows_lem, not_owned, behind_tests, tests_fail, tests_pass}
 use Rattle.ep_map_queries.specs.InMap.{owned_entries, entries_at, find_in, seek_in, find_question, seek_question}
-use Rattle.ep_map_queries.proofs.Nearest.{times_length}
+use Rattle.ep_map_queries.specs.Rows.{own_entries}
 
--- ---- the refusals
+-- ---- the rows of a map, or the refusal
+
+module _ (maps entries : Table) (m : ℕ) where
+  -- those that are told stand in the table and are the map's own
+  pub rows_told : {first count : ℕ} → owns first count ≡ owned_entries maps entries m → Ok (entries_at entries.bytes first count) ≡ own_entries maps entries m
+  rows_told h = let o = own_rows_lem 2 entry_cells maps entries m h in rw o.may (ap Ok (sym o.own))
+
+  -- a refusal is one by the definitions too
+  pub refusal_told : {n : ℕ} → refusal n ≡ owned_entries maps entries m → Err n ≡ own_entries maps entries m
+  refusal_told h = let o = not_owned 2 entry_cells maps entries m h in rw (o.0, o.1)
+
+  -- the entries of a map stand in the table
+  pub inside : {first count : ℕ} → owns first count ≡ owned_entries maps entries m → entry_size * (first + count) ≤ length entries.bytes
+  inside h = let o = own_rows_lem 2 entry_cells maps entries m h in omega (arith, o.inside, o.room)
+
+-- there are as many as are counted
+pub entries_length : (t : List ℕ) (first count : ℕ) → length (entries_at t first count) ≡ count
+entries_length t first count = rows_length (cells_at t entry_cells) (λ p. p + 4 * entry_cells) (4 * entry_cells * first) count
+
+-- row k is the one that stands k places behind the first
+pub row_is : (t : List ℕ) (first count k : ℕ) → k < count → cells_at t entry_cells (entry_size * (first + k)) ≡ get_or (entries_at t first count) k []
+row_is t first count k h =
+    let place : entry_size * (first + k) ≡ entry_size * first + entry_size * k = omega arith in
+    rw place (sym (item_at (cells_at t entry_cells) [] entry_size (entry_size * first) count k h))
+
+-- ---- the questions about one map
 
 -- a question about the entries of map m
 pub record AsksMap (q : Question) (maps entries : Table) (m : ℕ) (f : List Row → Answer) : Type 0 where
@@ -26,50 +54,60 @@ pub record AsksMap (q : Question) (maps entries : Table) (m : ℕ) (f : List Row
   pub asks : answer q (clip_in (maps_and_entries maps entries)) ≡ of_map (rows_of map_cells maps) (rows_of entry_cells entries) m f
 
 module _ {q : Question} {maps entries : Table} {m : ℕ} {f : List Row → Answer} (a : AsksMap q maps entries m f) where
+  -- the rows that belong to map m
+  abbrev own : List Row
+  own = own_rows entry_count (rows_of map_cells maps) (rows_of entry_cells entries) m
+
   -- what is asked of the map's own entries, behind the tests
-  by_tests : behind_tests 2 entry_cells maps entries m (f (own_rows entry_count (rows_of map_cells maps) (rows_of entry_cells entries) m)) ≡ ask q (maps_and_entries maps entries)
+  by_tests : behind_tests 2 entry_cells maps entries m (f own) ≡ ask q (maps_and_entries maps entries)
   unfolding ask of_map
   by_tests = rw (a.two, a.asks)
 
-  -- where the entries of the map are refused, so is the question, by 22
-  pub not_asked : refusal ≡ owned_entries maps entries m → refused 22 ≡ ask q (maps_and_entries maps entries)
-  not_asked h = tests_fail 2 entry_cells maps entries m (f (own_rows entry_count (rows_of map_cells maps) (rows_of entry_cells entries) m)) h ∙ by_tests
+  -- where the tests fail, the question is refused
+  refused_by : may_ask 2 entry_cells maps entries m ≡ false → refused 22 ≡ ask q (maps_and_entries maps entries)
+  unfolding owned_rows
+  refused_by h = tests_fail 2 entry_cells maps entries m (f own) (rw h) ∙ by_tests
+
+  -- where they pass, it has its answer
+  answered_by : may_ask 2 entry_cells maps entries m ≡ true → f own ≡ ask q (maps_and_entries maps entries)
+  unfolding owned_rows
+  answered_by h =
+      let told : owns (first_row (cell_in 2) (rows_of map_cells maps) m) (cell_in 2 (get_or (rows_of map_cells maps) m [])) ≡ owned_entries maps entries m = rw h in
+      tests_pass 2 entry_cells maps entries m (f own) told ∙ by_tests
+
+  -- where the entries of the map are refused, so is the question, by the same number
+  pub not_asked : {n : ℕ} → Err n ≡ own_entries maps entries m → refused n ≡ ask q (maps_and_entries maps entries)
+  not_asked {n} h = go (may_ask 2 entry_cells maps entries m) refl h
+    where
+      go : (b : Bool) → may_ask 2 entry_cells maps entries m ≡ b → ◌≡◌ {A = Result (List Row) ℕ} (Err n) (pick b (Ok own) (Err 22)) → refused n ≡ ask q (maps_and_entries maps entries)
+      go true e g = cc
+      go false e g = let is : n ≡ 22 = cc in rw is (refused_by e)
 
   -- where they are not, the question is answered from the rows that belong to the map
-  pub asked : {first count : ℕ} → owns first count ≡ owned_entries maps entries m → f (entries_at entries.bytes first count) ≡ ask q (maps_and_entries maps entries)
-  asked h =
-      ap f (sym (own_rows_lem 2 entry_cells maps entries m h).own)
-      ∙ tests_pass 2 entry_cells maps entries m (f (own_rows entry_count (rows_of map_cells maps) (rows_of entry_cells entries) m)) h ∙ by_tests
-
--- the entries of a map stand in the table
-pub inside : (maps entries : Table) (m : ℕ) {first count : ℕ} → owns first count ≡ owned_entries maps entries m → entry_size * (first + count) ≤ length entries.bytes
-inside maps entries m h = let o = own_rows_lem 2 entry_cells maps entries m h in omega (arith, o.inside, o.room)
+  pub asked : {es : List Row} → Ok es ≡ own_entries maps entries m → f es ≡ ask q (maps_and_entries maps entries)
+  asked {es} h = go (may_ask 2 entry_cells maps entries m) refl h
+    where
+      go : (b : Bool) → may_ask 2 entry_cells maps entries m ≡ b → ◌≡◌ {A = Result (List Row) ℕ} (Ok es) (pick b (Ok own) (Err 22)) → f es ≡ ask q (maps_and_entries maps entries)
+      go true e g = let is : es ≡ own = cc in rw is (answered_by e)
+      go false e g = cc
 
 -- the questions about one map
 module _ (maps entries : Table) (m : ℕ) where
   -- the entry at or before a time, or after it, is asked of the entries of map m
-  pub find_asks : (side : Bool) (at : ℕ) → AsksMap (find_question side m at) maps entries m (λ es. find_in side es at)
+  pub find_asks : (side : Side) (at : ℕ) → AsksMap (find_question side m at) maps entries m (λ es. find_in side es at)
   unfolding answer clip_in
-  find_asks true at = record { two = refl; asks = refl }
-  find_asks false at = record { two = refl; asks = refl }
+  find_asks Side.After at = record { two = refl; asks = refl }
+  find_asks Side.AtOrBefore at = record { two = refl; asks = refl }
 
   -- so is its packet
-  pub seek_asks : (side : Bool) (at : ℕ) → AsksMap (seek_question side m at) maps entries m (λ es. seek_in side es at)
+  pub seek_asks : (side : Side) (at : ℕ) → AsksMap (seek_question side m at) maps entries m (λ es. seek_in side es at)
   unfolding answer clip_in
-  seek_asks true at = record { two = refl; asks = refl }
-  seek_asks false at = record { two = refl; asks = refl }
+  seek_asks Side.After at = record { two = refl; asks = refl }
+  seek_asks Side.AtOrBefore at = record { two = refl; asks = refl }
 
--- ---- the packet of the entry that is found
+-- ---- the entry that is found
 
-module _ (t : List ℕ) (first count at : ℕ) where
-  -- the row that is found is one of them
-  pub found_below : (side : Bool) (k : ℕ) → number k ≡ find_in side (entries_at t first count) at → k < count
-  found_below true k h = rw (times_length t first count) at (after_row (map time (entries_at t first count)) at k (sym h))
-  found_below false k h = rw (times_length t first count) at (before_row (map time (entries_at t first count)) at k (sym h))
-
-  -- the packet that was read of entry k of the map
-  pub packet_is : (k : ℕ) {v : ℕ} → k < count → EntryHas packet 32 t (entry_size * (first + k)) v → number v ≡ of_row packet (entries_at t first count) (number k)
-  packet_is k h c =
-      let row = item_at (cells_at t entry_cells) [] entry_size (entry_size * first) count k h in
-      let place : entry_size * (first + k) ≡ entry_size * first + entry_size * k = omega arith in
-      ap (λ (x : ℕ). number x) (rw place at c.same ∙ ap (λ (r : Row). packet r) (sym row))
+-- it is one of them
+pub found_below : (es : List Row) (at : ℕ) (side : Side) (k : ℕ) → number k ≡ find_in side es at → k < length es
+found_below es at Side.After k h = rw (length-map es time) at (after_row (map time es) at k (sym h))
+found_below es at Side.AtOrBefore k h = rw (length-map es time) at (before_row (map time es) at k (sym h))

@@ -1,56 +1,36 @@
 -- The nearest entry while a loop goes over the entries of a map.
-use Prim.Native.Nat.{ℕ, ◌+◌, ◌*◌, ◌-◌, ◌<◌}
-use mathlib.Core.Path.{◌≡◌, sym, ap, ◌∙◌, subst}
+use Prim.Native.Nat.{ℕ, ◌+◌, ◌<◌}
+use mathlib.Core.Path.{◌≡◌, sym, ◌∙◌}
 use mathlib.Core.List.{List, [], map}
-use mathlib.Core.Bool.{Bool}
 use native.Mathlib.Numerals.{add-one}
-use native.Mathlib.Omega.{arith}
 use lib.ListN.{length, get_or, length-map, get_or-map}
-use Rattle.format.specs.ClipRecord.{Row, time, entry_cells, entry_size}
-use Rattle.format.specs.Tables.{cells_at}
-use Rattle.format.proofs.Cell.{item_at}
-use Rattle.format.proofs.Rows.{rows_length}
-use Rattle.entry_rows.specs.Reads.{TimeIs}
-use Rattle.nearest.specs.Nearest.{far, none_yet, closer_of, row_found, NearestIn}
-use Rattle.nearest.specs.declared.Nearest.{Nearest}
-use Rattle.nearest.proofs.Steps.{Scan, scan_first, scan_turn, scan_done, found_is}
-use Rattle.ep_map_queries.specs.InMap.{entries_at, find_in}
+use Rattle.format.specs.ClipRecord.{Row, time}
+use Rattle.format.specs.Questions.{Best}
+use Rattle.nearest.specs.Nearest.{closer_of, row_found, best_in}
+use Rattle.nearest.specs.declared.Side.{Side}
+use Rattle.nearest.proofs.Steps.{Scan, scan_turn, scan_done, found_is}
+use Rattle.ep_map_queries.specs.InMap.{find_in}
 
-module _ (entries : List ℕ) (first count : ℕ) where
-  -- their times
-  abbrev times : List ℕ
-  times = map time (entries_at entries first count)
+module _ (es : List Row) where
+  -- the time of row k
+  time_at_lem : (k : ℕ) → time (get_or es k []) ≡ get_or (map time es) k 0
+  time_at_lem k = sym (get_or-map time es k [])
 
-  -- there are as many times as entries
-  pub times_length : length times ≡ count
-  times_length = length-map (entries_at entries first count) time ∙ rows_length (cells_at entries entry_cells) (λ p. p + 4 * entry_cells) (4 * entry_cells * first) count
-
-  -- the time that was read of an entry
-  time_at_lem : (k : ℕ) {x : ℕ} → k < count → TimeIs entries (entry_size * first + entry_size * k) x → x ≡ get_or times k 0
-  time_at_lem k h c =
-      let row = item_at (cells_at entries entry_cells) [] entry_size (entry_size * first) count k h in
-      c.same ∙ ap (λ (r : Row). time r) (sym row) ∙ sym (get_or-map time (entries_at entries first count) k [])
-
-  module _ (side : Bool) (at : ℕ) where
+  module _ (side : Side) (at : ℕ) where
     -- k entries are looked at
-    abbrev pub Looked : ℕ → Nearest → Type 0
-    Looked k n = Scan times side at k n
-
-    -- before the first entry
-    pub look_first : {n : Nearest} → n ≡ none_yet → Looked 0 n
-    look_first e = rw e (scan_first times side at)
+    abbrev pub Looked : ℕ → Best → Type 0
+    Looked k b = Scan (map time es) side at k b
 
     -- an entry more
-    pub look_turn : at < far → (k : ℕ) (n : Nearest) {x : ℕ} {r : Nearest} → k < count → TimeIs entries (entry_size * first + entry_size * k) x → r ≡ closer_of side at n k x → Looked k n → Looked (k + 1) r
-    look_turn small k n {x} {r} h c chose i =
-        let l : k < length times = rw times_length h in
-        let next = scan_turn times side at small k n l (time_at_lem k h c) (omega (arith, c.below)) i in
-        rw (add-one, chose) next
+    pub look_turn : (k : ℕ) (b : Best) {x : ℕ} {r : Best} → k < length es → x ≡ time (get_or es k []) → r ≡ closer_of side at b k x → Looked k b → Looked (k + 1) r
+    look_turn k b h e chose i =
+        let l : k < length (map time es) = rw (length-map es time) h in
+        rw (add-one, chose) (scan_turn (map time es) side at k b l (e ∙ time_at_lem k) i)
 
     -- behind the last
-    pub look_done : (k : ℕ) (n : Nearest) → k ≡ count → Looked k n → NearestIn side times at n
-    look_done k n e i = scan_done times side at n (subst (λ (m : ℕ). Looked m n) (e ∙ sym times_length) i)
+    pub look_done : (k : ℕ) (b : Best) → k ≡ length es → Looked k b → b ≡ best_in side (map time es) at
+    look_done k b e i = scan_done (map time es) side at b (rw (length-map es time, ← e) i)
 
     -- what is found of them
-    pub find_is : (n : Nearest) → NearestIn side times at n → row_found side count n ≡ find_in side (entries_at entries first count) at
-    find_is n s = rw times_length at (found_is times side at n s)
+    pub find_is : (b : Best) → b ≡ best_in side (map time es) at → row_found side (length es) b ≡ find_in side es at
+    find_is b s = rw (length-map es time) at (found_is (map time es) side at b s)

@@ -1,9 +1,10 @@
 -- The entries of one map, and what is asked about them: before a time or after it.
-use Rattle.std.specs.Prelude.{ℕ, List, map, Bool, true, false}
+use Rattle.std.specs.Prelude.{ℕ, List, map}
 use Rattle.format.specs.ClipRecord.{Row, time, packet, entry_cells}
 use Rattle.format.specs.Questions.{Question, entry_point_at_or_before, entry_point_after, seek_spn, next_seek_spn, primary_seek_spn, primary_next_seek_spn, Answer, of_row}
 use Rattle.format.specs.Tables.{Table}
 use Rattle.nearest.specs.Nearest.{row_in}
+use Rattle.nearest.specs.declared.Side.{Side}
 use Rattle.table_rows.specs.OwnRows.{Owned, owned_rows, rows_from}
 
 -- the entries of a map, whose count stands in cell 2
@@ -15,24 +16,24 @@ abbrev pub entries_at : List ℕ → ℕ → ℕ → List Row
 entries_at t first count = rows_from entry_cells t first count
 
 -- the entry after a time, or at or before it
-abbrev pub find_in : Bool → List Row → ℕ → Answer
+abbrev pub find_in : Side → List Row → ℕ → Answer
 find_in side es at = row_in side (map time es) at
 
 -- its packet
-abbrev pub seek_in : Bool → List Row → ℕ → Answer
+abbrev pub seek_in : Side → List Row → ℕ → Answer
 seek_in side es at = of_row packet es (find_in side es at)
 
 -- the questions that ask for these
-abbrev pub find_question : Bool → ℕ → ℕ → Question
-find_question true m at = entry_point_after m (record { ticks = at })
-find_question false m at = entry_point_at_or_before m (record { ticks = at })
+abbrev pub find_question : Side → ℕ → ℕ → Question
+find_question Side.After m at = entry_point_after m (record { ticks = at })
+find_question Side.AtOrBefore m at = entry_point_at_or_before m (record { ticks = at })
 
 -- in map m: the packet of the entry after a time, or of the one at or before it
-abbrev pub seek_question : Bool → ℕ → ℕ → Question
-seek_question true m at = next_seek_spn m (record { ticks = at })
-seek_question false m at = seek_spn m (record { ticks = at })
+abbrev pub seek_question : Side → ℕ → ℕ → Question
+seek_question Side.After m at = next_seek_spn m (record { ticks = at })
+seek_question Side.AtOrBefore m at = seek_spn m (record { ticks = at })
 
 -- the same in the primary map
-abbrev pub primary_seek_question : Bool → ℕ → Question
-primary_seek_question true at = primary_next_seek_spn (record { ticks = at })
-primary_seek_question false at = primary_seek_spn (record { ticks = at })
+abbrev pub primary_seek_question : Side → ℕ → Question
+primary_seek_question Side.After at = primary_next_seek_spn (record { ticks = at })
+primary_seek_question Side.AtOrBefore at = primary_seek_spn (record { ticks = at })

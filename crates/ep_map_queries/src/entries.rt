@@ -1,151 +1,89 @@
 // Entry points by their times, one scan each, for maps in any order.
-ghost use Rattle.std.specs.Prelude.{◌≡◌, ◌+◌, ◌*◌, ◌≤◌, ◌<◌, map, length};
-ghost use Rattle.format.specs.ClipRecord.{time, entry_size};
+ghost use Rattle.std.specs.Prelude.{◌≡◌, Ok, map};
+ghost use Rattle.format.specs.ClipRecord.{time};
 ghost use Rattle.format.specs.Questions.{ask, entry_point_at_or_before, entry_point_after, seek_spn, next_seek_spn};
 ghost use Rattle.format.specs.Tables.{stated};
 ghost use Rattle.queries.specs.Answers.{found_of};
 ghost use Rattle.queries.specs.Asked.{maps_and_entries};
 ghost use Rattle.ticks.specs.Times.{as_pts};
-ghost use Rattle.nearest.specs.Nearest.{far, NearestIn};
-ghost use Rattle.ep_map_queries.specs.InMap.{entries_at, find_in, seek_in, find_question, seek_question};
+ghost use Rattle.nearest.specs.Nearest.{NearestIn};
+ghost use Rattle.ep_map_queries.specs.InMap.{find_in, seek_in, find_question, seek_question};
+ghost use Rattle.ep_map_queries.specs.Rows.{rows_in};
 
-use crate::own::entries_of_map;
-use entry_rows::{SIZE, packet_at, time_at};
-use nearest::{Nearest, found_row, look_at_time, none_yet};
+use crate::own::MapEntries;
+use nearest::{Nearest, Side, found_row, look_at_time};
 use queries::Found;
-use table_rows::own::Own;
+use table_rows::Table;
 use ticks::Pts90;
 
-// The nearest of `count` entries from the one with the number `first`.
-fn scan(entries: &[u8], first: u64, count: u32, is_after: bool, at: u64) -> Nearest
-    requires { (entry_size * (first + count) ≤ length entries.now) × (at < far) }
-    ensures { NearestIn is_after (map time (entries_at entries.now first count)) at result }
-{
-    let start = SIZE * (first as usize);
-    let mut nearest = none_yet();
-    let mut k: u32 = 0;
-    while k < count {
-        let time = time_at(entries, start + SIZE * (k as usize));
-        nearest = look_at_time(nearest, k as usize, is_after, at, time);
-        k += 1;
-    }
-    nearest
-}
-
-// Of `count` entries from the one with the number `first`: the one after a time, or at or before it.
-fn find_in(entries: &[u8], first: u64, count: u32, is_after: bool, at: u64) -> Found
-    requires { (entry_size * (first + count) ≤ length entries.now) × (at < far) }
-    ensures { found_of result ≡ find_in is_after (entries_at entries.now first count) at }
-{
-    found_row(
-        scan(entries, first, count, is_after, at),
-        count as usize,
-        is_after,
-    )
-}
-
-// The packet of that entry.
-fn seek_in(entries: &[u8], first: u64, count: u32, is_after: bool, at: u64) -> Found
-    requires { (entry_size * (first + count) ≤ length entries.now) × (at < far) }
-    ensures { found_of result ≡ seek_in is_after (entries_at entries.now first count) at }
-{
-    match find_in(entries, first, count, is_after, at) {
-        Found::Refused(refusal) => Found::Refused(refusal),
-        Found::Nothing => Found::Nothing,
-        Found::Number(row) => {
-            Found::Number(packet_at(entries, SIZE * ((first + row) as usize)) as u64)
+impl<'a> MapEntries<'a> {
+    // The nearest of the entries to a time, on one side of it.
+    fn nearest(self, side: Side, at: u64) -> Option<Nearest>
+        ensures { NearestIn side (map time (rows_in self.entry)) at result }
+    {
+        let mut nearest = None;
+        for k in 0..u64::from(self.own.count) {
+            nearest = look_at_time(nearest, k as usize, side, at, self.entry(k).time);
         }
+        nearest
+    }
+
+    // The entry after a time, or at or before it.
+    fn find(self, side: Side, at: u64) -> Option<u64>
+        ensures { found_of (Ok result) ≡ find_in side (rows_in self.entry) at }
+    {
+        found_row(self.nearest(side, at), self.own.count as usize, side)
+    }
+
+    // The packet of that entry.
+    fn seek(self, side: Side, at: u64) -> Option<u64>
+        ensures { found_of (Ok result) ≡ seek_in side (rows_in self.entry) at }
+    {
+        let row = self.find(side, at)?;
+        Some(u64::from(self.entry(row).packet))
     }
 }
 
 // The entry of a map after a time, or at or before it.
-fn find(
-    maps: &[u8],
-    map_rows: u32,
-    entries: &[u8],
-    entry_rows: u32,
-    map: u32,
-    is_after: bool,
-    at: Pts90,
-) -> Found
-    ensures { found_of result ≡ ask (find_question is_after map at.0) (maps_and_entries (stated maps.now map_rows) (stated entries.now entry_rows)) }
+fn find(maps: Table, entries: Table, map: u32, side: Side, at: Pts90) -> Found
+    ensures { found_of result ≡ ask (find_question side map at.0) (maps_and_entries (stated maps.entry.bytes.now maps.entry.rows) (stated entries.entry.bytes.now entries.entry.rows)) }
 {
-    match entries_of_map(maps, map_rows, entries, entry_rows, map) {
-        Own::Refused => Found::Refused(22),
-        Own::Rows { first, count } => find_in(entries, first, count, is_after, at.0 as u64),
-    }
+    let own = MapEntries::of(maps, entries, map)?;
+    Ok(own.find(side, u64::from(at.0)))
 }
 
 // The packet of that entry.
-pub fn seek(
-    maps: &[u8],
-    map_rows: u32,
-    entries: &[u8],
-    entry_rows: u32,
-    map: u32,
-    is_after: bool,
-    at: Pts90,
-) -> Found
-    ensures { found_of result ≡ ask (seek_question is_after map at.0) (maps_and_entries (stated maps.now map_rows) (stated entries.now entry_rows)) }
+pub fn seek(maps: Table, entries: Table, map: u32, side: Side, at: Pts90) -> Found
+    ensures { found_of result ≡ ask (seek_question side map at.0) (maps_and_entries (stated maps.entry.bytes.now maps.entry.rows) (stated entries.entry.bytes.now entries.entry.rows)) }
 {
-    match entries_of_map(maps, map_rows, entries, entry_rows, map) {
-        Own::Refused => Found::Refused(22),
-        Own::Rows { first, count } => seek_in(entries, first, count, is_after, at.0 as u64),
-    }
+    let own = MapEntries::of(maps, entries, map)?;
+    Ok(own.seek(side, u64::from(at.0)))
 }
 
 // The entry with the greatest time not above the one given, the earliest among equals; row 0 if all are later; nothing in an empty map.
-pub fn entry_point_at_or_before(
-    maps: &[u8],
-    map_rows: u32,
-    entries: &[u8],
-    entry_rows: u32,
-    map: u32,
-    at: Pts90,
-) -> Found
-    ensures { found_of result ≡ ask (entry_point_at_or_before map (as_pts at)) (maps_and_entries (stated maps.now map_rows) (stated entries.now entry_rows)) }
+pub fn entry_point_at_or_before(maps: Table, entries: Table, map: u32, at: Pts90) -> Found
+    ensures { found_of result ≡ ask (entry_point_at_or_before map (as_pts at)) (maps_and_entries (stated maps.entry.bytes.now maps.entry.rows) (stated entries.entry.bytes.now entries.entry.rows)) }
 {
-    find(maps, map_rows, entries, entry_rows, map, false, at)
+    find(maps, entries, map, Side::AtOrBefore, at)
 }
 
 // The entry with the least time above the one given, the earliest among equals, or nothing.
-pub fn entry_point_after(
-    maps: &[u8],
-    map_rows: u32,
-    entries: &[u8],
-    entry_rows: u32,
-    map: u32,
-    at: Pts90,
-) -> Found
-    ensures { found_of result ≡ ask (entry_point_after map (as_pts at)) (maps_and_entries (stated maps.now map_rows) (stated entries.now entry_rows)) }
+pub fn entry_point_after(maps: Table, entries: Table, map: u32, at: Pts90) -> Found
+    ensures { found_of result ≡ ask (entry_point_after map (as_pts at)) (maps_and_entries (stated maps.entry.bytes.now maps.entry.rows) (stated entries.entry.bytes.now entries.entry.rows)) }
 {
-    find(maps, map_rows, entries, entry_rows, map, true, at)
+    find(maps, entries, map, Side::After, at)
 }
 
 // The packet to read from for a time: that of the entry at or before it; nothing in an empty map.
-pub fn seek_spn(
-    maps: &[u8],
-    map_rows: u32,
-    entries: &[u8],
-    entry_rows: u32,
-    map: u32,
-    at: Pts90,
-) -> Found
-    ensures { found_of result ≡ ask (seek_spn map (as_pts at)) (maps_and_entries (stated maps.now map_rows) (stated entries.now entry_rows)) }
+pub fn seek_spn(maps: Table, entries: Table, map: u32, at: Pts90) -> Found
+    ensures { found_of result ≡ ask (seek_spn map (as_pts at)) (maps_and_entries (stated maps.entry.bytes.now maps.entry.rows) (stated entries.entry.bytes.now entries.entry.rows)) }
 {
-    seek(maps, map_rows, entries, entry_rows, map, false, at)
+    seek(maps, entries, map, Side::AtOrBefore, at)
 }
 
 // The packet of the entry after a time, or nothing.
-pub fn next_seek_spn(
-    maps: &[u8],
-    map_rows: u32,
-    entries: &[u8],
-    entry_rows: u32,
-    map: u32,
-    at: Pts90,
-) -> Found
-    ensures { found_of result ≡ ask (next_seek_spn map (as_pts at)) (maps_and_entries (stated maps.now map_rows) (stated entries.now entry_rows)) }
+pub fn next_seek_spn(maps: Table, entries: Table, map: u32, at: Pts90) -> Found
+    ensures { found_of result ≡ ask (next_seek_spn map (as_pts at)) (maps_and_entries (stated maps.entry.bytes.now maps.entry.rows) (stated entries.entry.bytes.now entries.entry.rows)) }
 {
-    seek(maps, map_rows, entries, entry_rows, map, true, at)
+    seek(maps, entries, map, Side::After, at)
 }

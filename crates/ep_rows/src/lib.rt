@@ -60,7 +60,7 @@ pub fn coarse_row(word: u64) -> CoarseRow
 pub fn fine_row(word: u32) -> FineRow
     ensures { result ≡ fine_of (unpacked fine_widths word) }
 {
-    let wide = word as u64;
+    let wide = u64::from(word);
     FineRow {
         angle: take_bits(wide, 32, 1),
         i_end: take_bits(wide, 31, 3),
@@ -70,6 +70,7 @@ pub fn fine_row(word: u32) -> FineRow
 }
 
 // The 48 bits of a map header: the low bits of each value, as many as its field has, and spare bits 0.
+#[tactic(auto, unfolding(bits::specs::Words::with_bits))]
 pub fn map_header_word(h: MapHeader) -> u64
     ensures { result ≡ packed header_widths (low_bits header_widths (header_values h)) }
 {
@@ -80,6 +81,7 @@ pub fn map_header_word(h: MapHeader) -> u64
 }
 
 // The 64 bits of a coarse row.
+#[tactic(auto, unfolding(bits::specs::Words::with_bits))]
 pub fn coarse_row_word(c: CoarseRow) -> u64
     ensures { result ≡ packed coarse_widths (low_bits coarse_widths (coarse_values c)) }
 {
@@ -89,6 +91,7 @@ pub fn coarse_row_word(c: CoarseRow) -> u64
 }
 
 // The 32 bits of a fine row.
+#[tactic(auto, unfolding(bits::specs::Words::with_bits))]
 pub fn fine_row_word(f: FineRow) -> u32
     ensures { result ≡ packed fine_widths (low_bits fine_widths (fine_values f)) }
 {
@@ -99,11 +102,12 @@ pub fn fine_row_word(f: FineRow) -> u32
 }
 
 // The coarse time at bit 19 or the fine time at bit 9: bit 19 is shared.
+#[tactic(auto, unfolding(format::specs::EntryPoints::join_time))]
 pub fn entry_time(coarse: u32, fine: u32) -> u64
     requires { fine < 2 ^ 11 }
     ensures { result ≡ join_time coarse fine }
 {
-    ((coarse << 19) | (fine << 9)) as u64
+    u64::from((coarse << 19) | (fine << 9))
 }
 
 // The coarse packet with its 17 lowest bits replaced by the fine packet.

@@ -1,11 +1,10 @@
 -- Every question that C can ask, of two sets of tables: the calls are named one by one, and `Post` is what the call's `ensures` claims.
 -- `clpi_extension_entry` and `clpi_extension_data` are not among them: they ask about the extensions, and rewriting does not keep those.
 use Rattle.std.specs.Prelude.{ℕ, ◌≡◌}
-use Rattle.format.specs.Tables.{ClipTables}
+use Rattle.format.specs.Tables.{Table, ClipTables}
 use Rattle.clpi_answers.specs.Numbers.{seconds_numbers}
 use Rattle.clpi_answers.specs.declared.seconds.ClpiSeconds.{ClpiSeconds}
-use Rattle.query_theorems.specs.Calls.{Call, FromNumber}
-use Rattle.rewriting_theorems.specs.Asked.{OnTable, OnTables}
+use Rattle.query_theorems.specs.Calls.{Call, WithParts, table_of_parts, behind_parts, FromNumber}
 use Rattle.clpi.proofs.sequences.clpi_first_stc_sequence.Reads as clpi_first_stc_sequence
 use Rattle.clpi.proofs.sequences.clpi_duration_45k.Reads as clpi_duration_45k
 use Rattle.clpi.proofs.sequences.clpi_duration_90k.Reads as clpi_duration_90k
@@ -37,6 +36,20 @@ use Rattle.clpi.proofs.maps.clpi_next_video_ep_map.Reads as clpi_next_video_ep_m
 use Rattle.clpi.proofs.maps.clpi_primary_video_ep_map.Reads as clpi_primary_video_ep_map
 use Rattle.clpi.proofs.maps.clpi_primary_seek_spn.Reads as clpi_primary_seek_spn
 use Rattle.clpi.proofs.maps.clpi_primary_next_seek_spn.Reads as clpi_primary_next_seek_spn
+
+-- a call on the table s and a call on the table t: if the other arguments are equal, so are the results
+abbrev pub OnTable : {L Others R : Type 0} {E : L → Type 0} (Post : (κs : L) → WithParts Others → R → E κs → Type 0) (s t : Table) → Type 0
+OnTable Post s t =
+    (x y : Call Post) → table_of_parts x.arguments ≡ s → table_of_parts y.arguments ≡ t
+    → behind_parts x.arguments ≡ behind_parts y.arguments → x.result ≡ y.result
+
+-- the same with two tables
+abbrev pub OnTables : {L Others R : Type 0} {E : L → Type 0} (Post : (κs : L) → WithParts (WithParts Others) → R → E κs → Type 0)
+    (s₁ t₁ s₂ t₂ : Table) → Type 0
+OnTables Post s₁ t₁ s₂ t₂ =
+    (x y : Call Post) → table_of_parts x.arguments ≡ s₁ → table_of_parts y.arguments ≡ t₁
+    → table_of_parts (behind_parts x.arguments) ≡ s₂ → table_of_parts (behind_parts y.arguments) ≡ t₂
+    → behind_parts (behind_parts x.arguments) ≡ behind_parts (behind_parts y.arguments) → x.result ≡ y.result
 
 -- two calls on a rate and a packet count: if these are equal, so are the numbers of the results, with the seconds by their bits
 abbrev pub SameSeconds : {L : Type 0} {E : L → Type 0} (Post : (κs : L) → ℕ × (ℕ × Unit {0}) → ClpiSeconds → E κs → Type 0) (rate₁ rate₂ packets₁ packets₂ : ℕ) → Type 0

@@ -3,7 +3,7 @@ use Prim.Native.Nat.{ℕ, ◌+◌, ◌*◌, ◌-◌, ◌<◌, ◌≤◌, min}
 use mathlib.Core.Path.{◌≡◌, refl, sym, ap, ◌∙◌}
 use mathlib.Core.List.{List, [], ◌∷◌, ◌++◌, append-nil}
 use mathlib.Core.Bool.{Bool, true, false, not}
-use native.Mathlib.Nat.{sub-zero}
+use native.Mathlib.Nat.{add-zero, sub-zero}
 use native.Mathlib.Omega.{arith}
 use lib.ListN.{length, length-append}
 use lib.Seq.{sets}
@@ -19,13 +19,13 @@ use Rattle.format.proofs.Stores.{be_below}
 use Rattle.format.proofs.Rows.{gather_all}
 use Rattle.format.proofs.Loops.{one_left, none_left, sets_front}
 use Rattle.format.proofs.Sweep.{row_bytes_lem, HaveCells, table_bytes_lem, Filling, filled, group_room, group_put}
+use Rattle.std.specs.Prelude.{Option, Some, None}
+use Rattle.std.specs.Option.{option_or}
 use Rattle.numbers.specs.Reads.{ReadIs}
-use Rattle.extension.specs.Block.{block_head, Block, InBlock, rows_in, extensions_in, entry_rows_of, entry_end, EntryIs, entry_list, or_list, found_in, list_end, MeasuredIs, PutIs}
+use Rattle.extension.specs.Block.{block_head, Block, InBlock, rows_in, extensions_in, entry_rows_of, entry_end, EntryIs, entry_list, found_in, list_end, MeasuredIs, PutIs}
 use Rattle.extension.specs.declared.BlockHead.{BlockHead}
 use Rattle.extension.specs.declared.ExtensionDataEntry.{ExtensionDataEntry}
-use Rattle.extension.specs.declared.ExtensionDataEntry.TheVariants.{Kept, LeftOut}
 use Rattle.extension.specs.declared.ListData.{ListData}
-use Rattle.extension.specs.declared.ListData.TheVariants.{At, Absent}
 use Rattle.extension.specs.declared.MeasuredBlock.{MeasuredBlock}
 
 -- ---- the head
@@ -49,29 +49,29 @@ module _ (f : List ℕ) (start : ℕ) where
   whole = leb (start + 12 + 12 * extension_count f start) (length f)
 
   -- a test of the block that fails leaves no entries
-  empty : has_extensions f start ≡ false → BlockHead.Empty ≡ block_head f start
+  empty : has_extensions f start ≡ false → None ≡ block_head f start
   unfolding block_head
   empty h = rw h
 
   -- no block starts at 0
-  pub at_zero : start ≡ 0 → BlockHead.Empty ≡ block_head f start
+  pub at_zero : start ≡ 0 → None ≡ block_head f start
   at_zero h = empty (left_fails (both long whole) (left_fails before (ap not (eq-eqb start 0 h))))
 
   -- nor at or past the end
-  pub at_end : length f ≤ start → BlockHead.Empty ≡ block_head f start
+  pub at_end : length f ≤ start → None ≡ block_head f start
   at_end h = empty (left_fails (both long whole) (right_fails some (le-ltb start (length f) h)))
 
   -- a block of length 0 has no entries
-  pub no_length : {v : ℕ} → v ≡ block_length f start → v ≡ 0 → BlockHead.Empty ≡ block_head f start
+  pub no_length : {v : ℕ} → v ≡ block_length f start → v ≡ 0 → None ≡ block_head f start
   no_length e h = empty (right_fails (both some before) (left_fails whole (ap not (eq-eqb (block_length f start) 0 (sym e ∙ h)))))
 
   -- nor has one whose entries pass the end
-  pub too_short_lem : length f < start + 12 + 12 * extension_count f start → BlockHead.Empty ≡ block_head f start
+  pub too_short_lem : length f < start + 12 + 12 * extension_count f start → None ≡ block_head f start
   too_short_lem h = empty (right_fails (both some before) (right_fails long (lt-leb (start + 12 + 12 * extension_count f start) (length f) h)))
 
   -- else there are entries
   pub entries : {v n end : ℕ} → (start ≡ 0 → ⊥) → start < length f → v ≡ block_length f start → (v ≡ 0 → ⊥) → n ≡ extension_count f start
-      → start + 12 + 12 * n ≤ length f → end ≡ min (start + 4 + v) (length f) → BlockHead.Entries n end ≡ block_head f start
+      → start + 12 + 12 * n ≤ length f → end ≡ min (start + 4 + v) (length f) → Some (record { n = n; end = end }) ≡ block_head f start
   unfolding block_head
   entries {v} {n} {end} not_zero inside length_is not-empty n-is room stop =
       let bl : eqb (block_length f start) 0 ≡ false = ne_eqb (block_length f start) 0 (λ h. not-empty (length_is ∙ h)) in
@@ -79,7 +79,7 @@ module _ (f : List ℕ) (start : ℕ) where
       rw (ne_eqb start 0 not_zero, lt-ltb start (length f) inside, bl, all, stop, n-is, length_is)
 
   -- the rows of a block with no entries
-  pub no_rows : BlockHead.Empty ≡ block_head f start → extension_rows f start ≡ []
+  pub no_rows : None ≡ block_head f start → extension_rows f start ≡ []
   unfolding block_head extension_rows
   no_rows e = by_test (has_extensions f start) refl
     where
@@ -88,27 +88,31 @@ module _ (f : List ℕ) (start : ℕ) where
       by_test false h = rw h
 
   -- what a head with entries says
-  record Has (n end : ℕ) : Type 0 where
+  record Has (head : BlockHead) : Type 0 where
     is : has_extensions f start ≡ true
-    count : n ≡ extension_count f start
-    stop : end ≡ min (block_end f start) (length f)
+    count : head.n ≡ extension_count f start
+    stop : head.end ≡ min (block_end f start) (length f)
 
   -- it says so
-  has : {n end : ℕ} → BlockHead.Entries n end ≡ block_head f start → Has n end
+  has : {head : BlockHead} → Some head ≡ block_head f start → Has head
   unfolding block_head
-  has {n} {end} e = by_test (has_extensions f start) refl
+  has {head} e = by_test (has_extensions f start) refl
     where
-      by_test : (t : Bool) → has_extensions f start ≡ t → Has n end
-      by_test true h = let is = rw h at e in record { is = h; count = cc; stop = cc }
+      by_test : (t : Bool) → has_extensions f start ≡ t → Has head
+      by_test true h =
+          let is = rw h at e in
+          let read : BlockHead = record { n = extension_count f start; end = min (block_end f start) (length f) } in
+          let same : head ≡ read = cc in
+          record { is = h; count = ap (λ (x : BlockHead). x.n) same; stop = ap (λ (x : BlockHead). x.end) same }
       by_test false h = let is = rw h at e in let z : ◌≡◌ {A = ℕ} 0 1 = cc in absurd (omega arith)
 
   -- its rows are those of the n entries
-  pub rows_are : {n end : ℕ} → BlockHead.Entries n end ≡ block_head f start → extension_rows f start ≡ rows_in f start n
+  pub rows_are : {head : BlockHead} → Some head ≡ block_head f start → extension_rows f start ≡ rows_in f start head.n
   unfolding extension_rows
   rows_are e = let h = has e in rw (h.is, h.count)
 
   -- what the passes over the entries rely on holds
-  pub block : {n end : ℕ} → IsBytes f → length f ≤ 536870912 → BlockHead.Entries n end ≡ block_head f start → Block f start n end
+  pub block : {head : BlockHead} → IsBytes f → length f ≤ 536870912 → Some head ≡ block_head f start → Block f start head.n head.end
   block bytes small e =
       let h = has e in
       let t = (both_true {a = long} (both_true {a = both some before} h.is).1).1 in
@@ -119,11 +123,11 @@ module _ (f : List ℕ) (start : ℕ) where
 
 module _ (f : List ℕ) (start p : ℕ) where
   -- an entry that the rule does not keep gives no row
-  left_out : is_kept f start p ≡ false → EntryIs f start p LeftOut
+  left_out : is_kept f start p ≡ false → EntryIs f start p None
   left_out h = record { rows = rw h; inside = omega arith }
 
   -- an address of 0 is left out
-  pub no_address : {addr : ℕ} → ReadIs f (p + 4) 4 addr → addr ≡ 0 → EntryIs f start p LeftOut
+  pub no_address : {addr : ℕ} → ReadIs f (p + 4) 4 addr → addr ≡ 0 → EntryIs f start p None
   no_address r h =
       left_out
       (left_fails (leb (start + address_at f p + data_length_at f p) (min (block_end f start) (length f)))
@@ -135,7 +139,7 @@ module _ (f : List ℕ) (start p : ℕ) where
     end_is = rw (a.same, l.same)
 
     -- so is data that passes the end
-    pub data_past : end < start + addr + len → EntryIs f start p LeftOut
+    pub data_past : end < start + addr + len → EntryIs f start p None
     data_past h =
         left_out
         (right_fails (not (eqb (address_at f p) 0))
@@ -143,7 +147,7 @@ module _ (f : List ℕ) (start p : ℕ) where
 
     -- other data is kept
     pub data_kept : {id1 id2 : ℕ} → (addr ≡ 0 → ⊥) → start + addr + len ≤ end → ReadIs f p 2 id1 → ReadIs f (p + 2) 2 id2
-        → EntryIs f start p (Kept id1 id2 (start + addr) len)
+        → EntryIs f start p (Some (record { id1 = id1; id2 = id2; start = start + addr; len = len }))
     data_kept some h i j =
         let fits : leb (start + address_at f p + data_length_at f p) (min (block_end f start) (length f)) ≡ true =
         le-leb (start + address_at f p + data_length_at f p) (min (block_end f start) (length f)) (omega (arith, end_is, b.stop)) in
@@ -166,69 +170,58 @@ or_nothing : (x : Found) → or_found x nothing ≡ x
 or_nothing nothing = refl
 or_nothing (found d) = refl
 
+-- nothing behind a list leaves it
+or_none : (x : Option ListData) → x ≡ option_or x None
+or_none None = refl
+or_none (Some list) = refl
+
 -- an entry before the rows that are left
-listed_first : (f : List ℕ) (list : ListData) (e : ExtensionDataEntry) (rest : List Row)
-    → or_found (found_in f (or_list list (entry_list e))) (list_from f rest) ≡ or_found (found_in f list) (list_from f (entry_rows_of e ++ rest))
+listed_first : (f : List ℕ) (list : Option ListData) (e : Option ExtensionDataEntry) (rest : List Row)
+    → or_found (found_in f (option_or list (entry_list e))) (list_from f rest) ≡ or_found (found_in f list) (list_from f (entry_rows_of e ++ rest))
 unfolding list_data
-listed_first f (At start len) e rest = refl
-listed_first f Absent LeftOut rest = refl
-listed_first f Absent (Kept id1 id2 start len) rest =
-    ap_pick (λ (l : ListData). or_found (found_in f l) (list_from f rest)) (both (eqb id1 2) (eqb id2 5)) (At start len) Absent
+listed_first f (Some l) e rest = refl
+listed_first f None None rest = refl
+listed_first f None (Some e) rest =
+    ap_pick (λ (l : Option ListData). or_found (found_in f l) (list_from f rest)) (both (eqb e.id1 2) (eqb e.id2 5)) (Some (record { start = e.start; len = e.len })) None
 
 -- the place lies inside the file, as each entry's data does
-listed_inside : (f : List ℕ) (list : ListData) (e : ExtensionDataEntry) → list_end list ≤ length f → entry_end e ≤ length f
-    → list_end (or_list list (entry_list e)) ≤ length f
-listed_inside f (At start len) e h k = h
-listed_inside f Absent LeftOut h k = h
-listed_inside f Absent (Kept id1 id2 start len) h k = by_test (both (eqb id1 2) (eqb id2 5))
+listed_inside : (f : List ℕ) (list : Option ListData) (e : Option ExtensionDataEntry) → list_end list ≤ length f → entry_end e ≤ length f
+    → list_end (option_or list (entry_list e)) ≤ length f
+listed_inside f (Some l) e h k = h
+listed_inside f None None h k = h
+listed_inside f None (Some e) h k = by_test (both (eqb e.id1 2) (eqb e.id2 5))
   where
-    by_test : (t : Bool) → list_end (pick t (At start len) Absent) ≤ length f
+    by_test : (t : Bool) → list_end (pick t (Some (record { start = e.start; len = e.len })) None) ≤ length f
     by_test true = k
     by_test false = h
-
--- the first id is not the list's
-pub first_id_lem : (list : ListData) (e : ExtensionDataEntry) {id1 id2 start len : ℕ} → list ≡ Absent → e ≡ Kept id1 id2 start len → (id1 ≡ 2 → ⊥)
-    → Absent ≡ or_list list (entry_list e)
-first_id_lem list e {id1} absent is h = rw (absent, is, ne_eqb id1 2 h)
-
--- the first is the list's and the second is not
-pub second_id_lem : (list : ListData) (e : ExtensionDataEntry) {id1 id2 start len : ℕ} → list ≡ Absent → e ≡ Kept id1 id2 start len → id1 ≡ 2 → (id2 ≡ 5 → ⊥)
-    → Absent ≡ or_list list (entry_list e)
-second_id_lem list e {id1} {id2} absent is h k = rw (absent, is, eq-eqb id1 2 h, ne_eqb id2 5 k)
-
--- both are the list's
-pub both_ids : (list : ListData) (e : ExtensionDataEntry) {id1 id2 start len : ℕ} → list ≡ Absent → e ≡ Kept id1 id2 start len → id1 ≡ 2 → id2 ≡ 5
-    → At start len ≡ or_list list (entry_list e)
-both_ids list e {id1} {id2} absent is h k = rw (absent, is, eq-eqb id1 2 h, eq-eqb id2 5 k)
 
 -- ---- the passes over n entries
 
 -- an entry gives at most one row
-pub one_row : (e : ExtensionDataEntry) → length (entry_rows_of e) ≤ 1
-one_row LeftOut = omega arith
-one_row (Kept id1 id2 start len) = omega arith
+pub one_row : (e : Option ExtensionDataEntry) → length (entry_rows_of e) ≤ 1
+one_row None = omega arith
+one_row (Some e) = omega arith
 
 -- what an entry stores: nothing where it is left out
-pub none_put : (e : ExtensionDataEntry) (at : ℕ) (t : List ℕ) → e ≡ LeftOut
-    → PutIs (entry_rows_of e) at t t at
-none_put e at t is = record { next = rw is (omega arith); stored = rw is }
+pub none_put : (at : ℕ) (t : List ℕ) → PutIs (entry_rows_of None) at t t at
+none_put at t = record { next = omega arith; stored = refl }
 
 -- else one row
-module _ (e : ExtensionDataEntry) {id1 id2 start len : ℕ} (is : e ≡ Kept id1 id2 start len) where
+module _ (e : ExtensionDataEntry) where
   -- its bytes
   abbrev row : List ℕ
-  row = row_bytes_of (id1 ∷ id2 ∷ start ∷ len ∷ [])
+  row = row_bytes_of (e.id1 ∷ e.id2 ∷ e.start ∷ e.len ∷ [])
 
   -- they are all that it stores
-  entry_bytes : table_bytes (entry_rows_of e) ≡ row
-  entry_bytes = rw is (append-nil row)
+  entry_bytes : table_bytes (entry_rows_of (Some e)) ≡ row
+  entry_bytes = append-nil row
 
   -- how many they are
-  pub entry_size_lem : length (table_bytes (entry_rows_of e)) ≡ 16
-  entry_size_lem = rw entry_bytes (row_bytes_lem (id1 ∷ id2 ∷ start ∷ len ∷ []))
+  pub entry_size_lem : length (table_bytes (entry_rows_of (Some e))) ≡ 16
+  entry_size_lem = rw entry_bytes (row_bytes_lem (e.id1 ∷ e.id2 ∷ e.start ∷ e.len ∷ []))
 
   -- they are stored
-  pub one_put : (at : ℕ) (t : List ℕ) {t' : List ℕ} → t' ≡ sets t at row → PutIs (entry_rows_of e) at t t' (at + 16)
+  pub one_put : (at : ℕ) (t : List ℕ) {t' : List ℕ} → t' ≡ sets t at row → PutIs (entry_rows_of (Some e)) at t t' (at + 16)
   one_put at t h = record { next = rw entry_size_lem; stored = rw entry_bytes h }
 
 module _ (f : List ℕ) (start n : ℕ) where
@@ -237,19 +230,17 @@ module _ (f : List ℕ) (start n : ℕ) where
   left p k = gather (kept_at f start) next_extension p (n - k)
 
   -- of the measuring pass: what is counted and found, with what is left, is the whole
-  pub record Counted (p k rows : ℕ) (list : ListData) : Type 0 where
+  pub record Counted (p k rows : ℕ) (list : Option ListData) : Type 0 where
     pub turns : k ≤ n
-    pub place : p ≡ start + 12 + 12 * k
     pub few : rows ≤ k
     pub inside : list_end list ≤ length f
     pub count : rows + length (left p k) ≡ length (rows_in f start n)
     pub first : or_found (found_in f list) (list_from f (left p k)) ≡ list_from f (rows_in f start n)
 
   -- before the first turn
-  pub none_counted : Counted (start + 12) 0 0 Absent
+  pub none_counted : Counted (start + 12) 0 0 None
   none_counted = record {
     turns = omega arith;
-    place = omega arith;
     few = omega arith;
     inside = omega arith;
     count = rw sub-zero (omega arith);
@@ -257,22 +248,30 @@ module _ (f : List ℕ) (start n : ℕ) where
   }
 
   -- a turn
-  pub one_counted : {p k rows : ℕ} {list : ListData} (e : ExtensionDataEntry) {more : ℕ} {list' : ListData} → k < n → EntryIs f start p e
-      → more ≡ length (entry_rows_of e) → list' ≡ or_list list (entry_list e) → Counted p k rows list → Counted (p + 12) (k + 1) (rows + more) list'
+  one_counted : {p k rows : ℕ} {list : Option ListData} (e : Option ExtensionDataEntry) {more : ℕ} {list' : Option ListData} → k < n → EntryIs f start p e
+      → more ≡ length (entry_rows_of e) → list' ≡ option_or list (entry_list e) → Counted p k rows list → Counted (p + 12) (k + 1) (rows + more) list'
   one_counted {p} {k} {rows} {list} e {more} {list'} h is one two c =
       let rest = gather (kept_at f start) next_extension (p + 12) (n - (k + 1)) in
       let whole : left p k ≡ entry_rows_of e ++ rest = rw (one_left n k h, is.rows) in
       record {
         turns = omega arith;
-        place = omega (arith, c.place);
         few = omega (arith, c.few, one_row e);
         inside = rw two (listed_inside f list e c.inside is.inside);
         count = omega (arith, rw (whole, length-append) at c.count);
         first = rw two (listed_first f list e rest ∙ rw whole at c.first);
       }
 
+  -- a turn over an entry that is kept
+  pub kept_counted : {p k rows : ℕ} {list : Option ListData} (e : ExtensionDataEntry) {list' : Option ListData} → k < n → EntryIs f start p (Some e)
+      → list' ≡ option_or list (entry_list (Some e)) → Counted p k rows list → Counted (p + 12) (k + 1) (rows + 1) list'
+  kept_counted e h is two c = one_counted (Some e) h is refl two c
+
+  -- a turn over one that is left out
+  pub left_counted : {p k rows : ℕ} {list : Option ListData} → k < n → EntryIs f start p None → Counted p k rows list → Counted (p + 12) (k + 1) rows list
+  left_counted {rows = rows} {list = list} h is c = rw (add-zero rows) at (one_counted None h is refl (or_none list) c)
+
   -- after the last turn
-  pub all_counted : {p k rows : ℕ} {list : ListData} → n ≤ k → n ≤ 255 → Counted p k rows list
+  pub all_counted : {p k rows : ℕ} {list : Option ListData} → n ≤ k → n ≤ 255 → Counted p k rows list
       → MeasuredIs f (rows_in f start n) (extensions_in f (rows_in f start n)) (record { rows = rows; list = list })
   unfolding list_data
   all_counted {p} {k} {rows} {list} h small c =
@@ -287,18 +286,16 @@ module _ (f : List ℕ) (start n : ℕ) where
   -- of the storing pass: where it stands, and the table while it is filled
   pub record Stored (p k at : ℕ) (t₀ t : List ℕ) : Type 0 where
     pub turns : k ≤ n
-    pub place : p ≡ start + 12 + 12 * k
     pub fills : Filling (gather (kept_at f start) next_extension) t₀ (sets t₀ 0 (table_bytes (rows_in f start n))) t at p n k
 
   -- before the first turn
   pub none_stored : (t : List ℕ) → length (table_bytes (rows_in f start n)) ≤ length t → Stored (start + 12) 0 0 t t
   none_stored t h = record {
     turns = omega arith;
-    place = omega arith;
     fills = record { long = refl; room = rw sub-zero (omega arith); rest = rw sub-zero };
   }
 
-  module _ {p k at : ℕ} {t₀ t : List ℕ} (e : ExtensionDataEntry) (h : k < n) (is : EntryIs f start p e) (c : Stored p k at t₀ t) where
+  module _ {p k at : ℕ} {t₀ t : List ℕ} (e : Option ExtensionDataEntry) (h : k < n) (is : EntryIs f start p e) (c : Stored p k at t₀ t) where
     -- the entry's bytes are those of the item that comes next
     size : length (table_bytes (kept_at f start p)) ≡ length (table_bytes (entry_rows_of e))
     size = ap (λ (rows : List Row). length (table_bytes rows)) (sym is.rows)
@@ -311,7 +308,6 @@ module _ (f : List ℕ) (start n : ℕ) where
     pub one_stored : {at' : ℕ} {t' : List ℕ} → PutIs (entry_rows_of e) at t t' at' → Stored (p + 12) (k + 1) at' t₀ t'
     one_stored put = record {
       turns = omega arith;
-      place = omega (arith, c.place);
       fills = rw put.next (group_put (kept_at f start) next_extension c.fills h size (rw is.rows at put.stored) refl);
     }
 
@@ -324,7 +320,7 @@ module _ (f : List ℕ) (start n : ℕ) where
 module _ (f : List ℕ) (start : ℕ) where
   -- no rows
   pub nothing_measured : extension_rows f start ≡ []
-      → MeasuredIs f (extension_rows f start) (extensions_from f start) (record { rows = 0; list = Absent })
+      → MeasuredIs f (extension_rows f start) (extensions_from f start) (record { rows = 0; list = None })
   unfolding extensions_from list_data
   nothing_measured is = record { rows = rw is; few = omega arith; list = rw is; inside = omega arith }
 

@@ -1,5 +1,5 @@
 -- What the passes over an extension block answer.
-use Rattle.std.specs.Prelude.{ℕ, ◌+◌, ◌*◌, ◌≤◌, min, ◌≡◌, List, [], ◌∷◌, map, length, eqb}
+use Rattle.std.specs.Prelude.{ℕ, ◌+◌, ◌*◌, ◌≤◌, min, ◌≡◌, List, [], ◌∷◌, map, length, eqb, Option, Some, None}
 use Rattle.std.proofs.lemmas.List.Edits.{sets}
 use Rattle.format.specs.Bytes.{part, both, pick, gather}
 use Rattle.format.specs.ClipRecord.{Row, Extension}
@@ -7,16 +7,14 @@ use Rattle.format.specs.Extensions.{block_end, extension_count, next_extension, 
 use Rattle.format.specs.Tables.{table_bytes}
 use Rattle.extension.specs.declared.BlockHead.{BlockHead}
 use Rattle.extension.specs.declared.ExtensionDataEntry.{ExtensionDataEntry}
-use Rattle.extension.specs.declared.ExtensionDataEntry.TheVariants.{Kept, LeftOut}
 use Rattle.extension.specs.declared.ListData.{ListData}
-use Rattle.extension.specs.declared.ListData.TheVariants.{At, Absent}
 use Rattle.extension.specs.declared.MeasuredBlock.{MeasuredBlock}
 
 -- ---- the head
 
 -- the number of entries and the smaller of block end and file end, where there are entries
-unfoldable pub block_head : List ℕ → ℕ → BlockHead
-block_head f start = pick (has_extensions f start) (BlockHead.Entries (extension_count f start) (min (block_end f start) (length f))) BlockHead.Empty
+unfoldable pub block_head : List ℕ → ℕ → Option BlockHead
+block_head f start = pick (has_extensions f start) (Some (record { n = extension_count f start; end = min (block_end f start) (length f) })) None
 
 -- what the passes over the entries rely on
 pub record Block (f : List ℕ) (start n end : ℕ) : Type 0 where
@@ -43,41 +41,36 @@ extensions_in f rows = map (extension_of f) rows
 -- ---- one entry
 
 -- the rows that it gives: one where it is kept
-abbrev pub entry_rows_of : ExtensionDataEntry → List Row
-entry_rows_of (Kept id1 id2 start len) = (id1 ∷ id2 ∷ start ∷ len ∷ []) ∷ []
-entry_rows_of LeftOut = []
+abbrev pub entry_rows_of : Option ExtensionDataEntry → List Row
+entry_rows_of (Some e) = (e.id1 ∷ e.id2 ∷ e.start ∷ e.len ∷ []) ∷ []
+entry_rows_of None = []
 
 -- where its data ends
-abbrev pub entry_end : ExtensionDataEntry → ℕ
-entry_end (Kept id1 id2 start len) = start + len
-entry_end LeftOut = 0
+abbrev pub entry_end : Option ExtensionDataEntry → ℕ
+entry_end (Some e) = e.start + e.len
+entry_end None = 0
 
 -- the entry at p
-pub record EntryIs (f : List ℕ) (start p : ℕ) (r : ExtensionDataEntry) : Type 0 where
+pub record EntryIs (f : List ℕ) (start p : ℕ) (r : Option ExtensionDataEntry) : Type 0 where
   pub rows : entry_rows_of r ≡ kept_at f start p
   pub inside : entry_end r ≤ length f
 
 -- ---- the list
 
 -- the place of its data where it has the list's ids
-abbrev pub entry_list : ExtensionDataEntry → ListData
-entry_list (Kept id1 id2 start len) = pick (both (eqb id1 2) (eqb id2 5)) (At start len) Absent
-entry_list LeftOut = Absent
+abbrev pub entry_list : Option ExtensionDataEntry → Option ListData
+entry_list (Some e) = pick (both (eqb e.id1 2) (eqb e.id2 5)) (Some (record { start = e.start; len = e.len })) None
+entry_list None = None
 
--- the first of two places
-abbrev pub or_list : ListData → ListData → ListData
-or_list (At start len) later = At start len
-or_list Absent later = later
-
--- the bytes that stand there
-abbrev pub found_in : List ℕ → ListData → Found
-found_in f (At start len) = found (part f start len)
-found_in f Absent = nothing
+-- the bytes that stand at the place of a list
+abbrev pub found_in : List ℕ → Option ListData → Found
+found_in f (Some list) = found (part f list.start list.len)
+found_in f None = nothing
 
 -- where they end
-abbrev pub list_end : ListData → ℕ
-list_end (At start len) = start + len
-list_end Absent = 0
+abbrev pub list_end : Option ListData → ℕ
+list_end (Some list) = list.start + list.len
+list_end None = 0
 
 -- ---- the measuring pass
 

@@ -10,29 +10,32 @@ use lib.Dec.{ltb, lit<}
 use borrow.Author.Tests.{le-leb, lt-leb, lt-ltb, le-ltb}
 use Rattle.format.specs.Bytes.{unless}
 use Rattle.format.specs.Extensions.{data_in, data_start, data_length}
-use Rattle.format.specs.Tables.{row_room, Table, is_stated, extension_cells}
+use Rattle.format.specs.Tables.{Table, is_stated, extension_cells}
 use Rattle.format.specs.Refusals.{extension_row, data_refusal, data_asked}
 use Rattle.format.proofs.Cell.{cell_of}
 use Rattle.cells.specs.Reads.{CellIs}
+use Rattle.std.proofs.Common.{Ok, Err}
+use Rattle.refusals.specs.declared.Refusal.{Refusal}
+use Rattle.refusals.specs.Numbers.{number_of}
 use Rattle.extension_entry.specs.Part.{part_of, PartIs}
 use Rattle.extension_entry.specs.declared.Part.{Part}
 
 module _ (f : List ℕ) (t : Table) (k : ℕ) where
   -- 22 is no place
-  refused : data_refusal f t k ≡ 22 → PartIs f t k Part.Refused
+  refused : data_refusal f t k ≡ 22 → PartIs f t k (Err Refusal.Rows)
   unfolding part_of
   refused h = record { same = rw h; inside = omega arith }
 
   -- more rows are stated than lent
-  pub not_stated : row_room extension_cells t.bytes < t.rows → PartIs f t k Part.Refused
+  pub not_stated : is_stated extension_cells t ≡ false → PartIs f t k (Err Refusal.Rows)
   unfolding data_refusal
-  not_stated h = refused (rw (lt-leb t.rows (row_room extension_cells t.bytes) h))
+  not_stated h = refused (rw h)
 
-  module _ (stated : t.rows ≤ row_room extension_cells t.bytes) where
+  module _ (stated : is_stated extension_cells t ≡ true) where
     -- the row is not one of them
-    pub no_row : t.rows ≤ k → PartIs f t k Part.Refused
+    pub no_row : t.rows ≤ k → PartIs f t k (Err Refusal.Rows)
     unfolding data_refusal
-    no_row h = refused (rw (le-leb t.rows (row_room extension_cells t.bytes) stated, le-ltb k t.rows h))
+    no_row h = refused (rw (stated, le-ltb k t.rows h))
 
     module _ {start len : ℕ} (row : k < t.rows) (s : CellIs t.bytes (16 * k + 8) start) (l : CellIs t.bytes (16 * k + 12) len) where
       -- the two cells say where the data stands
@@ -44,23 +47,23 @@ module _ (f : List ℕ) (t : Table) (k : ℕ) where
       len_is = cell_of 4 t.bytes t.rows k 3 row (lit< tt) (omega arith) l.same
 
       -- its data passes the end
-      pub outside : length f < start + len → PartIs f t k Part.Refused
+      pub outside : length f < start + len → PartIs f t k (Err Refusal.Rows)
       unfolding data_refusal
       outside h =
           refused
           (rw (
-            le-leb t.rows (row_room extension_cells t.bytes) stated,
+            stated,
             lt-ltb k t.rows row,
             lt-leb (data_start (extension_row t k) + data_length (extension_row t k)) (length f) (rw (start_is, len_is) at h),
           ))
 
       -- its data lies inside
-      pub within : start + len ≤ length f → PartIs f t k (Part.At start len)
+      pub within : start + len ≤ length f → PartIs f t k (Ok (record { start = start; len = len }))
       unfolding data_refusal part_of
       within h = record {
         same =
             rw (
-              le-leb t.rows (row_room extension_cells t.bytes) stated,
+              stated,
               lt-ltb k t.rows row,
               le-leb (data_start (extension_row t k) + data_length (extension_row t k)) (length f) (rw (start_is, len_is) at h),
               start_is,
@@ -81,19 +84,19 @@ module _ (f : List ℕ) (t : Table) (k : ℕ) where
       by_tests true true true = inl refl
 
   -- what a place says of the call
-  pub given : {start len : ℕ} → Part.At start len ≡ part_of f t k → (0 ≡ data_refusal f t k) × (take len (drop start f) ≡ data_asked f t k)
+  pub given : {part : Part} → Ok part ≡ part_of f t k → (0 ≡ data_refusal f t k) × (take part.len (drop part.start f) ≡ data_asked f t k)
   unfolding part_of data_asked
   given e =
       ⊎_elim
       (λ h. let is = rw h at e in (sym h, rw h (cc)))
-      (λ h. let is = rw h at e in let z : ◌≡◌ {A = ℕ} 0 1 = cc in absurd (omega arith))
+      (λ h. let is = rw h at e in cc)
       two_ways
 
   -- and what a refusal says
-  pub not_given : Part.Refused ≡ part_of f t k → (22 ≡ data_refusal f t k) × ([] ≡ data_asked f t k)
+  pub not_given : {refusal : Refusal} → Err refusal ≡ part_of f t k → (number_of refusal ≡ data_refusal f t k) × ([] ≡ data_asked f t k)
   unfolding part_of data_asked
-  not_given e =
+  not_given {refusal} e =
       ⊎_elim
-      (λ h. let is = rw h at e in let z : ◌≡◌ {A = ℕ} 0 1 = cc in absurd (omega arith))
-      (λ h. (sym h, rw h))
+      (λ h. let is = rw h at e in cc)
+      (λ h. let is = rw h at e in let rows : refusal ≡ Refusal.Rows = cc in (rw (rows, h), rw h))
       two_ways

@@ -7,53 +7,54 @@ ghost use Rattle.format.specs.Tables.{stated};
 ghost use Rattle.extension_entry.specs.Part.{PartIs};
 
 use cells::cell_at;
+use refusals::Refusal;
+use table_rows::Table;
 
-// A row of table 7, in bytes.
+// The cells of a row of table 7 (two ids, where the data begins, its length), and its bytes.
+const EXTENSION: usize = 4;
+
 const ROW: usize = 16;
 
 // Where the data of a row stands in the file.
 #[derive(Clone, Copy)]
-pub enum Part {
-    At { start: usize, len: usize },
-    Refused,
+pub struct Part {
+    pub start: usize,
+    pub len: usize,
 }
 
 // Where the data of a row stands in the lent file, for a lent table 7, any rows stated to be in it and any row number.
-pub fn data_place(file: &[u8], table: &[u8], rows: u32, row: u32) -> Part
-    ensures { PartIs file.now (stated table.now rows) row result }
+pub fn data_place(file: &[u8], extensions: Table, row: u32) -> Result<Part, Refusal>
+    ensures { PartIs file.now (stated extensions.entry.bytes.now extensions.entry.rows) row result }
 {
-    if table.len() / ROW < (rows as usize) {
-        return Part::Refused;
-    }
-    if row >= rows {
-        return Part::Refused;
+    extensions.check(EXTENSION)?;
+    if row >= extensions.rows {
+        return Err(Refusal::Rows);
     }
     let at = ROW * (row as usize);
-    let start = cell_at(table, at + 8) as usize;
-    let len = cell_at(table, at + 12) as usize;
+    let start = cell_at(extensions.bytes, at + 8) as usize;
+    let len = cell_at(extensions.bytes, at + 12) as usize;
     if start + len > file.len() {
-        return Part::Refused;
+        return Err(Refusal::Rows);
     }
-    Part::At { start, len }
+    Ok(Part { start, len })
 }
 
-// 22 where the data of a row is refused, else 0.
-pub fn data_refusal(file: &[u8], table: &[u8], rows: u32, row: u32) -> u32
-    ensures { result ≡ data_refusal file.now (stated table.now rows) row }
+// The number of the refusal where the data of a row is refused, 22, else 0: a number, as the definition of this name is.
+pub fn data_refusal(file: &[u8], extensions: Table, row: u32) -> u32
+    ensures { result ≡ data_refusal file.now (stated extensions.entry.bytes.now extensions.entry.rows) row }
 {
-    if let Part::Refused = data_place(file, table, rows, row) {
-        return 22;
+    match data_place(file, extensions, row) {
+        Ok(_) => 0,
+        Err(refusal) => refusal.number(),
     }
-    0
 }
 
-// The data of a row, a part of the lent file itself; the empty part where it is refused, which `data_refusal` tells apart.
-pub fn data<'a>(file: &'a [u8], table: &[u8], rows: u32, row: u32) -> &'a [u8]
-    ensures { result.now ≡ data_asked file.now (stated table.now rows) row }
+// The data of a row, a part of the lent file itself, as document 01 wants it; the empty part where it is refused, which `data_refusal` tells apart.
+pub fn data<'a>(file: &'a [u8], extensions: Table, row: u32) -> &'a [u8]
+    ensures { result.now ≡ data_asked file.now (stated extensions.entry.bytes.now extensions.entry.rows) row }
 {
-    let Part::At { start, len } = data_place(file, table, rows, row) else {
+    let Ok(part) = data_place(file, extensions, row) else {
         return &file[0..0];
     };
-    let end = start + len;
-    &file[start..end]
+    &file[part.start..part.start + part.len]
 }

@@ -2,12 +2,11 @@
 use Prim.Native.Nat.{ℕ, ◌+◌, ◌*◌, ◌<◌, ◌≤◌}
 use mathlib.Core.Path.{◌≡◌, ◌∙◌}
 use mathlib.Core.List.{List}
-use mathlib.Core.Bool.{Bool, true, false, not}
+use mathlib.Core.Bool.{Bool, true, false}
 use native.Mathlib.Numerals.{add-one}
 use native.Mathlib.Omega.{arith}
 use lib.Dec.{eqb, lit<}
 use lib.ListN.{get_or}
-use borrow.Author.Tests.{eq-eqb, ne_eqb, not-true, not-false}
 use Rattle.format.specs.Bytes.{both}
 use Rattle.format.specs.Questions.{refused, none, number}
 use Rattle.format.specs.Tables.{is_stated, cells_at, table_rows_of, extension_cells, stated}
@@ -15,14 +14,6 @@ use Rattle.cells.specs.Reads.{CellIs}
 use Rattle.format.proofs.Cell.{row_cell}
 use Rattle.table_rows.proofs.Scans.{rows_left, left_all, left_turn, left_done}
 use Rattle.extension_queries.specs.ById.{entry_by_id, ask_entry}
-
--- the first id differs, or the second decides
-pub first_differs : (a b id1 id2 : ℕ) → (a ≡ id1 → ⊥) → false ≡ both (eqb a id1) (eqb b id2)
-first_differs a b id1 id2 h = rw (ne_eqb a id1 h)
-
--- where the first id is the same, the second decides
-pub first_same : (a b id1 id2 : ℕ) → a ≡ id1 → eqb b id2 ≡ both (eqb a id1) (eqb b id2)
-first_same a b id1 id2 h = rw (eq-eqb a id1 h)
 
 module _ (t : List ℕ) (n id1 id2 : ℕ) where
   -- what is found from row k on is what is found of all
@@ -34,14 +25,14 @@ module _ (t : List ℕ) (n id1 id2 : ℕ) where
   searched_all = rw (left_all extension_cells t n)
 
   -- rows that are not there
-  pub not_stated : {b : Bool} → b ≡ is_stated extension_cells (stated t n) → not b ≡ true → refused 22 ≡ ask_entry (stated t n) id1 id2
+  pub not_stated : is_stated extension_cells (stated t n) ≡ false → refused 22 ≡ ask_entry (stated t n) id1 id2
   unfolding ask_entry
-  not_stated {b} is h = rw (← is, not-true b h)
+  not_stated h = rw h
 
   -- rows that are
-  asked : {b : Bool} → b ≡ is_stated extension_cells (stated t n) → not b ≡ false → entry_by_id (table_rows_of extension_cells t n) id1 id2 0 ≡ ask_entry (stated t n) id1 id2
+  asked : is_stated extension_cells (stated t n) ≡ true → entry_by_id (table_rows_of extension_cells t n) id1 id2 0 ≡ ask_entry (stated t n) id1 id2
   unfolding ask_entry
-  asked {b} is there = rw (← is, not-false b there)
+  asked there = rw there
 
   module _ (k : ℕ) {a b : ℕ} {p : Bool} (h : k < n) (one : CellIs t (16 * k) a) (two : CellIs t (16 * k + 4) b) (is : p ≡ both (eqb a id1) (eqb b id2)) (i : Searched k) where
     -- the ids that were read are the row's
@@ -58,11 +49,11 @@ module _ (t : List ℕ) (n id1 id2 : ℕ) where
     row_fails f = rw add-one (rw (left_turn extension_cells t n k h, ← is_one, ← is_two, ← is, f, add-one) at i)
 
     -- a row with both ids is the first such, and the answer
-    pub row_is : p ≡ true → {s : Bool} → s ≡ is_stated extension_cells (stated t n) → not s ≡ false → number k ≡ ask_entry (stated t n) id1 id2
+    pub row_is : p ≡ true → is_stated extension_cells (stated t n) ≡ true → number k ≡ ask_entry (stated t n) id1 id2
     unfolding entry_by_id
-    row_is f st there = rw (left_turn extension_cells t n k h, ← is_one, ← is_two, ← is, f) at i ∙ asked st there
+    row_is f there = rw (left_turn extension_cells t n k h, ← is_one, ← is_two, ← is, f) at i ∙ asked there
 
   -- where the search passes the last row none has both ids
-  pub no_row : (k : ℕ) → n ≤ k → Searched k → {s : Bool} → s ≡ is_stated extension_cells (stated t n) → not s ≡ false → none ≡ ask_entry (stated t n) id1 id2
+  pub no_row : (k : ℕ) → n ≤ k → Searched k → is_stated extension_cells (stated t n) ≡ true → none ≡ ask_entry (stated t n) id1 id2
   unfolding entry_by_id
-  no_row k h i st there = rw (left_done extension_cells t n k h) at i ∙ asked st there
+  no_row k h i there = rw (left_done extension_cells t n k h) at i ∙ asked there

@@ -18,9 +18,10 @@ use Rattle.format.proofs.Places.{atc_head, up_atc, program_head, up_program}
 use Rattle.format.proofs.Rows.{rows_length, rows_all, gather_all}
 use Rattle.format.proofs.Sweep.{Along, along_first, along_turn, along_within, section_of, HaveCells, Filling, filling_front, table_bytes_lem, row_room_lem, row_put, group_room, group_put, filled}
 use Rattle.format.proofs.Tests.{picked, not_picked}
-use Rattle.section_heads.specs.declared.Section.{Section}
-use Rattle.info_sections.specs.Sections.{head_at, count_place, group_rows, own_cells, next_head, heads_from, section_rows, section_end, section_measured, GroupThere, Fillable}
+use Rattle.std.specs.Prelude.{Some, None}
 use Rattle.info_sections.specs.declared.SectionCounts.{SectionCounts}
+use Rattle.section_heads.specs.declared.Section.{Section}
+use Rattle.info_sections.specs.Sections.{head_at, count_place, group_rows, own_cells, next_head, heads_from, section_rows, section_end, counts_told, section_measured, GroupThere, Fillable}
 
 -- ---- one header row and its own rows
 
@@ -80,7 +81,7 @@ module _ (section : Section) (f : List ℕ) (start : ℕ) where
   ends_within h = le_trans (end_ge (next_head section f) (up_head section f) (start + 6) (be_at f (start + 5) 1)) (rw (end_is f start section) at h)
 
   -- its measure is that of any section of items
-  pub measured_as : section_of SectionCounts.Counts SectionCounts.PastEnd (head_at section f) (group_rows section f) (next_head section f) f start ≡ section_measured section f start
+  pub measured_as : section_of counts_told None (head_at section f) (group_rows section f) (next_head section f) f start ≡ section_measured section f start
   unfolding section_measured
   measured_as = rw (heads_are f start section, rows_are f start section, end_is f start section)
 
@@ -94,15 +95,21 @@ pub record CountsAre (section : Section) (f : List ℕ) (start heads rows : ℕ)
 
 module _ (section : Section) (f : List ℕ) (start : ℕ) where
   -- where the first pass answers counts, the section ends within the file and the counts are its own
-  pub counts_are : {heads rows : ℕ} → section_measured section f start ≡ SectionCounts.Counts heads rows → CountsAre section f start heads rows
+  pub counts_are : {counts : SectionCounts} → section_measured section f start ≡ Some counts → CountsAre section f start counts.heads counts.rows
   unfolding section_measured
-  counts_are e =
+  counts_are {counts} e =
       let t = picked (leb (section_end section f start) (length f)) (λ e. let z : ◌≡◌ {A = ℕ} 0 1 = cc in omega arith) e in
       let is = t.1 in
-      record { ends = leb-true (section_end section f start) (length f) t.0; heads_are = cc; rows_are = cc }
+      let there : SectionCounts = record { heads = length (heads_from section f start); rows = length (section_rows section f start) } in
+      let same : counts ≡ there = cc in
+      record {
+        ends = leb-true (section_end section f start) (length f) t.0;
+        heads_are = ap (λ (x : SectionCounts). x.heads) same;
+        rows_are = ap (λ (x : SectionCounts). x.rows) same;
+      }
 
   -- the section passes the file's end
-  pub past_end : section_measured section f start ≡ SectionCounts.PastEnd → leb (section_end section f start) (length f) ≡ false
+  pub past_end : section_measured section f start ≡ None → leb (section_end section f start) (length f) ≡ false
   unfolding section_measured
   past_end e = (not_picked (leb (section_end section f start) (length f)) (λ e. let z : ◌≡◌ {A = ℕ} 0 1 = cc in omega arith) e).0
 

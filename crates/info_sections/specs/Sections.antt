@@ -1,5 +1,5 @@
 -- The two sections of header rows with rows behind them, read: their rows by the kind of section, the counts of both, and what filling asks.
-use Rattle.std.specs.Prelude.{ℕ, ◌+◌, ◌*◌, ◌≤◌, ◌≡◌, List, length, leb}
+use Rattle.std.specs.Prelude.{ℕ, ◌+◌, ◌*◌, ◌≤◌, ◌≡◌, List, length, leb, Option, Some, None}
 use Rattle.format.specs.Bytes.{pick, be_at}
 use Rattle.format.specs.ClipRecord.{Row, atc_at, stcs_of, next_atc, atcs_from, stcs_from, sequences_end}
 use Rattle.format.specs.Programs.{program_at, streams_of, next_program, programs_from, streams_from, programs_end}
@@ -51,12 +51,16 @@ abbrev pub section_end : Section → List ℕ → ℕ → ℕ
 section_end Section.Sequences f start = sequences_end f start
 section_end Section.Programs f start = programs_end f start
 
+-- the counts of both, told
+abbrev pub counts_told : (heads rows : ℕ) → Option SectionCounts
+counts_told heads rows = Some (record { heads = heads; rows = rows })
+
 -- how many of both it has, where it ends within the file
-unfoldable pub section_measured : Section → List ℕ → ℕ → SectionCounts
+unfoldable pub section_measured : Section → List ℕ → ℕ → Option SectionCounts
 section_measured section f start =
     pick (leb (section_end section f start) (length f))
-    (SectionCounts.Counts (length (heads_from section f start)) (length (section_rows section f start)))
-    SectionCounts.PastEnd
+    (counts_told (length (heads_from section f start)) (length (section_rows section f start)))
+    None
 
 -- ---- what is asked
 

@@ -8,21 +8,21 @@ ghost use Rattle.numbers.specs.Reads.{ReadIs};
 ghost use Rattle.common.specs.Reader.{moved_to};
 ghost use Rattle.info_sections.specs.Sections.{head_at, count_place, group_rows, own_cells, next_head, heads_from, section_rows, section_measured, GroupThere, Fillable};
 
-use common::reader::{Moved, Number, Reader, read_count};
+use common::reader::{Reader, read_count};
 use numbers::u8_at;
 use program_info::{put_program, put_streams, skip_program};
 use section_heads::Section;
 use sequence_info::{put_atc, put_stcs, skip_atc};
 
-// How many header rows the section has and how many rows behind them, or that it passes the file's end.
+// How many header rows a section has and how many rows behind them.
 #[derive(Clone, Copy)]
-pub enum SectionCounts {
-    Counts { heads: usize, rows: usize },
-    PastEnd,
+pub struct SectionCounts {
+    pub heads: usize,
+    pub rows: usize,
 }
 
-// Past the header row at the reader and its own rows.
-fn skip_group(section: Section, file: &[u8], r: Reader) -> Moved
+// Past the header row at the reader and its own rows. The kind of section is a value: the contracts tell both kinds apart by it, and so do the crates that write sections.
+fn skip_group(section: Section, file: &[u8], r: Reader) -> Option<Reader>
     ensures { result ≡ moved_to file.now (next_head section file.now r.pos) }
 {
     match section {
@@ -52,26 +52,20 @@ fn row_size(section: Section) -> usize
     }
 }
 
-// Pass 1: the section's counts, for every file and every start.
-pub fn measure(section: Section, file: &[u8], start: usize) -> SectionCounts
+// Pass 1: the section's counts, for every file and every start; none where the section passes the file's end.
+pub fn measure(section: Section, file: &[u8], start: usize) -> Option<SectionCounts>
     ensures { result ≡ section_measured section file.now start }
 {
-    let Number::Read(count, first) = read_count(file, Reader { pos: start }, 5) else {
-        return SectionCounts::PastEnd;
-    };
+    let (count, first) = read_count(file, Reader { pos: start }, 5)?;
     let heads = count as usize;
-    let mut pos = first.pos;
+    let mut head = first;
     let mut rows: usize = 0;
-    let mut k: usize = 0;
-    while k < heads {
-        let Moved::At(next) = skip_group(section, file, Reader { pos }) else {
-            return SectionCounts::PastEnd;
-        };
-        rows += own_count(section, file, pos) as usize;
-        pos = next.pos;
-        k += 1;
+    for _ in 0..heads {
+        let next = skip_group(section, file, head)?;
+        rows += own_count(section, file, head.pos) as usize;
+        head = next;
     }
-    SectionCounts::Counts { heads, rows }
+    Some(SectionCounts { heads, rows })
 }
 
 // The header row at p, from byte `at` of its table, and the n rows behind it, from byte `to` of theirs; answers where these end.
@@ -111,14 +105,10 @@ pub fn fill(section: Section, file: &[u8], start: usize, heads: &mut [u8], rows:
     let count = u8_at(file, start + 5) as usize;
     let step = row_size(section);
     let mut p = start + 6;
-    let mut at: usize = 0;
     let mut to: usize = 0;
-    let mut k: usize = 0;
-    while k < count {
+    for k in 0..count {
         let n = own_count(section, file, p) as usize;
-        p = put_group(section, file, p, n, heads, at, rows, to);
-        at += 12;
+        p = put_group(section, file, p, n, heads, 12 * k, rows, to);
         to += step * n;
-        k += 1;
     }
 }

@@ -1,42 +1,26 @@
 -- The tables of a record, one test behind the other, and `cells_fit` by its parts.
-use Prim.Native.Nat.{ℕ, ◌+◌, ◌*◌, ◌<◌, ◌≤◌}
+use Prim.Native.Nat.{ℕ, ◌<◌, ◌≤◌}
 use mathlib.Core.Path.{◌≡◌, refl, ap, ◌∙◌}
 use mathlib.Core.List.{List}
-use mathlib.Core.Bool.{Bool, true, false, not}
-use native.Mathlib.Omega.{arith}
-use lib.ListN.{length}
-use borrow.Author.Tests.{le-leb, lt-leb, not-true, not-false}
+use mathlib.Core.Bool.{Bool, true, false}
+use lib.Dec.{leb}
+use borrow.Author.Tests.{le-leb, lt-leb}
 use Rattle.format.specs.Bytes.{both, every}
 use Rattle.format.specs.ClipRecord.{atc_stc_count, stream_count, entry_count, entry_cells}
 use Rattle.format.specs.Refusals.{scalars_fit, cells_fit, all_stated, counts_add}
-use Rattle.format.specs.Tables.{ClipTables, is_stated, add_up, rows_of, clip_in, table_rows_of, row_room, atc_cells, stc_cells, program_cells, stream_cells, map_cells}
+use Rattle.format.specs.Tables.{ClipTables, is_stated, add_up, rows_of, clip_in, table_rows_of, atc_cells, stc_cells, program_cells, stream_cells, map_cells}
 use Rattle.table_rows.specs.OwnRows.{is_counted}
 use Rattle.row_limits.specs.Kinds.{table_cells, fits_by}
 use Rattle.row_limits.specs.declared.TableKind.{TableKind}
 use Rattle.limits.specs.Clips.{entries_fit, heads_fit, groups_fit, tables_fit}
-use Rattle.format.proofs.Cell.{rows_room}
 use Rattle.format.proofs.Tables.{rows_stated}
 use Rattle.format.proofs.Tests.{both_true, both_assoc}
-
--- ---- two tests
-
--- the first fails
-pub first_fails : (x y : Bool) {a : Bool} → a ≡ x → not a ≡ true → false ≡ both x y
-first_fails x y {a} is h = rw (← is, not-true a h)
-
--- it passes, and the second decides
-pub then_second : (x y : Bool) {a b : Bool} → a ≡ x → not a ≡ false → b ≡ y → b ≡ both x y
-then_second x y {a} is h then = rw (← is, not-false a h) then
 
 -- ---- the rows of a table
 
 module _ (kind : TableKind) (t : List ℕ) (n : ℕ) where
-  -- rows that are stated and there
-  pub table_room : n ≤ row_room (table_cells kind) t → 0 + n * (4 * table_cells kind) ≤ length t
-  table_room h = omega (arith, rows_room (table_cells kind) t h)
-
   -- too many
-  pub too_many : 255 < n → false ≡ heads_fit kind (table_rows_of (table_cells kind) t n)
+  pub too_many : 255 < n → leb n 255 ≡ heads_fit kind (table_rows_of (table_cells kind) t n)
   too_many h = rw (rows_stated (table_cells kind) t n, lt-leb n 255 h)
 
   -- few enough
@@ -48,7 +32,7 @@ module _ (kind : TableKind) (t : List ℕ) (n : ℕ) where
 -- each cell of a record fits where the scalars do and the tables but that of the entries do, and the entries do
 pub fields_and_entries : (l : ClipTables)
     → cells_fit (clip_in l)
-    ≡ both (both (scalars_fit l.scalars) (tables_fit l.atcs l.stcs l.programs l.streams l.maps)) (entries_fit (rows_of map_cells l.maps) (rows_of entry_cells l.entries))
+    ≡ both (both (scalars_fit l.scalars) (tables_fit l)) (entries_fit (rows_of map_cells l.maps) (rows_of entry_cells l.entries))
 unfolding cells_fit tables_fit clip_in
 fields_and_entries l = simp both_assoc
 
@@ -66,29 +50,12 @@ module _ (l : ClipTables) where
   maps_of = heads_fit TableKind.Map (rows_of map_cells l.maps)
 
   abbrev pub all_of : Bool
-  all_of = tables_fit l.atcs l.stcs l.programs l.streams l.maps
+  all_of = tables_fit l
 
   -- where all fit, the maps do
   pub maps_fit : all_of ≡ true → maps_of ≡ true
   unfolding tables_fit
   maps_fit h = (both_true {a = programs_of} (both_true {a = sequences_of} h).1).1
-
-  -- the sequences fail
-  pub sequences_fail : {a : Bool} → a ≡ sequences_of → not a ≡ true → false ≡ all_of
-  unfolding tables_fit
-  sequences_fail is h = first_fails sequences_of (both programs_of maps_of) is h
-
-  -- they pass
-  module _ {a : Bool} (is : a ≡ sequences_of) (h : not a ≡ false) where
-    -- the programs fail
-    pub programs_fail : {b : Bool} → b ≡ programs_of → not b ≡ true → false ≡ all_of
-    unfolding tables_fit
-    programs_fail is₂ h₂ = then_second sequences_of (both programs_of maps_of) is h (first_fails programs_of maps_of is₂ h₂)
-
-    -- they pass, and the maps decide
-    pub maps_decide : {b c : Bool} → b ≡ programs_of → not b ≡ false → c ≡ maps_of → c ≡ all_of
-    unfolding tables_fit
-    maps_decide is₂ h₂ is₃ = then_second sequences_of (both programs_of maps_of) is h (then_second programs_of maps_of is₂ h₂ is₃)
 
 -- ---- what is tested before
 

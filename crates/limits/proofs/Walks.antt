@@ -2,11 +2,11 @@
 use Prim.Native.Nat.{ℕ, ◌+◌, ◌*◌, ◌-◌, ◌<◌, ◌≤◌}
 use mathlib.Core.Path.{◌≡◌, ◌∙◌}
 use mathlib.Core.List.{List}
-use mathlib.Core.Bool.{Bool, true, false, not}
+use mathlib.Core.Bool.{Bool, true, false}
 use native.Mathlib.Nat.{suc-mul}
 use native.Mathlib.Omega.{arith}
 use lib.ListN.{length}
-use borrow.Author.Tests.{leb-true, eqb-true, not-true, not-false}
+use borrow.Author.Tests.{leb-true, eqb-true}
 use Rattle.format.specs.Bytes.{both, every, total, rows_at}
 use Rattle.format.specs.ClipRecord.{Row}
 use Rattle.format.specs.Tables.{Table, rows_of, cells_at, row_room}
@@ -50,12 +50,12 @@ module _ (test : Row → Bool) (cells : ℕ) (t : List ℕ) (p n : ℕ) where
 
     module _ {b : Bool} (is : b ≡ test (cells_at t cells at)) where
       -- it fails
-      pub tested_fails : not b ≡ true → false ≡ every test (rows_here p n)
-      tested_fails h = rw (← is, not-true b h) at next
+      pub tested_fails : b ≡ false → false ≡ every test (rows_here p n)
+      tested_fails h = rw (← is, h) at next
 
       -- it passes
-      pub tested_turn : not b ≡ false → {size : ℕ} → size ≡ 4 * cells → Tested (k + 1) (at + size)
-      tested_turn h {size} e = record { same = rw e (rw (← is, not-false b h) at next); room = rw e rooms }
+      pub tested_turn : b ≡ true → {size : ℕ} → size ≡ 4 * cells → Tested (k + 1) (at + size)
+      tested_turn h {size} e = record { same = rw e (rw (← is, h) at next); room = rw e rooms }
 
   -- none is left
   pub tested_done : (k at : ℕ) → n ≤ k → Tested k at → true ≡ every test (rows_here p n)

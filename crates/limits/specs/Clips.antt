@@ -3,7 +3,7 @@ use Rattle.std.specs.Prelude.{List, Bool, length, leb}
 use Rattle.format.specs.Bytes.{both, every}
 use Rattle.format.specs.ClipRecord.{Row, map_type_of}
 use Rattle.format.specs.Refusals.{entry_fits, every_map}
-use Rattle.format.specs.Tables.{Table, rows_of, atc_cells, stc_cells, program_cells, stream_cells, map_cells}
+use Rattle.format.specs.Tables.{ClipTables, rows_of, atc_cells, stc_cells, program_cells, stream_cells, map_cells}
 use Rattle.row_limits.specs.Kinds.{fits_by}
 use Rattle.row_limits.specs.declared.TableKind.{TableKind}
 
@@ -20,7 +20,7 @@ abbrev pub groups_fit : (head row : TableKind) → List Row → List Row → Boo
 groups_fit head row heads rows = both (heads_fit head heads) (every (fits_by row) rows)
 
 -- all tables but that of the entries: at most 255 maps, and each fits
-unfoldable pub tables_fit : (atcs stcs programs streams maps : Table) → Bool
-tables_fit atcs stcs programs streams maps =
-    both (groups_fit TableKind.Atc TableKind.Stc (rows_of atc_cells atcs) (rows_of stc_cells stcs))
-    (both (groups_fit TableKind.Program TableKind.Stream (rows_of program_cells programs) (rows_of stream_cells streams)) (heads_fit TableKind.Map (rows_of map_cells maps)))
+unfoldable pub tables_fit : ClipTables → Bool
+tables_fit l =
+    both (groups_fit TableKind.Atc TableKind.Stc (rows_of atc_cells l.atcs) (rows_of stc_cells l.stcs))
+    (both (groups_fit TableKind.Program TableKind.Stream (rows_of program_cells l.programs) (rows_of stream_cells l.streams)) (heads_fit TableKind.Map (rows_of map_cells l.maps)))

@@ -12,14 +12,10 @@ pub fn rows_fit(t: &[u8], p: usize, n: usize, kind: TableKind) -> bool
     ensures { result ≡ every (fits_by kind) (rows_at (cells_at t.now (table_cells kind)) (λ q. q + 4 * table_cells kind) p n) }
 {
     let size = row_bytes(kind);
-    let mut at = p;
-    let mut k: usize = 0;
-    while k < n {
-        if !row_fits(t, at, kind) {
+    for k in 0..n {
+        if !row_fits(t, p + size * k, kind) {
             return false;
         }
-        at += size;
-        k += 1;
     }
     true
 }

@@ -3,6 +3,7 @@ use Rattle.std.specs.Prelude.{ℕ, ◌+◌, ◌*◌, ◌^◌, ◌≤◌, ◌<◌
 use Rattle.format.specs.ClipRecord.{Row, Record, entry_count, time, entry_cells, entry_size}
 use Rattle.format.specs.Bytes.{rows_at, total}
 use Rattle.format.specs.Tables.{cells_at, table_rows_of, row_room, overwritten, map_cells}
+use Rattle.listing.specs.declared.Numbers.{Numbers}
 use Rattle.format.specs.Listing.{line, clip_word, seq_word, prog_word, mark_word, map_lines}
 
 -- the first r bytes of e are the text s, and what stands beyond them is what d had
@@ -22,19 +23,7 @@ entries_from t p n = rows_at (cells_at t entry_cells) (λ q. q + entry_size) p n
 pub record TimesFit (t : List ℕ) (p n : ℕ) : Type 0 where
   pub narrow : (k : ℕ) → k < n → time (cells_at t entry_cells (p + entry_size * k)) < 2 ^ 32
 
--- the numbers of a record that its text shows beside its maps and entries
-pub record Numbers : Type 0 where
-  pub stream_type : ℕ
-  pub application_type : ℕ
-  pub rate : ℕ
-  pub packets : ℕ
-  pub atcs : ℕ
-  pub stcs : ℕ
-  pub programs : ℕ
-  pub streams : ℕ
-  pub marks : ℕ
-
--- the same, one behind the other
+-- the numbers that a text shows beside its maps and entries, one behind the other
 abbrev pub numbers : ℕ → ℕ → ℕ → ℕ → ℕ → ℕ → ℕ → ℕ → ℕ → Numbers
 numbers stream_type application_type rate packets atcs stcs programs streams marks = record {
   stream_type = stream_type;

@@ -50,14 +50,11 @@ pub fn list_input<R: Read, W: Write>(
     ensures written { IfOk result (λ l. Appends (W.contents writer.old) (W.contents writer.new)
         (listing (take l.read input.new))) }
 {
-    let read = match read_input(reader, input) {
-        Ok(n) => n,
-        Err(e) => return Err(ListError::Read(e)),
-    };
+    let read = read_input(reader, input).map_err(ListError::Read)?;
     let len = list(&input[..read], out);
     let listed = ListedInput { read, len };
-    match writer.write_all(&out[..len]) {
-        Ok(()) => Ok(listed),
-        Err(e) => Err(ListError::Write(listed, e)),
-    }
+    writer
+        .write_all(&out[..len])
+        .map_err(|e| ListError::Write(listed, e))?;
+    Ok(listed)
 }

@@ -7,13 +7,14 @@ ghost use Rattle.format.specs.Bytes.{bytes_of, field_bytes, packed};
 ghost use Rattle.format.specs.EntryPoints.{header_widths, fine_widths};
 ghost use Rattle.format.specs.Rewriting.{coarse_bytes, coarse_by, fine_by};
 
+use entry_rows::EntryRow;
 use ep_rows::{
     CoarseRow, FineRow, MapHeader, coarse_row_word, coarse_time_of, fine_packet_of, fine_row_word,
     fine_time_of, map_header_word,
 };
 use numbers::{put_u16, put_u32, put_u64};
 
-// Stores the six lowest bytes of v from `at`.
+// Stores the six lowest bytes of v from `at`: the one place that stores six.
 fn put_u48(out: &mut [u8], at: usize, v: u64)
     requires { at + 6 ≤ length out.old }
     ensures { out.new ≡ sets out.old at (bytes_of 6 v) }
@@ -22,52 +23,39 @@ fn put_u48(out: &mut [u8], at: usize, v: u64)
     put_u32(out, at + 2, (v % 4294967296) as u32);
 }
 
-// A map's header from `at`: PID, the packed counts, the body's address.
-pub fn put_header(
-    pid: u32,
-    kind: u32,
-    num_coarse: u32,
-    num_fine: u32,
-    address: u32,
-    out: &mut [u8],
-    at: usize,
-)
-    requires { (kind < 2 ^ 4) × (num_coarse < 2 ^ 16) × (num_fine < 2 ^ 18) × (at + 12 ≤ length out.old) }
-    ensures { out.new ≡ sets out.old at (field_bytes (2 ∷ 6 ∷ 4 ∷ []) (pid ∷ packed header_widths (0 ∷ kind ∷ num_coarse ∷ num_fine ∷ []) ∷ address ∷ [])) }
+// A map's header from `at`: PID, the packed type and counts, the body's address.
+pub fn put_header(pid: u32, header: MapHeader, address: u32, out: &mut [u8], at: usize)
+    requires { (header.ep_stream_type < 2 ^ 4) × (header.num_coarse < 2 ^ 16) × (header.num_fine < 2 ^ 18) × (at + 12 ≤ length out.old) }
+    ensures { out.new ≡ sets out.old at (field_bytes (2 ∷ 6 ∷ 4 ∷ []) (pid ∷ packed header_widths (0 ∷ header.ep_stream_type ∷ header.num_coarse ∷ header.num_fine ∷ []) ∷ address ∷ [])) }
 {
-    let word = map_header_word(MapHeader {
-        ep_stream_type: kind,
-        num_coarse,
-        num_fine,
-    });
     put_u16(out, at, pid);
-    put_u48(out, at + 2, word);
+    put_u48(out, at + 2, map_header_word(header));
     put_u32(out, at + 8, address);
 }
 
 // The coarse row of a run from `at`: the number of its first row, and that entry's time and full packet.
-pub fn put_coarse_row(first_fine: u32, time: u64, packet: u32, out: &mut [u8], at: usize)
-    requires { (first_fine < 2 ^ 18) × (time < 2 ^ 33) × (at + 8 ≤ length out.old) }
-    ensures { out.new ≡ sets out.old at (coarse_bytes (coarse_by first_fine time packet)) }
+pub fn put_coarse_row(first_fine: u32, entry: EntryRow, out: &mut [u8], at: usize)
+    requires { (first_fine < 2 ^ 18) × (entry.time < 2 ^ 33) × (at + 8 ≤ length out.old) }
+    ensures { out.new ≡ sets out.old at (coarse_bytes (coarse_by first_fine entry.time entry.packet)) }
 {
     let word = coarse_row_word(CoarseRow {
         first_fine,
-        time: coarse_time_of(time),
-        packet,
+        time: coarse_time_of(entry.time),
+        packet: entry.packet,
     });
     put_u64(out, at, word);
 }
 
 // The fine row of an entry from `at`.
-pub fn put_fine_row(angle: u32, i_end: u32, time: u64, packet: u32, out: &mut [u8], at: usize)
-    requires { (angle < 2 ^ 1) × (i_end < 2 ^ 3) × (at + 4 ≤ length out.old) }
-    ensures { out.new ≡ sets out.old at (bytes_of 4 (packed fine_widths (fine_by angle i_end time packet))) }
+pub fn put_fine_row(entry: EntryRow, out: &mut [u8], at: usize)
+    requires { (entry.angle < 2 ^ 1) × (entry.i_end < 2 ^ 3) × (at + 4 ≤ length out.old) }
+    ensures { out.new ≡ sets out.old at (bytes_of 4 (packed fine_widths (fine_by entry.angle entry.i_end entry.time entry.packet))) }
 {
     let word = fine_row_word(FineRow {
-        angle,
-        i_end,
-        time: fine_time_of(time),
-        packet: fine_packet_of(packet),
+        angle: entry.angle,
+        i_end: entry.i_end,
+        time: fine_time_of(entry.time),
+        packet: fine_packet_of(entry.packet),
     });
     put_u32(out, at, word);
 }

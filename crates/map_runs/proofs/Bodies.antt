@@ -14,7 +14,7 @@ use Rattle.format.proofs.Loops.{put_more}
 use Rattle.format.proofs.Numbers.{bytes_length}
 use Rattle.format.proofs.Read.{time_facts}
 use Rattle.ep_entries.specs.Body.{coarse_in, entries_in, entries_left, entry_in}
-use Rattle.ep_entries.specs.Entries.{row_of}
+use Rattle.entry_rows.specs.Reads.{row_of}
 use Rattle.ep_entries.specs.Walks.{IsWalk}
 use Rattle.ep_entries.specs.declared.body.MapBody.{MapBody}
 use Rattle.ep_entries.specs.declared.walk.Walk.{Walk}
@@ -29,7 +29,7 @@ use Rattle.map_runs.proofs.Entries.{next_run}
 use Rattle.map_runs.proofs.Turns.{met_time, met_packet, later}
 
 -- angle, I-end and time of an entry that was read are as narrow as the rows that are stored want them
-pub met_narrow : (f : List ℕ) (m : MapBody) (k : ℕ) (r : Met) → IsMet f m k r → Narrow (row_of m.kind r.entry)
+pub met_narrow : (f : List ℕ) (m : MapBody) (k : ℕ) (r : Met) → IsMet f m k r → Narrow (row_of r.entry)
 met_narrow f m k r i =
     let coarse = coarse_time (coarse_for (coarse_in f m) k) in
     let fine = fine_time (fine_at f (m.fine + 4 * k)) in
@@ -46,13 +46,13 @@ module _ (f : List ℕ) (m : MapBody) (o₀ : List ℕ) (at : ℕ) where
   -- those up to row k are stored, and those from there on go to `to`
   pub record Coarse (o : List ℕ) (walk : Walk) (to k : ℕ) : Type 0 where
     pub within : k ≤ m.num_fine
-    pub walk_is : IsWalk f (coarse_in f m) k walk
+    pub walk_is : IsWalk f m.num_fine (coarse_in f m) k walk
     pub long : length o ≡ length o₀
     pub place : to + 8 * length (coarse_from k (entries_left f m k)) ≡ at + 8 * runs (entries_in f m)
     pub rest : sets o to (flat coarse_bytes (coarse_from k (entries_left f m k))) ≡ sets o₀ at (flat coarse_bytes (coarse_rows (entries_in f m)))
 
   -- before the first turn
-  pub coarse_first : (walk : Walk) → IsWalk f (coarse_in f m) 0 walk → Coarse o₀ walk at 0
+  pub coarse_first : (walk : Walk) → IsWalk f m.num_fine (coarse_in f m) 0 walk → Coarse o₀ walk at 0
   unfolding runs
   coarse_first walk w = record {
     within = omega arith;
@@ -106,12 +106,12 @@ module _ (f : List ℕ) (m : MapBody) (o₀ : List ℕ) (at : ℕ) where
   -- the fine rows of k entries are stored
   pub record Fine (o : List ℕ) (walk : Walk) (k : ℕ) : Type 0 where
     pub within : k ≤ m.num_fine
-    pub walk_is : IsWalk f (coarse_in f m) k walk
+    pub walk_is : IsWalk f m.num_fine (coarse_in f m) k walk
     pub long : length o ≡ length o₀
     pub rest : sets o (at + 4 * k) (flat fine_bytes (entries_left f m k)) ≡ sets o₀ at (flat fine_bytes (entries_in f m))
 
   -- before the first turn
-  pub fine_first : (walk : Walk) → IsWalk f (coarse_in f m) 0 walk → Fine o₀ walk 0
+  pub fine_first : (walk : Walk) → IsWalk f m.num_fine (coarse_in f m) 0 walk → Fine o₀ walk 0
   fine_first walk w = let z : at + 4 * 0 ≡ at = omega arith in record { within = omega arith; walk_is = w; long = refl; rest = rw (z, left_all f m) }
 
   -- the row of entry k is stored

@@ -15,7 +15,7 @@ use Rattle.ep_entries.specs.Body.{coarse_in, entries_in, entries_left, entry_in}
 use Rattle.ep_entries.specs.Entries.{joined}
 use Rattle.ep_entries.specs.Walks.{IsWalk, Reached}
 use Rattle.ep_entries.specs.declared.body.MapBody.{MapBody}
-use Rattle.ep_entries.specs.declared.entries.Entry.{Entry}
+use Rattle.entry_rows.specs.declared.EntryRow.{EntryRow}
 use Rattle.ep_entries.specs.declared.walk.Walk.{Walk}
 use Rattle.ep_entries.proofs.Walks.{walk_stop, walk_later}
 use Rattle.ep_entries.proofs.Joined.{left_all, left_turn, left_done}
@@ -28,12 +28,12 @@ use Rattle.map_runs.proofs.Entries.{next_run}
 
 module _ (f : List ℕ) (m : MapBody) where
   -- the walk reached row k, and its word was joined there
-  pub met_is : (k : ℕ) (from : Walk) (x : ℕ) (walk : Walk) (entry : Entry) → AtRow f m k from → Reached f k from walk
-      → x ≡ be_at f (m.fine + 4 * k) 4 → entry ≡ joined walk.time walk.packet (unpacked fine_widths x)
+  pub met_is : (k : ℕ) (from : Walk) (x : ℕ) (walk : Walk) (entry : EntryRow) → AtRow f m k from → Reached f m.num_fine k from walk
+      → x ≡ be_at f (m.fine + 4 * k) 4 → entry ≡ joined m.kind walk.time walk.packet (unpacked fine_widths x)
       → IsMet f m k (record { walk = walk; entry = entry })
   met_is k from x walk entry a r w e =
       let is = r.reached (coarse_in f m) a.walk_is in
-      let at = walk_stop f (coarse_in f m) k walk is r.beyond in
+      let at = walk_stop f m.num_fine (coarse_in f m) k walk is r.beyond in
       record { walk_is = is; entry_is = rw (e, w, at.0, at.1) }
 
   -- its time is that of the entry
@@ -45,8 +45,8 @@ module _ (f : List ℕ) (m : MapBody) where
   met_packet k r i = ap packet i.entry_is
 
   -- a walk that is right for row k is right for those behind it
-  pub later : (k r : ℕ) (w : Walk) → k ≤ r → IsWalk f (coarse_in f m) k w → IsWalk f (coarse_in f m) r w
-  later k r w h i = walk_later f (coarse_in f m) k r w h i
+  pub later : (k r : ℕ) (w : Walk) → k ≤ r → IsWalk f m.num_fine (coarse_in f m) k w → IsWalk f m.num_fine (coarse_in f m) r w
+  later k r w h i = walk_later f m.num_fine (coarse_in f m) k r w h i
 
   -- ---- the search for the end of the run that begins at row `from`
 
@@ -55,7 +55,7 @@ module _ (f : List ℕ) (m : MapBody) where
     pub record Along (walk : Walk) (k : ℕ) : Type 0 where
       pub past : from < k
       pub within : k ≤ m.num_fine
-      pub walk_is : IsWalk f (coarse_in f m) k walk
+      pub walk_is : IsWalk f m.num_fine (coarse_in f m) k walk
       pub rest : run_end (entry_in f m from) k (entries_left f m k) ≡ end_from from (entries_left f m from)
 
     -- before the first turn
@@ -95,9 +95,11 @@ module _ (f : List ℕ) (m : MapBody) where
           record { row_is = rw (left_turn f m k h, other) at i.rest; walk_is = here.walk_is }
 
     -- the run ends with the entries
-    pub along_done : (walk : Walk) (k : ℕ) → Along walk k → m.num_fine ≤ k → IsEnd f m from (record { row = k; walk = walk })
+    pub along_done : (walk : Walk) (k : ℕ) → Along walk k → m.num_fine ≤ k → IsEnd f m from (record { row = m.num_fine; walk = walk })
     unfolding run_end
-    along_done walk k i h = record { row_is = rw (left_done f m k h) at i.rest; walk_is = i.walk_is }
+    along_done walk k i h =
+        let last : m.num_fine ≡ k = omega (arith, i.within) in
+        record { row_is = last ∙ rw (left_done f m k h) at i.rest; walk_is = later k m.num_fine walk i.within i.walk_is }
 
   -- ---- from run to run
 
@@ -105,11 +107,11 @@ module _ (f : List ℕ) (m : MapBody) where
   pub record Counted (walk : Walk) (count k : ℕ) : Type 0 where
     pub within : k ≤ m.num_fine
     pub small : count ≤ k
-    pub walk_is : IsWalk f (coarse_in f m) k walk
+    pub walk_is : IsWalk f m.num_fine (coarse_in f m) k walk
     pub rest : count + length (coarse_from k (entries_left f m k)) ≡ runs (entries_in f m)
 
   -- before the first turn
-  pub counted_first : (walk : Walk) → IsWalk f (coarse_in f m) 0 walk → Counted walk 0 0
+  pub counted_first : (walk : Walk) → IsWalk f m.num_fine (coarse_in f m) 0 walk → Counted walk 0 0
   unfolding runs
   counted_first walk w =
       record { within = omega arith; small = omega arith; walk_is = w; rest = rw (left_all f m, coarse_all (entries_in f m)) (omega arith) }

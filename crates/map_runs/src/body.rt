@@ -8,7 +8,7 @@ ghost use Rattle.map_runs.specs.Entries.{CoarseRoom, FineRoom, BodyRoom};
 
 use crate::walked::{meet, run_end};
 use ep_entries::body::MapBody;
-use ep_entries::walk::start;
+use ep_entries::walk::Walk;
 use map_rows::{put_coarse_row, put_fine_row};
 use numbers::put_u32;
 
@@ -18,14 +18,14 @@ fn put_coarse(file: &[u8], m: MapBody, out: &mut [u8], at: usize) -> usize
     ensures value { result ≡ at + 8 * runs (entries_in file.now m) }
     ensures out_after { out.new ≡ sets out.old at (flat coarse_bytes (coarse_rows (entries_in file.now m))) }
 {
-    let mut walk = start(file, m.coarse, m.num_coarse);
+    let mut walk = Walk::start(file, m);
     let mut to = at;
     let mut k: usize = 0;
+    // a `while`: each turn goes on by a whole run
     while k < m.num_fine {
         let first = meet(file, m, k, walk);
-        let e = first.entry;
         let end = run_end(file, m, k, first);
-        put_coarse_row(k as u32, e.time, e.packet, out, to);
+        put_coarse_row(k as u32, first.entry, out, to);
         to += 8;
         walk = end.walk;
         k = end.row;
@@ -39,14 +39,11 @@ fn put_fine(file: &[u8], m: MapBody, out: &mut [u8], at: usize) -> usize
     ensures value { result ≡ at + 4 * m.num_fine }
     ensures out_after { out.new ≡ sets out.old at (flat fine_bytes (entries_in file.now m)) }
 {
-    let mut walk = start(file, m.coarse, m.num_coarse);
-    let mut k: usize = 0;
-    while k < m.num_fine {
+    let mut walk = Walk::start(file, m);
+    for k in 0..m.num_fine {
         let met = meet(file, m, k, walk);
-        let e = met.entry;
-        put_fine_row(e.angle, e.i_end, e.time, e.packet, out, at + 4 * k);
+        put_fine_row(met.entry, out, at + 4 * k);
         walk = met.walk;
-        k += 1;
     }
     at + 4 * m.num_fine
 }

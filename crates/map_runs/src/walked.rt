@@ -4,9 +4,10 @@ ghost use Rattle.format.specs.Rewriting.{runs};
 ghost use Rattle.ep_entries.specs.Body.{entries_in, RowsIn};
 ghost use Rattle.map_runs.specs.Entries.{AtRow, IsMet, IsEnd};
 
+use entry_rows::EntryRow;
 use ep_entries::body::MapBody;
-use ep_entries::entries::{Entry, join};
-use ep_entries::walk::{Walk, reach, start};
+use ep_entries::entries::join;
+use ep_entries::walk::Walk;
 use numbers::u32_at;
 use runs::same_key;
 
@@ -14,7 +15,7 @@ use runs::same_key;
 #[derive(Clone, Copy)]
 pub struct Met {
     pub walk: Walk,
-    pub entry: Entry,
+    pub entry: EntryRow,
 }
 
 // The row behind a run, and a walk that is right for it.
@@ -29,8 +30,8 @@ pub fn meet(file: &[u8], m: MapBody, k: usize, from: Walk) -> Met
     requires { AtRow file.now m k from }
     ensures { IsMet file.now m k result }
 {
-    let walk = reach(file, k as u32, from);
-    let entry = join(u32_at(file, m.fine + 4 * k), walk);
+    let walk = from.reach(file, m, k);
+    let entry = join(u32_at(file, m.fine + 4 * k), walk, m.kind);
     Met { walk, entry }
 }
 
@@ -39,19 +40,18 @@ pub fn run_end(file: &[u8], m: MapBody, from: usize, first: Met) -> RunEnd
     requires { RowsIn file.now m × (from < m.num_fine) × IsMet file.now m from first }
     ensures { IsEnd file.now m from result }
 {
-    let one = first.entry;
     let mut walk = first.walk;
-    let mut k = from + 1;
-    while k < m.num_fine {
+    for k in from + 1..m.num_fine {
         let met = meet(file, m, k, walk);
-        let e = met.entry;
         walk = met.walk;
-        if !same_key(one.time, one.packet, e.time, e.packet) {
+        if !same_key(first.entry, met.entry) {
             return RunEnd { row: k, walk };
         }
-        k += 1;
     }
-    RunEnd { row: k, walk }
+    RunEnd {
+        row: m.num_fine,
+        walk,
+    }
 }
 
 // How many runs the map's entries have.
@@ -59,9 +59,10 @@ pub fn count_runs(file: &[u8], m: MapBody) -> usize
     requires { RowsIn file.now m }
     ensures { result ≡ runs (entries_in file.now m) }
 {
-    let mut walk = start(file, m.coarse, m.num_coarse);
+    let mut walk = Walk::start(file, m);
     let mut count: usize = 0;
     let mut k: usize = 0;
+    // a `while`: each turn goes on by a whole run
     while k < m.num_fine {
         let first = meet(file, m, k, walk);
         let end = run_end(file, m, k, first);

@@ -1,80 +1,75 @@
 // The nearest of some times to the one asked for, before it or after it: a step for each row, and what is found at the end.
 #![tactic(auto)]
 
-ghost use Rattle.std.specs.Prelude.{◌≡◌};
+ghost use Rattle.std.specs.Prelude.{◌≡◌, Ok};
 ghost use Rattle.queries.specs.Answers.{found_of};
-ghost use Rattle.nearest.specs.Nearest.{distance_to, none_yet, closer_at, closer_of, row_found};
+ghost use Rattle.nearest.specs.Nearest.{on_side, nearer, as_best, closer_of, row_found};
 
-use queries::Found;
-
-// Farther than any time of 64 bits is from one that is asked for. A time after that one counts from 0, so that the distance of no time is this number.
-const FAR: u64 = 18446744073709551615;
-
-// How far a time is from the one asked for: before it or at it; or after it, where the very next is at 0. A time on the other side is far.
-fn distance(is_after: bool, at: u64, time: u64) -> u64
-    ensures { result ≡ distance_to is_after at time }
-{
-    if is_after {
-        if at < time {
-            return time - (at + 1);
-        }
-        return FAR;
-    }
-    if time <= at {
-        return at - time;
-    }
-    FAR
+// The times that are asked for: those at or before one, or those after it. An enum and no closures: three tests go by it, and each function here would take all three.
+#[derive(Clone, Copy)]
+pub enum Side {
+    AtOrBefore,
+    After,
 }
 
-// The row of the nearest time, the earliest among equals, and how far it is; row 0 and far where all stand on the other side.
+impl Side {
+    // Whether a time is on this side of the one asked for.
+    fn has(self, at: u64, time: u64) -> bool
+        ensures { result ≡ on_side self at time }
+    {
+        match self {
+            Side::AtOrBefore => time <= at,
+            Side::After => at < time,
+        }
+    }
+
+    // Whether a time on this side is nearer to the one asked for than another: the later of two at or before it, the earlier of two after it.
+    fn is_nearer(self, time: u64, than: u64) -> bool
+        ensures { result ≡ nearer self time than }
+    {
+        match self {
+            Side::AtOrBefore => than < time,
+            Side::After => time < than,
+        }
+    }
+}
+
+// The row of the nearest time, the earliest among equals, and that time.
 #[derive(Clone, Copy)]
 pub struct Nearest {
     pub row: usize,
-    pub distance: u64,
+    pub time: u64,
 }
 
-// Before any row is looked at.
-pub fn none_yet() -> Nearest
-    ensures { result ≡ none_yet }
+// The nearest so far, or row k with this time where that is nearer; none while all stand on the other side.
+pub fn look_at_time(
+    so_far: Option<Nearest>,
+    k: usize,
+    side: Side,
+    at: u64,
+    time: u64,
+) -> Option<Nearest>
+    ensures { as_best result ≡ closer_of side at (as_best so_far) k time }
 {
-    Nearest {
-        row: 0,
-        distance: FAR,
+    if !side.has(at, time) {
+        return so_far;
     }
-}
-
-// The nearest so far, or row k at distance d where that is nearer.
-fn closer(so_far: Nearest, k: usize, d: u64) -> Nearest
-    ensures { result ≡ closer_at so_far k d }
-{
-    if d < so_far.distance {
-        return Nearest {
-            row: k,
-            distance: d,
-        };
+    match so_far {
+        Some(nearest) if !side.is_nearer(time, nearest.time) => so_far,
+        _ => Some(Nearest { row: k, time }),
     }
-    so_far
-}
-
-// The nearest so far, or row k with this time where that is nearer.
-pub fn look_at_time(so_far: Nearest, k: usize, is_after: bool, at: u64, time: u64) -> Nearest
-    ensures { result ≡ closer_of is_after at so_far k time }
-{
-    closer(so_far, k, distance(is_after, at, time))
 }
 
 // The row that is found once all are looked at: none without rows; row 0 where all are later and one at or before is asked for.
-pub fn found_row(nearest: Nearest, rows: usize, is_after: bool) -> Found
-    ensures { found_of result ≡ row_found is_after rows nearest }
+pub fn found_row(nearest: Option<Nearest>, rows: usize, side: Side) -> Option<u64>
+    ensures { found_of (Ok result) ≡ row_found side rows (as_best nearest) }
 {
     if rows == 0 {
-        return Found::Nothing;
+        return None;
     }
-    if !is_after {
-        return Found::Number(nearest.row as u64);
+    match (nearest, side) {
+        (Some(nearest), _) => Some(nearest.row as u64),
+        (None, Side::AtOrBefore) => Some(0),
+        (None, Side::After) => None,
     }
-    if nearest.distance == FAR {
-        return Found::Nothing;
-    }
-    Found::Number(nearest.row as u64)
 }

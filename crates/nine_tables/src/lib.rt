@@ -1,8 +1,8 @@
 // The nine lent tables: how many rows each needs, and the lowest that is too short.
 #![tactic(auto)]
 
-ghost use Rattle.std.specs.Prelude.{◌≡◌};
-ghost use Rattle.nine_tables.specs.Room.{room_of, room_behind};
+ghost use Rattle.std.specs.Prelude.{◌≡◌, ◌<◌};
+ghost use Rattle.nine_tables.specs.Room.{room_in, room_of};
 
 use entry_rows::SIZE;
 
@@ -20,77 +20,36 @@ pub struct Rows {
     pub list_streams: usize,
 }
 
-// Room enough, or the lowest table that is too short and the rows it needs.
-#[derive(Clone, Copy)]
-pub enum Room {
-    Enough,
-    Short { table: u32, rows: usize },
+// A table that is too short, by its number in document 01, and the rows it needs.
+#[derive(Clone, Copy, Debug, PartialEq, Eq)]
+pub struct TableShort {
+    pub table: u32,
+    pub rows: usize,
 }
 
-// Tables 6 to 9.
-fn room_behind(rows: Rows, bytes: Rows) -> Room
-    ensures { result ≡ room_behind rows bytes }
+// One table: so many rows of `size` bytes have room in its bytes, or it is too short.
+fn room(table: u32, size: usize, rows: usize, bytes: usize) -> Result<(), TableShort>
+    requires { 0 < size }
+    ensures { result ≡ room_in table size rows bytes }
 {
-    if bytes.entries / SIZE < rows.entries {
-        return Room::Short {
-            table: 6,
-            rows: rows.entries,
-        };
+    if bytes / size < rows {
+        Err(TableShort { table, rows })
+    } else {
+        Ok(())
     }
-    if bytes.extensions / 16 < rows.extensions {
-        return Room::Short {
-            table: 7,
-            rows: rows.extensions,
-        };
-    }
-    if bytes.list_programs / 12 < rows.list_programs {
-        return Room::Short {
-            table: 8,
-            rows: rows.list_programs,
-        };
-    }
-    if bytes.list_streams / 20 < rows.list_streams {
-        return Room::Short {
-            table: 9,
-            rows: rows.list_streams,
-        };
-    }
-    Room::Enough
 }
 
 // The rows needed of each table beside the bytes lent, lowest table first.
-pub fn table_room(rows: Rows, bytes: Rows) -> Room
+pub fn table_room(rows: Rows, bytes: Rows) -> Result<(), TableShort>
     ensures { result ≡ room_of rows bytes }
 {
-    if bytes.atcs / 12 < rows.atcs {
-        return Room::Short {
-            table: 1,
-            rows: rows.atcs,
-        };
-    }
-    if bytes.stcs / 16 < rows.stcs {
-        return Room::Short {
-            table: 2,
-            rows: rows.stcs,
-        };
-    }
-    if bytes.programs / 12 < rows.programs {
-        return Room::Short {
-            table: 3,
-            rows: rows.programs,
-        };
-    }
-    if bytes.streams / 20 < rows.streams {
-        return Room::Short {
-            table: 4,
-            rows: rows.streams,
-        };
-    }
-    if bytes.maps / 12 < rows.maps {
-        return Room::Short {
-            table: 5,
-            rows: rows.maps,
-        };
-    }
-    room_behind(rows, bytes)
+    room(1, 12, rows.atcs, bytes.atcs)?;
+    room(2, 16, rows.stcs, bytes.stcs)?;
+    room(3, 12, rows.programs, bytes.programs)?;
+    room(4, 20, rows.streams, bytes.streams)?;
+    room(5, 12, rows.maps, bytes.maps)?;
+    room(6, SIZE, rows.entries, bytes.entries)?;
+    room(7, 16, rows.extensions, bytes.extensions)?;
+    room(8, 12, rows.list_programs, bytes.list_programs)?;
+    room(9, 20, rows.list_streams, bytes.list_streams)
 }

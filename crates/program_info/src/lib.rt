@@ -8,48 +8,37 @@ ghost use Rattle.format.specs.Programs.{stream_at, next_stream, program_at, next
 ghost use Rattle.format.specs.Tables.{row_bytes_of, table_bytes};
 ghost use Rattle.common.specs.Reader.{moved_to};
 
-use cells::put_row3;
-use common::reader::{Moved, Number, Reader, read_count};
+use cells::put_row;
+use common::reader::{Reader, read_count};
 use numbers::{u8_at, u16_at, u32_at};
 use stream_coding_info::put_stream;
 
 // Past the stream at the reader and its body.
-fn skip_stream(file: &[u8], r: Reader) -> Moved
+fn skip_stream(file: &[u8], r: Reader) -> Option<Reader>
     ensures { result ≡ moved_to file.now (next_stream file.now r.pos) }
 {
-    let Number::Read(size, body) = read_count(file, r, 2) else {
-        return Moved::PastEnd;
-    };
+    let (size, body) = read_count(file, r, 2)?;
     body.skip(file, size as usize)
 }
 
 // Past the n streams at the reader.
-fn skip_streams(file: &[u8], r: Reader, n: usize) -> Moved
+fn skip_streams(file: &[u8], r: Reader, n: usize) -> Option<Reader>
     requires { r.pos ≤ length file.now }
     ensures { result ≡ moved_to file.now (end_of (next_stream file.now) r.pos n) }
 {
-    let mut pos = r.pos;
-    let mut k: usize = 0;
-    while k < n {
-        let Moved::At(next) = skip_stream(file, Reader { pos }) else {
-            return Moved::PastEnd;
-        };
-        pos = next.pos;
-        k += 1;
+    let mut next = r;
+    for _ in 0..n {
+        next = skip_stream(file, next)?;
     }
-    Moved::At(Reader { pos })
+    Some(next)
 }
 
 // Past the program at the reader and its streams.
-pub fn skip_program(file: &[u8], r: Reader) -> Moved
+pub fn skip_program(file: &[u8], r: Reader) -> Option<Reader>
     ensures { result ≡ moved_to file.now (next_program file.now r.pos) }
 {
-    let Number::Read(num_streams, spare) = read_count(file, r, 6) else {
-        return Moved::PastEnd;
-    };
-    let Moved::At(first) = spare.skip(file, 1) else {
-        return Moved::PastEnd;
-    };
+    let (num_streams, spare) = read_count(file, r, 6)?;
+    let first = spare.skip(file, 1)?;
     skip_streams(file, first, num_streams as usize)
 }
 
@@ -58,12 +47,10 @@ pub fn put_program(file: &[u8], p: usize, table: &mut [u8], at: usize)
     requires { (p + 8 ≤ length file.now) × (at + 12 ≤ length table.old) }
     ensures { table.new ≡ sets table.old at (row_bytes_of (program_at file.now p)) }
 {
-    put_row3(
+    put_row(
         table,
         at,
-        u32_at(file, p),
-        u16_at(file, p + 4),
-        u8_at(file, p + 6),
+        [u32_at(file, p), u16_at(file, p + 4), u8_at(file, p + 6)],
     );
 }
 
@@ -74,13 +61,9 @@ pub fn put_streams(file: &[u8], p: usize, n: usize, table: &mut [u8], at: usize)
     ensures table_after { table.new ≡ sets table.old at (table_bytes (rows_at (stream_at file.now) (next_stream file.now) p n)) }
 {
     let mut q = p;
-    let mut cell = at;
-    let mut k: usize = 0;
-    while k < n {
-        put_stream(file, q, table, cell);
+    for k in 0..n {
+        put_stream(file, q, table, at + 20 * k);
         q = q + 3 + u8_at(file, q + 2) as usize;
-        cell += 20;
-        k += 1;
     }
     q
 }

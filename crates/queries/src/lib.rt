@@ -1,27 +1,14 @@
-// What a question answers.
+// What a question answers: a refusal, or what was found.
 #![tactic(auto)]
 
+use refusals::Refusal;
 use ticks::{Ticks45, Ticks90};
 
-// A refusal, nothing, or a number: a row, a packet, a byte, a PID or minutes.
-#[derive(Clone, Copy)]
-pub enum Found {
-    Refused(u32),
-    Nothing,
-    Number(u64),
-}
+// Nothing, or a number: a row, a packet, a byte, a PID or minutes.
+pub type Found = Result<Option<u64>, Refusal>;
 
-// A refusal, or a time in 45 kHz ticks.
-#[derive(Clone, Copy)]
-pub enum Time45 {
-    Refused(u32),
-    Ticks(Ticks45),
-}
+// A time in 45 kHz ticks.
+pub type Time45 = Result<Ticks45, Refusal>;
 
-// A refusal, nothing, or a time in 90 kHz ticks.
-#[derive(Clone, Copy)]
-pub enum Time90 {
-    Refused(u32),
-    Nothing,
-    Ticks(Ticks90),
-}
+// Nothing, or a time in 90 kHz ticks.
+pub type Time90 = Result<Option<Ticks90>, Refusal>;

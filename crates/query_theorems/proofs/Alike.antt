@@ -2,23 +2,23 @@
 use Prim.Native.Nat.{ℕ}
 use mathlib.Core.Path.{◌≡◌, refl}
 use mathlib.Core.List.{List, [], ◌∷◌}
-use mathlib.Core.Bool.{Bool, true, false}
 use Rattle.format.specs.Questions.{parts_of, ask}
 use Rattle.format.specs.Questions as of
 use Rattle.ticks.specs.Times.{as90}
 use Rattle.queries.specs.Asked.{only_counts, only_scalars}
 use Rattle.ticks.specs.Times.{as_pts}
 use Rattle.ep_map_queries.specs.InMap.{seek_question}
+use Rattle.nearest.specs.declared.Side.{Side}
 use Rattle.theorems.specs.Rewriting.{Rewritable}
 use Rattle.query_theorems.specs.Alike.{Alike}
-use Rattle.query_theorems.proofs.Readings.{found, time45, time90, duration, bytes, own}
+use Rattle.query_theorems.proofs.Readings.{found, optional, time45, time90, duration, bytes, own}
 use Rattle.query_theorems.proofs.Calls.{from_table, from_tables, from_number, from_numbers}
 use Rattle.query_theorems.proofs.Held.{rate, packets, of_stcs, of_programs, of_streams, of_maps_lem, of_entries, of_atcs_lem, own_stcs, own_streams, own_entries}
 
 -- either way, a seek looks at the maps and the entries
-seek_parts : (is-after : Bool) (m at : ℕ) → parts_of (seek_question is-after m at) ≡ of.maps ∷ of.entries ∷ []
-seek_parts true m at = refl
-seek_parts false m at = refl
+seek_parts : (side : Side) (m at : ℕ) → parts_of (seek_question side m at) ≡ of.maps ∷ of.entries ∷ []
+seek_parts Side.After m at = refl
+seek_parts Side.AtOrBefore m at = refl
 
 module _ (f : List ℕ) (h : Rewritable f) where
   -- of each call: how its result is read, the law of its question with the other arguments `o`, and what its contract claims
@@ -39,8 +39,8 @@ module _ (f : List ℕ) (h : Rewritable f) where
     next_video_stream = from_table found (λ o. of_streams f h (of.next_video_stream o.0) refl) (λ x. x.allowed);
     next_audio_stream = from_table found (λ o. of_streams f h (of.next_audio_stream o.0) refl) (λ x. x.allowed);
     clip_byte_len = from_number bytes (λ o p. ask of.clip_byte_len (only_scalars (only_counts 0 p))) (packets f h) (λ x. x.allowed);
-    spn_to_byte = from_number found (λ o p. ask (of.spn_to_byte o.0) (only_scalars (only_counts 0 p))) (packets f h) (λ x. x.allowed);
-    byte_to_spn = from_number found (λ o p. ask (of.byte_to_spn o.0) (only_scalars (only_counts 0 p))) (packets f h) (λ x. x.allowed);
+    spn_to_byte = from_number optional (λ o p. ask (of.spn_to_byte o.0) (only_scalars (only_counts 0 p))) (packets f h) (λ x. x.allowed);
+    byte_to_spn = from_number optional (λ o p. ask (of.byte_to_spn o.0) (only_scalars (only_counts 0 p))) (packets f h) (λ x. x.allowed);
     transfer_duration_secs = from_numbers duration (λ o r p. ask of.transfer_duration_secs (only_scalars (only_counts r p))) (rate f h) (packets f h) (λ x. x.allowed.0);
     seek = from_tables found (λ o. of_entries f h (seek_question o.1.0 o.0 o.1.1.0.0) (seek_parts o.1.0 o.0 o.1.1.0.0)) (λ x. x.allowed);
     entries_of_map = from_tables own (λ o. own_entries f h o.0) (λ x. x.allowed);

@@ -8,7 +8,7 @@ use Rattle.query_theorems.specs.Calls.{Call, WithTable, table_of, behind, FromTa
 use Rattle.query_theorems.proofs.Readings.{Reading, same_result}
 
 -- two results that are read as equal answers
-told : {A B : Type 0} {read : A → B} → Reading read → {x y : A} {a b : B} → read x ≡ a → a ≡ b → read y ≡ b → x ≡ y
+pub told : {A B : Type 0} {read : A → B} → Reading read → {x y : A} {a b : B} → read x ≡ a → a ≡ b → read y ≡ b → x ≡ y
 told r {x} {y} p e q = same_result r x y (p ∙ e ∙ sym q)
 
 module _ {L Others R B : Type 0} {E : L → Type 0} {read : R → B} (r : Reading read) where

@@ -1,24 +1,25 @@
 -- Parts of lists: how a test of the front goes on behind a part, and what a place says.
-use Prim.Native.Nat.{ℕ, suc, ◌+◌, ◌*◌, ◌-◌, ◌/◌, ◌^◌, ◌<◌, ◌≤◌}
+use Prim.Native.Nat.{ℕ, suc, ◌+◌, ◌*◌, ◌/◌, ◌^◌, ◌<◌, ◌≤◌}
 use mathlib.Core.Path.{◌≡◌, refl, sym, ap, ◌∙◌}
 use mathlib.Core.List.{List, [], ◌∷◌, ◌++◌}
 use mathlib.Core.Bool.{Bool, true, false}
-use native.Mathlib.Nat.{add-zero, sub-zero}
 use native.Mathlib.Numerals.{add-one}
 use native.Mathlib.Omega.{arith}
 use lib.ListN.{length, get_or, take, drop, length-append, length-drop, take-append-drop, drop_of_length-le}
 use lib.Seq.{drop-cons, drop-drop, get_or-take, get_or-drop, ext_get_or, length-take-le}
 use lib.Dec.{leb, eqb}
 use borrow.Author.Tests.{le-leb, lt-leb, eq-eqb, ne_eqb, eqb-true, eqb-false, leb-true, leb-false}
+use Rattle.std.specs.Prelude.{Option, Some, None, nat_eq, ◌&&◌}
+use Rattle.std.specs.List.{starts_with as std_starts, slice_range}
+use Rattle.std.proofs.lemmas.Slice.{between_to_end, between_from_start}
 use Rattle.format.specs.Bytes.{IsBytes, both, pick, part}
 use Rattle.format.specs.Tables.{cell_at, cell_bytes, row_bytes_of}
 use Rattle.format.proofs.Tests.{both_true, true_both, both_assoc, left_fails, right_fails}
 use Rattle.format.proofs.Lists.{part_length}
-use Rattle.format.proofs.Loops.{one_left, none_left}
 use Rattle.format.proofs.Numbers.{Stands}
 use Rattle.format.proofs.Cells.{low_length, low_digits, low_back}
 use Rattle.format.proofs.Sweep.{row_bytes_lem}
-use Rattle.replay_bytes.specs.Parts.{starts_with, same_bytes, no_place, behind, behind_part}
+use Rattle.replay_bytes.specs.Parts.{starts_with, same_bytes, behind, behind_part}
 
 -- ---- tests
 
@@ -69,114 +70,112 @@ pub equal_same : (xs : List ℕ) → same_bytes xs xs ≡ true
 equal_same [] = refl
 equal_same (x ∷ xs) = true_both (eq-eqb x x refl) (equal_same xs)
 
+-- "and" in the library's words
+and_both : (b d : Bool) → (b && d) ≡ both b d
+and_both true d = refl
+and_both false d = refl
+
+-- the library's test is this one
+pub starts_is : (xs zs : List ℕ) → std_starts nat_eq zs xs ≡ starts_with xs zs
+starts_is [] zs = refl
+starts_is (x ∷ xs) [] = refl
+starts_is (x ∷ xs) (z ∷ zs) = and_both (eqb x z) (std_starts nat_eq zs xs) ∙ ap (both (eqb x z)) (starts_is xs zs)
+
 -- ---- places
 
 module _ (a : List ℕ) (at : ℕ) (xs : List ℕ) where
   -- bytes that stand from a place have a place behind them
-  pub stands : at ≤ length a → starts_with xs (drop at a) ≡ true → behind a at xs ≡ at + length xs
+  pub stands : at ≤ length a → starts_with xs (drop at a) ≡ true → behind a (Some at) xs ≡ Some (at + length xs)
   unfolding behind
   stands h e = rw (le-leb at (length a) h, e)
 
   -- other bytes have none
-  pub differs : starts_with xs (drop at a) ≡ false → behind a at xs ≡ no_place
+  pub differs : starts_with xs (drop at a) ≡ false → behind a (Some at) xs ≡ None
   unfolding behind
   differs e = rw (right_fails (leb at (length a)) e)
 
-  -- nor is there one behind a place that is none
-  pub no_place_lem : length a < at → behind a at xs ≡ no_place
+  -- nor is there one behind a place past the end
+  pub beyond : length a < at → behind a (Some at) xs ≡ None
   unfolding behind
-  no_place_lem h = rw (lt-leb at (length a) h)
+  beyond h = rw (lt-leb at (length a) h)
+
+-- from no place there is none
+pub behind_none : (a xs : List ℕ) → behind a None xs ≡ None
+unfolding behind
+behind_none a xs = refl
 
 -- from behind bytes that stand there, what stands behind both
 behind_on : (a : List ℕ) (at : ℕ) (xs ys : List ℕ) → at ≤ length a → at + length xs ≤ length a → starts_with xs (drop at a) ≡ true
-    → behind a (at + length xs) ys ≡ behind a at (xs ++ ys)
+    → behind a (Some (at + length xs)) ys ≡ behind a (Some at) (xs ++ ys)
 unfolding behind
 behind_on a at xs ys h room t =
     let more : at + length (xs ++ ys) ≡ at + length xs + length ys = rw length-append (omega arith) in
     rw (le-leb at (length a) h, le-leb (at + length xs) (length a) room, starts_append xs ys (drop at a), t, drop-drop (length xs) at a, more)
 
 -- behind two parts: behind the first, and then the second
-pub behind_append : (a : List ℕ) (at : ℕ) (xs ys : List ℕ) → length a < no_place → behind a (behind a at xs) ys ≡ behind a at (xs ++ ys)
-behind_append a at xs ys small = go (leb at (length a)) (starts_with xs (drop at a)) refl refl
+pub behind_append : (a : List ℕ) (place : Option ℕ) (xs ys : List ℕ) → behind a (behind a place xs) ys ≡ behind a place (xs ++ ys)
+behind_append a None xs ys = rw (behind_none a xs, behind_none a ys) (sym (behind_none a (xs ++ ys)))
+behind_append a (Some at) xs ys = go (leb at (length a)) (starts_with xs (drop at a)) refl refl
   where
-    go : (b d : Bool) → leb at (length a) ≡ b → starts_with xs (drop at a) ≡ d → behind a (behind a at xs) ys ≡ behind a at (xs ++ ys)
+    go : (b d : Bool) → leb at (length a) ≡ b → starts_with xs (drop at a) ≡ d → behind a (behind a (Some at) xs) ys ≡ behind a (Some at) (xs ++ ys)
     go true true e t =
         let h = leb-true at (length a) e in
         let room : at + length xs ≤ length a = omega (arith, starts_fits xs (drop at a) t, length-drop at a) in
-        ap (λ (p : ℕ). behind a p ys) (stands a at xs h t) ∙ behind_on a at xs ys h room t
+        ap (λ p. behind a p ys) (stands a at xs h t) ∙ behind_on a at xs ys h room t
     go true false e t =
-        ap (λ (p : ℕ). behind a p ys) (differs a at xs t) ∙ no_place_lem a no_place ys small
+        ap (λ p. behind a p ys) (differs a at xs t) ∙ behind_none a ys
         ∙ sym (differs a at (xs ++ ys) (starts_append xs ys (drop at a) ∙ left_fails (starts_with ys (drop (length xs) (drop at a))) t))
     go false d e t =
         let h = leb-false at (length a) e in
-        ap (λ (p : ℕ). behind a p ys) (no_place_lem a at xs h) ∙ no_place_lem a no_place ys small ∙ sym (no_place_lem a at (xs ++ ys) h)
+        ap (λ p. behind a p ys) (beyond a at xs h) ∙ behind_none a ys ∙ sym (beyond a at (xs ++ ys) h)
 
 -- ---- a part of another list
 
-module _ (a : List ℕ) (at : ℕ) (o : List ℕ) (from n : ℕ) where
+module _ (a : List ℕ) (place : Option ℕ) (o : List ℕ) (from n : ℕ) where
   -- a part that the other list has
-  pub part_inside : from + n ≤ length o → behind_part a at o from n ≡ behind a at (part o from n)
+  pub part_inside : from + n ≤ length o → behind_part a place o from n ≡ behind a place (part o from n)
   unfolding behind_part
   part_inside h = rw (le-leb (from + n) (length o) h)
 
   -- and one that it has not
-  pub part_outside : length o < from + n → no_place ≡ behind_part a at o from n
+  pub part_outside : length o < from + n → None ≡ behind_part a place o from n
   unfolding behind_part
   part_outside h = rw (lt-leb (from + n) (length o) h)
 
-  -- no place stays none
-  pub part_no_place : length a < at → no_place ≡ behind_part a at o from n
-  unfolding behind_part
-  part_no_place h = rw (no_place_lem a at (part o from n) h) (either_way (leb (from + n) (length o)))
-    where
-      -- whichever way the test goes
-      either_way : (b : Bool) → no_place ≡ pick b no_place no_place
-      either_way true = refl
-      either_way false = refl
+-- from no place no part is passed
+pub part_none : (a o : List ℕ) (from n : ℕ) → behind_part a None o from n ≡ None
+unfolding behind_part
+part_none a o from n = rw (behind_none a (part o from n)) (either_way (leb (from + n) (length o)))
+  where
+    -- whichever way the test goes
+    either_way : (b : Bool) → ◌≡◌ {A = Option ℕ} (pick b None None) None
+    either_way true = refl
+    either_way false = refl
 
-  -- a part that passes the answer's end
-  pub part_too_long : at ≤ length a → length a < at + n → no_place ≡ behind_part a at o from n
-  unfolding behind_part
-  part_too_long k h = by_test (leb (from + n) (length o)) refl
-    where
-      by_test : (b : Bool) → leb (from + n) (length o) ≡ b → no_place ≡ pick b (behind a at (part o from n)) no_place
-      by_test true e =
-          let size = part_length o from n (leb-true (from + n) (length o) e) in
-          sym (differs a at (part o from n) (starts_short (part o from n) (drop at a) (omega (arith, length-drop at a))))
-      by_test false e = refl
+module _ (a : List ℕ) (at : ℕ) (o : List ℕ) (from n : ℕ) where
+  -- no part stands behind a place past the end
+  pub part_beyond : length a < at → from + n ≤ length o → None ≡ behind_part a (Some at) o from n
+  part_beyond h room = sym (part_inside a (Some at) o from n room ∙ beyond a at (part o from n) h)
 
-  -- what is left after i bytes that are the same decides
-  pub record Same (i : ℕ) : Type 0 where
-    pub turns : i ≤ n
-    pub rest : starts_with (part o (from + i) (n - i)) (drop (at + i) a) ≡ starts_with (part o from n) (drop at a)
+  module _ (inside : from + n ≤ length o) {xs rest : List ℕ} (part-is : xs ≡ part o from n) (rest-is : rest ≡ drop at a) where
+    -- the library's test is that of the part
+    test_is : std_starts nat_eq rest xs ≡ starts_with (part o from n) (drop at a)
+    test_is = rw (part-is, rest-is) (starts_is (part o from n) (drop at a))
 
-  -- before the first byte
-  pub none_same : Same 0
-  none_same = record { turns = omega arith; rest = rw (add-zero from, add-zero at, sub-zero n) }
+    -- a part that stands there
+    pub part_stands : at ≤ length a → std_starts nat_eq rest xs ≡ true → Some (at + n) ≡ behind_part a (Some at) o from n
+    part_stands h e =
+        sym (part_inside a (Some at) o from n inside
+        ∙ stands a at (part o from n) h (sym test_is ∙ e)
+        ∙ ap (λ (m : ℕ). Some (at + m)) (part_length o from n inside))
 
-  module _ (inside : at + n ≤ length a) (in-other : from + n ≤ length o) {i : ℕ} (h : i < n) (s : Same i) where
-    -- a byte and what is left behind it
-    byte : starts_with (part o (from + i) (n - i)) (drop (at + i) a)
-        ≡ both (eqb (get_or o (from + i) 0) (get_or a (at + i) 0)) (starts_with (part o (from + (i + 1)) (n - (i + 1))) (drop (at + (i + 1)) a))
-    byte =
-        let next : (p : ℕ) → suc (p + i) ≡ p + (i + 1) = λ p. omega arith in
-        rw (one_left n i h, drop-cons o (from + i) 0 (omega arith), drop-cons a (at + i) 0 (omega arith), next from, next at)
+    -- and one that doesn't
+    pub part_differs : std_starts nat_eq rest xs ≡ false → None ≡ behind_part a (Some at) o from n
+    part_differs e = sym (part_inside a (Some at) o from n inside ∙ differs a at (part o from n) (sym test_is ∙ e))
 
-    -- a byte that is the same leaves the rest to decide
-    pub one_same : get_or a (at + i) 0 ≡ get_or o (from + i) 0 → Same (i + 1)
-    one_same e = record { turns = omega arith; rest = sym (rw (eq-eqb (get_or o (from + i) 0) (get_or a (at + i) 0) (sym e)) at byte) ∙ s.rest }
-
-    -- a byte that is not decides
-    pub one_differs : (get_or a (at + i) 0 ≡ get_or o (from + i) 0 → ⊥) → no_place ≡ behind_part a at o from n
-    one_differs ne =
-        let no : eqb (get_or o (from + i) 0) (get_or a (at + i) 0) ≡ false = ne_eqb (get_or o (from + i) 0) (get_or a (at + i) 0) (λ e. ne (sym e)) in
-        sym (part_inside in-other ∙ differs a at (part o from n) (sym s.rest ∙ (byte ∙ rw no)))
-
-  -- after the last byte
-  pub all_same : at + n ≤ length a → from + n ≤ length o → {i : ℕ} → n ≤ i → Same i → at + n ≡ behind_part a at o from n
-  all_same inside in-other {i} h s =
-      let e : starts_with (part o from n) (drop at a) ≡ true = sym s.rest ∙ rw (none_left n i h) in
-      sym (part_inside in-other ∙ stands a at (part o from n) (omega arith) e ∙ ap (λ (m : ℕ). at + m) (part_length o from n in-other))
+-- the part that is cut out of the front of what stands from a place
+pub cut_part : (o : List ℕ) (from n : ℕ) {rest xs : List ℕ} → rest ≡ slice_range o from (length o) → xs ≡ slice_range rest 0 n → xs ≡ part o from n
+cut_part o from n {rest} e f = f ∙ between_from_start rest n ∙ ap (take n) (e ∙ between_to_end o from (length o) (omega arith))
 
 -- ---- cells
 
@@ -238,7 +237,7 @@ module _ (a numbers : List ℕ) where
   none_told = record { turns = omega arith; rest = refl }
 
   -- an answer with fewer cells has not all of them
-  pub too_few_cells : length a / 4 < length numbers → no_place ≡ behind a 0 (row_bytes_of numbers)
+  pub too_few_cells : length a / 4 < length numbers → None ≡ behind a (Some 0) (row_bytes_of numbers)
   too_few_cells h = sym (differs a 0 (row_bytes_of numbers) (starts_short (row_bytes_of numbers) a (omega (arith, row_bytes_lem numbers))))
 
   module _ (bytes : IsBytes a) (inside : length numbers ≤ length a / 4) {i : ℕ} (h : i < length numbers) (narrow : get_or numbers i 0 < 2 ^ 32) (s : Told i) where
@@ -258,13 +257,13 @@ module _ (a numbers : List ℕ) where
     one_told e = record { turns = omega arith; rest = sym (rw (eq-eqb (cell_at a (4 * i)) (get_or numbers i 0) e) at number) ∙ s.rest }
 
     -- a number that is not decides
-    pub one_untold : (cell_at a (4 * i) ≡ get_or numbers i 0 → ⊥) → no_place ≡ behind a 0 (row_bytes_of numbers)
+    pub one_untold : (cell_at a (4 * i) ≡ get_or numbers i 0 → ⊥) → None ≡ behind a (Some 0) (row_bytes_of numbers)
     one_untold ne =
         sym (differs a 0 (row_bytes_of numbers) (sym s.rest ∙ (number ∙ rw (ne_eqb (cell_at a (4 * i)) (get_or numbers i 0) ne))))
 
   -- after the last number
-  pub all_told : {i : ℕ} → length numbers ≤ i → Told i → 4 * i ≡ behind a 0 (row_bytes_of numbers)
+  pub all_told : {i : ℕ} → length numbers ≤ i → Told i → Some (4 * length numbers) ≡ behind a (Some 0) (row_bytes_of numbers)
   all_told {i} h s =
       let turns = s.turns in
       let none : drop i numbers ≡ [] = drop_of_length-le numbers h in
-      sym (stands a 0 (row_bytes_of numbers) (omega arith) (sym s.rest ∙ rw none) ∙ omega (arith, row_bytes_lem numbers))
+      sym (stands a 0 (row_bytes_of numbers) (omega arith) (sym s.rest ∙ rw none) ∙ ap Some (omega (arith, row_bytes_lem numbers)))

@@ -1,5 +1,5 @@
--- Bytes held against a stored answer: the place behind them, or no place.
-use Rattle.std.specs.Prelude.{ℕ, ◌+◌, List, [], ◌∷◌, Bool, true, false, length, drop, leb, eqb}
+-- Bytes held against a stored answer: the place behind them, if they stand there.
+use Rattle.std.specs.Prelude.{ℕ, ◌+◌, List, [], ◌∷◌, Bool, true, false, Option, Some, None, length, drop, leb, eqb}
 use Rattle.format.specs.Bytes.{part, both, pick}
 
 -- ---- tests of lists
@@ -19,18 +19,15 @@ same_bytes (x ∷ xs) (y ∷ ys) = both (eqb x y) (same_bytes xs ys)
 
 -- ---- places
 
--- no place: no answer is so long
-abbrev pub no_place : ℕ
-no_place = 18446744073709551615
-
 -- these bytes stand in the answer from place `at`, which is in it or at its end
 abbrev pub stands_at : List ℕ → ℕ → List ℕ → Bool
 stands_at answer at bytes = both (leb at (length answer)) (starts_with bytes (drop at answer))
 
--- the place behind these bytes, where they stand in the answer from `at`
-unfoldable pub behind : List ℕ → ℕ → List ℕ → ℕ
-behind answer at bytes = pick (stands_at answer at bytes) (at + length bytes) no_place
+-- the place behind these bytes, where they stand in the answer from a place
+unfoldable pub behind : List ℕ → Option ℕ → List ℕ → Option ℕ
+behind answer None bytes = None
+behind answer (Some at) bytes = pick (stands_at answer at bytes) (Some (at + length bytes)) None
 
--- the place behind the n bytes of the other list from `from`, where it has so many and they stand in the answer from `at`
-unfoldable pub behind_part : List ℕ → ℕ → List ℕ → ℕ → ℕ → ℕ
-behind_part answer at other from n = pick (leb (from + n) (length other)) (behind answer at (part other from n)) no_place
+-- the place behind the n bytes of the other list from `from`, where it has so many and they stand in the answer from a place
+unfoldable pub behind_part : List ℕ → Option ℕ → List ℕ → ℕ → ℕ → Option ℕ
+behind_part answer place other from n = pick (leb (from + n) (length other)) (behind answer place (part other from n)) None

@@ -5,10 +5,11 @@ use mathlib.Core.List.{List, [], ◌∷◌, ◌++◌, append_assoc, append-nil}
 use native.Mathlib.Nat.{add-zero}
 use native.Mathlib.Numerals.{add-one}
 use native.Mathlib.Omega.{arith}
-use lib.ListN.{length, get_or, take, drop, length-drop}
+use lib.ListN.{length, get_or, take, drop, length-drop, take-append-drop}
 use lib.Seq.{take-add, take-suc, take-length, take_all, drop-drop, length-take-le}
 use lib.Dec.{lit<}
 use borrow.Author.Tests.{le-leb, lt-ltb, leb-true}
+use Rattle.std.specs.Prelude.{Option, Some, None}
 use Rattle.format.specs.Bytes.{IsBytes, part}
 use Rattle.format.specs.ClipRecord.{Row}
 use Rattle.format.specs.Tables.{cell_bytes, row_room, rows_of, table_rows_of, extension_cells, stated}
@@ -17,10 +18,10 @@ use Rattle.format.specs.Refusals.{extension_row, data_refusal, data_asked}
 use Rattle.format.proofs.Cell.{cell_of, cell_room}
 use Rattle.format.proofs.Loops.{flat_append}
 use Rattle.format.proofs.Rows.{rows_length}
-use Rattle.replay_bytes.specs.Parts.{no_place, behind, behind_part}
+use Rattle.replay_bytes.specs.Parts.{behind, behind_part}
 use Rattle.replay_case.specs.Expected.{extension_bytes}
 use Rattle.replay_case.specs.Places.{extensions_bytes, DataInside}
-use Rattle.replay_bytes.proofs.PartLaws.{behind_append, stands, part_inside, cell_part}
+use Rattle.replay_bytes.proofs.PartLaws.{behind_append, behind_none, stands, part_inside, cell_part}
 
 -- ---- one row
 
@@ -58,10 +59,10 @@ module _ (f t : List ℕ) (bytes : IsBytes t) (n k : ℕ) (holds : DataInside f 
       length-take-le (data_length e) (drop (data_start e) f) (omega (arith, length-drop (data_start e) f))
 
   -- what is passed is the extension
-  pub one_extension : (a : List ℕ) (at : ℕ) {p q r : ℕ} {d : List ℕ} → length a < no_place → p ≡ behind_part a at t (16 * k) 8
+  pub one_extension : (a : List ℕ) (at : Option ℕ) {p q r : Option ℕ} {d : List ℕ} → p ≡ behind_part a at t (16 * k) 8
       → q ≡ behind_part a p t (16 * k + 12) 4 → d ≡ data_asked f (stated t n) k → r ≡ behind_part a q d 0 (length d)
       → r ≡ behind a at (extension_bytes (extension_of f e))
-  one_extension a at {p} {q} {r} {d} small e1 e2 ed e3 =
+  one_extension a at {p} {q} {r} {d} e1 e2 ed e3 =
       let both_ids = cell_bytes (first_id e) ++ cell_bytes (second_id e) in
       let size = cell_bytes (data_length e) in
       let bytes_of = data_of f e in
@@ -74,7 +75,7 @@ module _ (f t : List ℕ) (bytes : IsBytes t) (n k : ℕ) (holds : DataInside f 
       let r-is : r ≡ behind a q d = e3 ∙ part_inside a q d 0 (length d) (omega arith) ∙ ap (behind a q) (take-length d) in
       let cells : (both_ids ++ size) ++ bytes_of ≡ extension_bytes (extension_of f e) =
       rw (size_is, append_assoc (cell_bytes (first_id e)) (cell_bytes (second_id e)) size, append-nil size) in
-      r-is ∙ rw (is, q-is, p-is, behind_append a at both_ids size small, behind_append a at (both_ids ++ size) bytes_of small, cells)
+      r-is ∙ rw (is, q-is, p-is, behind_append a at both_ids size, behind_append a at (both_ids ++ size) bytes_of, cells)
 
 -- ---- the rows in turn
 
@@ -91,23 +92,39 @@ module _ (a : List ℕ) (at : ℕ) (f t : List ℕ) (n : ℕ) where
   -- the place after k rows
   pub record Passed (p k : ℕ) : Type 0 where
     pub turns : k ≤ n
-    pub place : p ≡ behind a at (extensions_bytes f (take k rows))
+    pub place : Some p ≡ behind a (Some at) (extensions_bytes f (take k rows))
 
   -- before the first row
   pub none_passed : at ≤ length a → Passed at 0
-  none_passed h = record { turns = omega arith; place = sym (stands a at [] h refl ∙ add-zero at) }
+  none_passed h = record { turns = omega arith; place = sym (stands a at [] h refl ∙ ap Some (add-zero at)) }
 
-  -- past one more
-  pub one_passed : {p k r : ℕ} → length a < no_place → k < n → Passed p k → r ≡ behind a p (extension_bytes (extension_of f (extension_row (stated t n) k)))
-      → Passed r (k + 1)
-  one_passed {p} {k} {r} small h s e =
+  -- the place after one more, or none
+  after_one : {p k : ℕ} {r : Option ℕ} → k < n → Passed p k → r ≡ behind a (Some p) (extension_bytes (extension_of f (extension_row (stated t n) k)))
+      → r ≡ behind a (Some at) (extensions_bytes f (take (k + 1) rows))
+  after_one {p} {k} {r} h s e =
       let x = extension_bytes (extension_of f (get_or rows k [])) in
       let before = extensions_bytes f (take k rows) in
       let more : extensions_bytes f (take (k + 1) rows) ≡ before ++ x =
       rw (add-one k, take-suc rows k [] (rw count h))
       (flat_append (λ row. extension_bytes (extension_of f row)) (take k rows) (get_or rows k [] ∷ []) ∙ rw (append-nil x)) in
-      record { turns = omega arith; place = e ∙ rw (s.place, behind_append a at before x small, more) }
+      e ∙ rw (s.place, behind_append a (Some at) before x, more)
+
+  -- past one more
+  pub one_passed : {p k q : ℕ} {r : Option ℕ} → k < n → Passed p k → r ≡ behind a (Some p) (extension_bytes (extension_of f (extension_row (stated t n) k)))
+      → r ≡ Some q → Passed q (k + 1)
+  one_passed h s e is = record { turns = omega arith; place = sym is ∙ after_one h s e }
+
+  -- an extension that is not there ends the passing
+  pub none_there : {p k : ℕ} {r : Option ℕ} → k < n → Passed p k → r ≡ behind a (Some p) (extension_bytes (extension_of f (extension_row (stated t n) k)))
+      → r ≡ None → None ≡ behind a (Some at) (extensions_bytes f rows)
+  none_there {p} {k} h s e is =
+      let front = extensions_bytes f (take (k + 1) rows) in
+      let rest = extensions_bytes f (drop (k + 1) rows) in
+      let none : None ≡ behind a (Some at) front = sym is ∙ after_one h s e in
+      let whole : extensions_bytes f rows ≡ front ++ rest =
+      ap (extensions_bytes f) (sym (take-append-drop (k + 1) rows)) ∙ flat_append (λ row. extension_bytes (extension_of f row)) (take (k + 1) rows) (drop (k + 1) rows) in
+      sym (ap (behind a (Some at)) whole ∙ sym (behind_append a (Some at) front rest) ∙ rw (← none) (behind_none a rest))
 
   -- past the last
-  pub all_passed : {p k : ℕ} → n ≤ k → Passed p k → p ≡ behind a at (extensions_bytes f rows)
+  pub all_passed : {p k : ℕ} → n ≤ k → Passed p k → Some p ≡ behind a (Some at) (extensions_bytes f rows)
   all_passed {p} {k} h s = s.place ∙ rw (take_all k rows (rw count h))

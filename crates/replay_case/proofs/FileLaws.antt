@@ -8,7 +8,9 @@ use native.Mathlib.Omega.{arith}
 use lib.ListN.{length, get_or, drop, length-append}
 use lib.Seq.{take_at}
 use lib.Dec.{leb, eqb, lit<}
-use borrow.Author.Tests.{leb-true, le-leb, eqb-true, eqb-false, ne_eqb}
+use borrow.Author.Tests.{leb-true, le-leb, eqb-true, eqb-false}
+use Rattle.std.specs.Prelude.{Option, Some, nat_eq}
+use Rattle.std.specs.Option.{option_eq}
 use Rattle.format.specs.Bytes.{IsBytes, pick, be_at, gather, flat}
 use Rattle.format.specs.ClipRecord.{Row, extensions_start, entry_cells}
 use Rattle.format.specs.Programs.{program_at, next_stream, stream_at, streams_of, next_program, programs_from, streams_from}
@@ -27,9 +29,9 @@ use Rattle.format.proofs.Read.{good_clip}
 use Rattle.format.proofs.Listing.{accepted_is}
 use Rattle.clpi_reading.specs.declared.ClpiReading.{ClpiReading}
 use Rattle.clpi_reading.specs.Numbers.{reading_numbers}
-use Rattle.replay_bytes.specs.Parts.{starts_with, same_bytes, no_place, behind}
+use Rattle.replay_bytes.specs.Parts.{starts_with, same_bytes, behind}
 use Rattle.replay_case.specs.Expected.{sample_tables, extension_bytes, record_bytes, answer_bytes, expected}
-use Rattle.replay_case.specs.Places.{behind_rows, behind_streams, behind_lists, extensions_bytes, DataInside}
+use Rattle.replay_case.specs.Places.{behind_rows, behind_file, extensions_bytes, DataInside}
 use Rattle.replay_bytes.proofs.PartLaws.{part_inside, behind_append, starts_same, same_short, stands, differs}
 
 -- ---- the cells of a row
@@ -89,7 +91,7 @@ module _ (f : List ℕ) (bytes : IsBytes f) (small : length f ≤ 536870912) (st
 -- ---- tables that were filled
 
 -- the first rows of a filled table are the rows that were put there
-table_behind : (a : List ℕ) (at cells : ℕ) (rows : List Row) (old : List ℕ) {t : List ℕ} {n : ℕ} → HaveCells cells rows → t ≡ overwritten (table_bytes rows) old → n ≡ length rows
+table_behind : (a : List ℕ) (at : Option ℕ) (cells : ℕ) (rows : List Row) (old : List ℕ) {t : List ℕ} {n : ℕ} → HaveCells cells rows → t ≡ overwritten (table_bytes rows) old → n ≡ length rows
     → behind_rows a at cells t n ≡ behind a at (table_bytes rows)
 table_behind a at cells rows old {t} {n} have e m =
     let new = table_bytes rows in
@@ -101,18 +103,16 @@ table_behind a at cells rows old {t} {n} have e m =
 -- ---- the end
 
 -- bytes from the front that end where the answer ends are the answer
-pub ends_same : (a xs : List ℕ) → length a < no_place → eqb (behind a 0 xs) (length a) ≡ same_bytes xs a
-ends_same a xs small = by_tests (starts_with xs a) (eqb (length xs) (length a)) refl refl
+pub ends_same : (a xs : List ℕ) → option_eq nat_eq (behind a (Some 0) xs) (Some (length a)) ≡ same_bytes xs a
+ends_same a xs = by_tests (starts_with xs a) (eqb (length xs) (length a)) refl refl
   where
-    by_tests : (b d : Bool) → starts_with xs a ≡ b → eqb (length xs) (length a) ≡ d → eqb (behind a 0 xs) (length a) ≡ same_bytes xs a
+    by_tests : (b d : Bool) → starts_with xs a ≡ b → eqb (length xs) (length a) ≡ d → option_eq nat_eq (behind a (Some 0) xs) (Some (length a)) ≡ same_bytes xs a
     by_tests true true s e =
         rw (stands a 0 xs (omega arith) s, zero-add (length xs), e) (sym s ∙ starts_same xs a (sym (eqb-true (length xs) (length a) e)))
     by_tests true false s e =
         rw (stands a 0 xs (omega arith) s, zero-add (length xs), e) (sym (same_short xs a (λ h. eqb-false (length xs) (length a) e (sym h))))
-    by_tests false true s e =
-        rw (differs a 0 xs s, ne_eqb no_place (length a) (λ h. omega arith)) (sym s ∙ starts_same xs a (sym (eqb-true (length xs) (length a) e)))
-    by_tests false false s e =
-        rw (differs a 0 xs s, ne_eqb no_place (length a) (λ h. omega arith)) (sym (same_short xs a (λ h. eqb-false (length xs) (length a) e (sym h))))
+    by_tests false true s e = rw (differs a 0 xs s) (sym s ∙ starts_same xs a (sym (eqb-true (length xs) (length a) e)))
+    by_tests false false s e = rw (differs a 0 xs s) (sym (same_short xs a (λ h. eqb-false (length xs) (length a) e (sym h))))
 
 -- ---- refused or accepted
 
@@ -201,37 +201,37 @@ module _ (f : List ℕ) (bytes : IsBytes f) (r : ClpiReading) (t : Nine (List �
   -- of any table: the rows that the answer states are passed as the file's
   rows_behind : (cells n : ℕ) (of : Nine (List ℕ) → List ℕ) (rs : List Row) → HaveCells cells rs → n ≡ length rs
       → of (tables_after f sample_tables) ≡ table_by (read_answer f sample_tables) rs (of sample_tables)
-      → (a : List ℕ) (at : ℕ) → behind_rows a at cells (of t) n ≡ behind a at (table_bytes rs)
+      → (a : List ℕ) (at : Option ℕ) → behind_rows a at cells (of t) n ≡ behind a at (table_bytes rs)
   rows_behind cells n of rs have count is a at =
       table_behind a at cells rs (of sample_tables) have (ap of after ∙ is ∙ ap (λ x. table_by x rs (of sample_tables)) answer_is) count
 
   -- table 1
-  atcs_behind : (a : List ℕ) (at : ℕ) → behind_rows a at atc_cells t.atcs r.atcs ≡ behind a at (table_bytes rows.atcs)
+  atcs_behind : (a : List ℕ) (at : Option ℕ) → behind_rows a at atc_cells t.atcs r.atcs ≡ behind a at (table_bytes rows.atcs)
   unfolding tables_after tables_of record_of stated_of
   atcs_behind = rows_behind atc_cells r.atcs (λ x. x.atcs) rows.atcs (all_map (λ row c. c.count) shape.atcs) (number_is 12) refl
 
   -- table 2
-  stcs_behind : (a : List ℕ) (at : ℕ) → behind_rows a at stc_cells t.stcs r.stcs ≡ behind a at (table_bytes rows.stcs)
+  stcs_behind : (a : List ℕ) (at : Option ℕ) → behind_rows a at stc_cells t.stcs r.stcs ≡ behind a at (table_bytes rows.stcs)
   unfolding tables_after tables_of record_of stated_of
   stcs_behind = rows_behind stc_cells r.stcs (λ x. x.stcs) rows.stcs (all_map (λ row c. c.count) shape.stcs) (number_is 13) refl
 
   -- table 3
-  programs_behind : (a : List ℕ) (at : ℕ) → behind_rows a at program_cells t.programs r.programs ≡ behind a at (table_bytes rows.programs)
+  programs_behind : (a : List ℕ) (at : Option ℕ) → behind_rows a at program_cells t.programs r.programs ≡ behind a at (table_bytes rows.programs)
   unfolding tables_after tables_of record_of stated_of
   programs_behind = rows_behind program_cells r.programs (λ x. x.programs) rows.programs (all_map (λ row c. c.count) shape.programs) (number_is 14) refl
 
   -- table 4
-  streams_behind_lem : (a : List ℕ) (at : ℕ) → behind_rows a at stream_cells t.streams r.streams ≡ behind a at (table_bytes rows.streams)
+  streams_behind_lem : (a : List ℕ) (at : Option ℕ) → behind_rows a at stream_cells t.streams r.streams ≡ behind a at (table_bytes rows.streams)
   unfolding tables_after tables_of record_of stated_of
   streams_behind_lem = rows_behind stream_cells r.streams (λ x. x.streams) rows.streams (all_map (λ row c. c.count) shape.streams) (number_is 15) refl
 
   -- table 5
-  maps_behind : (a : List ℕ) (at : ℕ) → behind_rows a at map_cells t.maps r.maps ≡ behind a at (table_bytes rows.maps)
+  maps_behind : (a : List ℕ) (at : Option ℕ) → behind_rows a at map_cells t.maps r.maps ≡ behind a at (table_bytes rows.maps)
   unfolding tables_after tables_of record_of stated_of
   maps_behind = rows_behind map_cells r.maps (λ x. x.maps) rows.maps (all_map (λ row c. c.count) shape.maps) (number_is 16) refl
 
   -- table 6
-  entries_behind : (a : List ℕ) (at : ℕ) → behind_rows a at entry_cells t.entries r.entries ≡ behind a at (table_bytes rows.entries)
+  entries_behind : (a : List ℕ) (at : Option ℕ) → behind_rows a at entry_cells t.entries r.entries ≡ behind a at (table_bytes rows.entries)
   unfolding tables_after tables_of record_of stated_of
   entries_behind = rows_behind entry_cells r.entries (λ x. x.entries) rows.entries (all_map (λ row c. c.count) shape.entries) (number_is 17) refl
 
@@ -241,12 +241,12 @@ module _ (f : List ℕ) (bytes : IsBytes f) (r : ClpiReading) (t : Nine (List �
   second_list = let l = list_data (extensions_from f (extensions_start f)) in list_cells (list_in l) l
 
   -- table 8
-  list_programs_behind : (a : List ℕ) (at : ℕ) → behind_rows a at program_cells t.list_programs r.list_programs ≡ behind a at (table_bytes rows.list_programs)
+  list_programs_behind : (a : List ℕ) (at : Option ℕ) → behind_rows a at program_cells t.list_programs r.list_programs ≡ behind a at (table_bytes rows.list_programs)
   unfolding tables_after stated_of
   list_programs_behind = rows_behind program_cells r.list_programs (λ x. x.list_programs) rows.list_programs second_list.0 (number_is 19) refl
 
   -- table 9
-  list_streams_behind : (a : List ℕ) (at : ℕ) → behind_rows a at stream_cells t.list_streams r.list_streams ≡ behind a at (table_bytes rows.list_streams)
+  list_streams_behind : (a : List ℕ) (at : Option ℕ) → behind_rows a at stream_cells t.list_streams r.list_streams ≡ behind a at (table_bytes rows.list_streams)
   unfolding tables_after stated_of
   list_streams_behind = rows_behind stream_cells r.list_streams (λ x. x.list_streams) rows.list_streams second_list.1 (number_is 20) refl
 
@@ -294,45 +294,45 @@ module _ (f : List ℕ) (bytes : IsBytes f) (r : ClpiReading) (t : Nine (List �
       ap (λ x. answer_bytes x (record_of f)) answer_is
       ∙ ap (λ (l : List ℕ). row_bytes_of l ++ record_bytes (record_of f)) (sym numbers_are)
 
-  module _ (a : List ℕ) (small : length a < no_place) where
+  module _ (a : List ℕ) where
     -- the places one behind the other: behind the numbers
-    abbrev p0 : ℕ
-    p0 = behind a 0 (row_bytes_of (reading_numbers r))
+    abbrev p0 : Option ℕ
+    p0 = behind a (Some 0) (row_bytes_of (reading_numbers r))
 
     -- behind table 1
-    abbrev p1 : ℕ
+    abbrev p1 : Option ℕ
     p1 = behind a p0 (table_bytes rows.atcs)
 
     -- behind table 2
-    abbrev p2 : ℕ
+    abbrev p2 : Option ℕ
     p2 = behind a p1 (table_bytes rows.stcs)
 
     -- behind table 3
-    abbrev p3 : ℕ
+    abbrev p3 : Option ℕ
     p3 = behind a p2 (table_bytes rows.programs)
 
     -- behind table 4
-    abbrev p4 : ℕ
+    abbrev p4 : Option ℕ
     p4 = behind a p3 (table_bytes rows.streams)
 
     -- behind table 5
-    abbrev p5 : ℕ
+    abbrev p5 : Option ℕ
     p5 = behind a p4 (table_bytes rows.maps)
 
     -- behind table 6
-    abbrev p6 : ℕ
+    abbrev p6 : Option ℕ
     p6 = behind a p5 (table_bytes rows.entries)
 
     -- behind table 8
-    abbrev p7 : ℕ
+    abbrev p7 : Option ℕ
     p7 = behind a p6 (table_bytes rows.list_programs)
 
     -- behind table 9
-    abbrev p8 : ℕ
+    abbrev p8 : Option ℕ
     p8 = behind a p7 (table_bytes rows.list_streams)
 
     -- the place behind all of them is the one behind the whole
-    place_is : behind a p8 (flat extension_bytes (record_of f).extensions) ≡ behind a 0 (expected f)
+    place_is : behind a p8 (flat extension_bytes (record_of f).extensions) ≡ behind a (Some 0) (expected f)
     unfolding record_bytes tables_of
     place_is =
         let e = flat extension_bytes (record_of f).extensions in
@@ -344,24 +344,20 @@ module _ (f : List ℕ) (bytes : IsBytes f) (r : ClpiReading) (t : Nine (List �
         let b3 = table_bytes rows.programs ++ b4 in
         let b2 = table_bytes rows.stcs ++ b3 in
         let b1 = table_bytes rows.atcs ++ b2 in
-        behind_append a p7 (table_bytes rows.list_streams) e small
-        ∙ behind_append a p6 (table_bytes rows.list_programs) b8 small
-        ∙ behind_append a p5 (table_bytes rows.entries) b7 small
-        ∙ behind_append a p4 (table_bytes rows.maps) b6 small
-        ∙ behind_append a p3 (table_bytes rows.streams) b5 small
-        ∙ behind_append a p2 (table_bytes rows.programs) b4 small
-        ∙ behind_append a p1 (table_bytes rows.stcs) b3 small
-        ∙ behind_append a p0 (table_bytes rows.atcs) b2 small
-        ∙ behind_append a 0 (row_bytes_of (reading_numbers r)) b1 small
-        ∙ ap (behind a 0) (sym whole)
+        behind_append a p7 (table_bytes rows.list_streams) e
+        ∙ behind_append a p6 (table_bytes rows.list_programs) b8
+        ∙ behind_append a p5 (table_bytes rows.entries) b7
+        ∙ behind_append a p4 (table_bytes rows.maps) b6
+        ∙ behind_append a p3 (table_bytes rows.streams) b5
+        ∙ behind_append a p2 (table_bytes rows.programs) b4
+        ∙ behind_append a p1 (table_bytes rows.stcs) b3
+        ∙ behind_append a p0 (table_bytes rows.atcs) b2
+        ∙ behind_append a (Some 0) (row_bytes_of (reading_numbers r)) b1
+        ∙ ap (behind a (Some 0)) (sym whole)
 
     -- the place where the passing ends tells whether the answer is the whole
-    pub file_same : {p q z : ℕ} → p ≡ behind_streams a r t.atcs t.stcs t.programs t.streams
-        → q ≡ behind_lists a p r t.maps t.entries t.list_programs t.list_streams
-        → z ≡ behind a q (extensions_bytes f (rows_of extension_cells (stated t.extensions r.extensions)))
-        → eqb z (length a) ≡ same_bytes (expected f) a
-    file_same {p} {q} {z} e1 e2 e3 =
-        let first : p ≡ p4 = e1 ∙ rw (atcs_behind a p0, stcs_behind a p1, programs_behind a p2, streams_behind_lem a p3) in
-        let second : q ≡ p8 = e2 ∙ rw (first, maps_behind a p4, entries_behind a p5, list_programs_behind a p6, list_streams_behind a p7) in
-        let last : z ≡ behind a 0 (expected f) = e3 ∙ rw (second, extensions_bytes_lem, place_is) in
-        rw last (ends_same a (expected f) small)
+    pub file_same : {place : Option ℕ} → place ≡ behind_file a f r t.atcs t.stcs t.programs t.streams t.maps t.entries t.extensions t.list_programs t.list_streams
+        → option_eq nat_eq place (Some (length a)) ≡ same_bytes (expected f) a
+    file_same e =
+        let all = rw (atcs_behind a p0, stcs_behind a p1, programs_behind a p2, streams_behind_lem a p3, maps_behind a p4, entries_behind a p5, list_programs_behind a p6, list_streams_behind a p7, extensions_bytes_lem) at e in
+        rw (all, place_is) (ends_same a (expected f))

@@ -1,8 +1,7 @@
 // A stored sample of the Rust's answers: how many cases it has, and how many of them are read as the Rust read them.
 #![tactic(auto)]
 
-ghost use Rattle.std.specs.Prelude.{◌≡◌, ◌+◌, ◌^◌, ◌≤◌, ◌<◌, length};
-ghost use Rattle.format.specs.Refusals.{flag};
+ghost use Rattle.std.specs.Prelude.{◌≡◌, ◌+◌, ◌≤◌, length};
 ghost use Rattle.replay_cases.specs.Sample.{case_same, cases_of, tally_of};
 
 use cells::cell_at;
@@ -15,41 +14,32 @@ pub struct Tally {
     pub same: usize,
 }
 
-// Whether the file of n bytes at `at` is read as the answer of m bytes behind it says.
-fn is_case_same(sample: &[u8], at: usize, n: usize, m: usize) -> bool
-    requires { at + n + m ≤ length sample.now }
-    ensures { result ≡ case_same sample.now at n m }
+// Whether the file of n bytes behind the two cells of a case is read as the answer of m bytes behind it says.
+fn is_case_same(case: &[u8], n: usize, m: usize) -> bool
+    requires { 8 + n + m ≤ length case.now }
+    ensures { result ≡ case_same case.now 8 n m }
 {
-    let middle = at + n;
+    let middle = 8 + n;
     let end = middle + m;
-    is_same(&sample[at..middle], &sample[middle..end])
-}
-
-// The count with one more where the case is the same.
-fn one_more(count: usize, is_same: bool) -> usize
-    requires { count + 1 < 2 ^ 64 }
-    ensures { result ≡ count + flag is_same }
-{
-    if is_same { count + 1 } else { count }
+    is_same(&case[8..middle], &case[middle..end])
 }
 
 // Goes through the cases: two cells with the lengths of file and answer, then both.
 pub fn replay(sample: &[u8]) -> Tally
     ensures { result ≡ tally_of (cases_of sample.now) }
 {
-    let mut cases: usize = 0;
-    let mut same: usize = 0;
-    let mut at: usize = 0;
-    while sample.len() - at >= 8 {
-        let n = cell_at(sample, at) as usize;
-        let m = cell_at(sample, at + 4) as usize;
-        let from = at + 8;
-        if n + m > sample.len() - from {
-            return Tally { cases, same };
+    let mut cases = 0;
+    let mut same = 0;
+    let mut rest = sample;
+    while rest.len() >= 8 {
+        let n = cell_at(rest, 0) as usize;
+        let m = cell_at(rest, 4) as usize;
+        if n + m > rest.len() - 8 {
+            break;
         }
-        same = one_more(same, is_case_same(sample, from, n, m));
+        same += usize::from(is_case_same(rest, n, m));
         cases += 1;
-        at = from + n + m;
+        rest = &rest[8 + n + m..];
     }
     Tally { cases, same }
 }

@@ -1,3 +1,4 @@
 -- Laws that the proofs of this crate, and of its callers, cite.
 pub mod Refusals
 pub mod Rooms
+pub mod Plans

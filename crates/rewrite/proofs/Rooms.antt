@@ -20,6 +20,7 @@ use Rattle.rewrite_sections.proofs.Lengths.{sequences_long}
 use Rattle.rewrite_cpi.specs.Cpi.{CpiRoom}
 use Rattle.encode_measure.proofs.Parts.{place_programs, place_cpi, place_marks, InOrder, placed_order}
 use Rattle.rewrite.specs.Rewrite.{Ready}
+use Rattle.rewrite.specs.declared.measure.Plan.{Plan}
 use Rattle.rewrite.proofs.Refusals.{passed, marks_short}
 
 module _ (f : List ℕ) where
@@ -33,17 +34,17 @@ module _ (f : List ℕ) where
   pub programs_size : {start n : ℕ} → start ≡ programs_start f → n ≡ length (new_programs f start) → n ≡ length (programs_bytes (clip_of f))
   programs_size here is = rw here at is ∙ ap length (sym (programs_of_lem f))
 
-  module _ {atcs stcs maps programs cpi marks size : ℕ} (b : IsBytes f) (r : Ready f atcs stcs maps programs cpi marks size) where
+  module _ {plan : Plan} {size : ℕ} (b : IsBytes f) (r : Ready f plan size) where
     -- the file is accepted
     pub accepted : refusal_of f ≡ 0
     accepted = (passed f r.rewritable).0
 
     -- the places are in order
-    pub in_order : InOrder programs cpi marks size
+    pub in_order : InOrder plan.programs plan.cpi plan.marks size
     in_order = placed_order (clip_of f) (marks_short f b r.rewritable) r.placed
 
     -- the sequences
-    pub sequences_room : {start : ℕ} (out : List ℕ) → start ≡ sequences_start f → length out ≡ size → SequencesRoom f start atcs stcs out 220
+    pub sequences_room : {start : ℕ} (out : List ℕ) → start ≡ sequences_start f → length out ≡ size → SequencesRoom f start plan.atcs plan.stcs out 220
     unfolding clip_of
     sequences_room out here same =
         let long = sequences_size b accepted r.atcs_are r.stcs_are in
@@ -55,9 +56,9 @@ module _ (f : List ℕ) where
         })
 
     -- the programs
-    pub programs_room : {start : ℕ} (out : List ℕ) → start ≡ programs_start f → length out ≡ size → ProgramsRoom f start (cpi - programs) out programs
+    pub programs_room : {start : ℕ} (out : List ℕ) → start ≡ programs_start f → length out ≡ size → ProgramsRoom f start (plan.cpi - plan.programs) out plan.programs
     programs_room out here same =
-        let long : cpi - programs ≡ length (programs_bytes (clip_of f)) = omega (arith, r.placed.programs_at, r.placed.cpi_at, place_cpi (clip_of f)) in
+        let long : plan.cpi - plan.programs ≡ length (programs_bytes (clip_of f)) = omega (arith, r.placed.programs_at, r.placed.cpi_at, place_cpi (clip_of f)) in
         rw here (record {
           ends = (sound f accepted).programs_in;
           size_is = long ∙ ap length (programs_of_lem f);
@@ -65,10 +66,10 @@ module _ (f : List ℕ) where
         })
 
     -- the CPI
-    pub cpi_room : {start : ℕ} (bytes : ℕ) → start ≡ cpi_start f → bytes ≡ size → CpiRoom f start maps (marks - cpi) bytes cpi
+    pub cpi_room : {start : ℕ} (bytes : ℕ) → start ≡ cpi_start f → bytes ≡ size → CpiRoom f start plan.maps (plan.marks - plan.cpi) bytes plan.cpi
     unfolding clip_of runs_fit cpi_bytes
     cpi_room bytes here same =
-        let long : marks - cpi ≡ length (cpi_bytes (clip_of f)) = omega (arith, r.placed.cpi_at, r.placed.marks_at, place_marks (clip_of f)) in
+        let long : plan.marks - plan.cpi ≡ length (cpi_bytes (clip_of f)) = omega (arith, r.placed.cpi_at, r.placed.marks_at, place_marks (clip_of f)) in
         rw here (record {
           section = cpi_section f accepted refl r.maps_are;
           runs_few = (passed f r.rewritable).1;

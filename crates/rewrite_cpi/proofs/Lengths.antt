@@ -18,7 +18,8 @@ use Rattle.ep_entries.specs.Body.{CpiSection, body_of, entries_in}
 use Rattle.ep_entries.specs.declared.body.MapBody.{MapBody}
 use Rattle.ep_entries.proofs.Bodies.{own_count, Left, left_first, left_next}
 use Rattle.encode_cpi.specs.Cpi.{few_runs, cpi_length_of}
-use Rattle.encode_cpi.specs.declared.Length.{Length}
+use Rattle.refusals.specs.declared.Refusal.{Refusal}
+use Rattle.std.specs.Prelude.{Ok, Err}
 use Rattle.encode_cpi.proofs.Lengths.{cpi_size}
 use Rattle.rewrite_cpi.proofs.Maps.{head_at, maps_left, entries_left, maps_all, entries_all, maps_count, maps_done, every_turn, bodies_turn}
 
@@ -77,14 +78,14 @@ module _ (f : List ℕ) (c count : ℕ) where
         }
 
     -- it has
-    pub measured_refused : 65535 < r → Length.TooManyRuns ≡ cpi_length_of (maps_from f c) (entries_from f c)
+    pub measured_refused : 65535 < r → Err Refusal.Runs ≡ cpi_length_of (maps_from f c) (entries_from f c)
     unfolding cpi_length_of
     measured_refused many =
         let fails = lt-leb (runs (entries_of f c (head_at f c count k))) 65535 (rw (← runs_are) many) in
         rw (← i.fits, every_turn f c count k h few_runs, fails)
 
   -- all are measured
-  pub measured_done : (len k : ℕ) → CpiSection f c count → MeasuredBefore len k → count ≤ k → (count ≡ 0 → ⊥) → Length.Bytes len ≡ cpi_length_of (maps_from f c) (entries_from f c)
+  pub measured_done : (len k : ℕ) → CpiSection f c count → MeasuredBefore len k → count ≤ k → (count ≡ 0 → ⊥) → Ok len ≡ cpi_length_of (maps_from f c) (entries_from f c)
   unfolding cpi_length_of
   measured_done len k s i h some =
       let passes : every_map few_runs (maps_from f c) (entries_from f c) ≡ true = sym i.fits ∙ rw (maps_done f c count k h) in
@@ -95,7 +96,7 @@ module _ (f : List ℕ) (c count : ℕ) where
       rw (passes, long)
 
   -- without maps there are four bytes
-  pub measured_none : CpiSection f c count → count ≡ 0 → Length.Bytes 4 ≡ cpi_length_of (maps_from f c) (entries_from f c)
+  pub measured_none : CpiSection f c count → count ≡ 0 → Ok 4 ≡ cpi_length_of (maps_from f c) (entries_from f c)
   unfolding cpi_length_of
   measured_none s z =
       let first = measured_first s in

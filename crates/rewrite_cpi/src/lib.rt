@@ -9,97 +9,86 @@ ghost use Rattle.encode_cpi.specs.Cpi.{cpi_length_of};
 ghost use Rattle.ep_entries.specs.Body.{CpiSection};
 ghost use Rattle.rewrite_cpi.specs.Cpi.{MapRoom, MapsRoom, CpiRoom};
 
-use encode_cpi::{Length, put_top};
+use encode_cpi::put_top;
 use ep_entries::body::map_body;
+use ep_rows::MapHeader;
 use map_rows::put_header;
 use map_runs::body::put_body;
 use map_runs::walked::count_runs;
 use numbers::{put_u32, u8_at, u16_at};
+use refusals::Refusal;
+use rewrite_program::Places;
 
 // The bytes of a map's header.
 const MAP: usize = 12;
 
-// The most coarse rows that a map can count.
+// The most coarse rows that a map can count, told here too: the edit too_many_runs_by_one changes it for this crate alone.
 const MOST_RUNS: usize = 65535;
 
 // The length of the new section of a file whose section starts at `start` and has `count` maps.
-pub fn cpi_length(file: &[u8], start: usize, count: usize) -> Length
+pub fn cpi_length(file: &[u8], start: usize, count: usize) -> Result<usize, Refusal>
     requires { CpiSection file.now start count }
     ensures { result ≡ cpi_length_of (maps_from file.now start) (entries_from file.now start) }
 {
     if count == 0 {
-        return Length::Bytes(4);
+        return Ok(4);
     }
     let mut len = 8 + MAP * count;
-    let mut k: usize = 0;
-    while k < count {
+    for k in 0..count {
         let m = map_body(file, start, start + 8 + MAP * k);
         let runs = count_runs(file, m);
         if runs > MOST_RUNS {
-            return Length::TooManyRuns;
+            return Err(Refusal::Runs);
         }
         len += 4 + 8 * runs + 4 * m.num_fine;
-        k += 1;
     }
-    Length::Bytes(len)
+    Ok(len)
 }
 
-// Map k of the file's section: its body from `body`, and its header in the new section that starts at `at`. Addresses count from six bytes behind that start. Answers the place behind the body.
-fn put_map(file: &[u8], start: usize, k: usize, out: &mut [u8], at: usize, body: usize) -> usize
-    requires { MapRoom file.now start k (length out.old) at body }
-    ensures value { result ≡ body + length (body_bytes (entries_of file.now start (start + 8 + 12 * k))) }
-    ensures out_after { out.new ≡ sets (sets out.old body (body_bytes (entries_of file.now start (start + 8 + 12 * k)))) (at + 8 + 12 * k) (header_bytes (map_at file.now (start + 8 + 12 * k)) (entries_of file.now start (start + 8 + 12 * k)) (body - (at + 6))) }
+// Map k of the section: its body from `body`, and its header in the new section. Addresses count from six bytes behind that section's start. Answers the place behind the body.
+fn put_map(file: &[u8], k: usize, from: Places, out: &mut [u8], body: usize) -> usize
+    requires { MapRoom file.now from.file k (length out.old) from.out body }
+    ensures value { result ≡ body + length (body_bytes (entries_of file.now from.file (from.file + 8 + 12 * k))) }
+    ensures out_after { out.new ≡ sets (sets out.old body (body_bytes (entries_of file.now from.file (from.file + 8 + 12 * k)))) (from.out + 8 + 12 * k) (header_bytes (map_at file.now (from.file + 8 + 12 * k)) (entries_of file.now from.file (from.file + 8 + 12 * k)) (body - (from.out + 6))) }
 {
-    let q = start + 8 + MAP * k;
-    let m = map_body(file, start, q);
+    let q = from.file + 8 + MAP * k;
+    let m = map_body(file, from.file, q);
     let pid = u16_at(file, q);
-    let address = (body - (at + 6)) as u32;
+    let address = (body - (from.out + 6)) as u32;
     let runs = put_body(file, m, out, body);
-    put_header(
-        pid,
-        m.kind,
-        runs as u32,
-        m.num_fine as u32,
-        address,
-        out,
-        at + 8 + MAP * k,
-    );
+    let header = MapHeader {
+        ep_stream_type: m.kind,
+        num_coarse: runs as u32,
+        num_fine: m.num_fine as u32,
+    };
+    put_header(pid, header, address, out, from.out + 8 + MAP * k);
     body + 4 + 8 * runs + 4 * m.num_fine
 }
 
-// The headers of the file's maps, and behind them the bodies, in the new section that starts at `at`. Answers the place behind them.
-fn put_maps(file: &[u8], start: usize, count: usize, out: &mut [u8], at: usize) -> usize
-    requires { MapsRoom file.now start count (length out.old) at }
-    ensures value { result ≡ at + 8 + 12 * count + length (bodies (maps_from file.now start) (entries_from file.now start)) }
-    ensures out_after { out.new ≡ sets out.old (at + 8) (headers (maps_from file.now start) (entries_from file.now start) (2 + 12 * count) ++ bodies (maps_from file.now start) (entries_from file.now start)) }
+// The headers of the section's maps, and behind them the bodies, in the new section. Answers the place behind them.
+fn put_maps(file: &[u8], count: usize, from: Places, out: &mut [u8]) -> usize
+    requires { MapsRoom file.now from.file count (length out.old) from.out }
+    ensures value { result ≡ from.out + 8 + 12 * count + length (bodies (maps_from file.now from.file) (entries_from file.now from.file)) }
+    ensures out_after { out.new ≡ sets out.old (from.out + 8) (headers (maps_from file.now from.file) (entries_from file.now from.file) (2 + 12 * count) ++ bodies (maps_from file.now from.file) (entries_from file.now from.file)) }
 {
-    let mut body = at + 8 + MAP * count;
-    let mut k: usize = 0;
-    while k < count {
-        body = put_map(file, start, k, out, at, body);
-        k += 1;
+    let mut body = from.out + 8 + MAP * count;
+    for k in 0..count {
+        body = put_map(file, k, from, out, body);
     }
     body
 }
 
-// The new section, which has `len` bytes, from `at`: without maps a length of 0 alone. With maps their number is read once more, since it is a byte. Answers the place behind the section.
-pub fn put_cpi(
-    file: &[u8],
-    start: usize,
-    count: usize,
-    len: usize,
-    out: &mut [u8],
-    at: usize,
-) -> usize
-    requires { CpiRoom file.now start count len (length out.old) at }
-    ensures value { result ≡ at + len }
-    ensures out_after { out.new ≡ sets out.old at (cpi_bytes_by (maps_from file.now start) (entries_from file.now start)) }
+// The new section of the one with `count` maps, `len` bytes long, at its place: without maps a length of 0 alone. With maps their number is read once more, since it is a byte. Answers the place behind the section.
+pub fn put_cpi(file: &[u8], from: Places, count: usize, len: usize, out: &mut [u8]) -> usize
+    requires { CpiRoom file.now from.file count len (length out.old) from.out }
+    ensures value { result ≡ from.out + len }
+    ensures out_after { out.new ≡ sets out.old from.out (cpi_bytes_by (maps_from file.now from.file) (entries_from file.now from.file)) }
 {
     if count == 0 {
-        put_u32(out, at, 0);
-        return at + 4;
+        put_u32(out, from.out, 0);
+        return from.out + 4;
     }
-    let n = u8_at(file, start + 7);
-    put_top((len - 4) as u32, n, out, at);
-    put_maps(file, start, n as usize, out, at)
+    let n = u8_at(file, from.file + 7);
+    put_top((len - 4) as u32, n, out, from.out);
+    put_maps(file, n as usize, from, out)
 }

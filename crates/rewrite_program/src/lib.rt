@@ -26,13 +26,13 @@ fn stream_row(file: &[u8], p: usize) -> Row
     ensures { row5 result ≡ stream_at file.now p }
 {
     let s = stream_at(file, p);
-    Row {
-        cell0: s.pid,
-        cell1: s.stream_coding_type,
-        cell2: s.format_info_byte,
-        cell3: s.aspect_ratio_nibble,
-        cell4: s.language_code,
-    }
+    [
+        s.pid,
+        s.stream_coding_type,
+        s.format_info_byte,
+        s.aspect_ratio_nibble,
+        s.language_code,
+    ]
 }
 
 // Where the stream behind the one at p stands.
@@ -43,29 +43,31 @@ fn next_stream(file: &[u8], p: usize) -> usize
     p + 3 + u8_at(file, p + 2) as usize
 }
 
-// Where the n streams at p end: in the file, and in an output that has their new bytes from `at` on.
-fn measure_streams(file: &[u8], p: usize, n: usize, at: usize) -> Places
-    requires { (end_of (next_stream file.now) p n ≤ length file.now) × (at + length (new_streams file.now p n) < 2 ^ 32) }
-    ensures { result ≡ streams_behind file.now p n at }
+// Where the n streams end that begin at these places: in the file, and in an output that has their new bytes.
+// A loop of its own beside that of `put_streams`: one walk for both would take a trait of sinks and its laws for these two lines.
+fn measure_streams(file: &[u8], n: usize, from: Places) -> Places
+    requires { (end_of (next_stream file.now) from.file n ≤ length file.now) × (from.out + length (new_streams file.now from.file n) < 2 ^ 32) }
+    ensures { result ≡ streams_behind file.now from.file n from.out }
 {
-    let mut q = p;
-    let mut to = at;
-    let mut k: usize = 0;
-    while k < n {
-        to += row_length(RowKind::Stream, stream_row(file, q));
-        q = next_stream(file, q);
-        k += 1;
+    let mut to = from;
+    for _ in 0..n {
+        to.out += row_length(RowKind::Stream, stream_row(file, to.file));
+        to.file = next_stream(file, to.file);
     }
-    Places { file: q, out: to }
+    to
 }
 
-// Where the program at p ends with its streams, in the same way.
-pub fn measure_program(file: &[u8], p: usize, at: usize) -> Places
-    requires { (next_program file.now p ≤ length file.now) × (at + length (new_program file.now p) < 2 ^ 32) }
-    ensures { result ≡ program_behind file.now p at }
+// Where the program ends with its streams that begins at these places, in the same way.
+pub fn measure_program(file: &[u8], from: Places) -> Places
+    requires { (next_program file.now from.file ≤ length file.now) × (from.out + length (new_program file.now from.file) < 2 ^ 32) }
+    ensures { result ≡ program_behind file.now from.file from.out }
 {
-    let num_streams = u8_at(file, p + 6) as usize;
-    measure_streams(file, p + 8, num_streams, at + 8)
+    let num_streams = u8_at(file, from.file + 6) as usize;
+    let streams = Places {
+        file: from.file + 8,
+        out: from.out + 8,
+    };
+    measure_streams(file, num_streams, streams)
 }
 
 // The program at p as a row by value.
@@ -73,40 +75,41 @@ fn program_row(file: &[u8], p: usize) -> Row
     requires { p + 8 ≤ length file.now }
     ensures { row3 result ≡ program_at file.now p }
 {
-    Row {
-        cell0: u32_at(file, p),
-        cell1: u16_at(file, p + 4),
-        cell2: u8_at(file, p + 6),
-        cell3: 0,
-        cell4: 0,
-    }
+    [
+        u32_at(file, p),
+        u16_at(file, p + 4),
+        u8_at(file, p + 6),
+        0,
+        0,
+    ]
 }
 
-// Stores the new bytes of the n streams at p from `at` on; answers the places behind them.
-fn put_streams(file: &[u8], p: usize, n: usize, out: &mut [u8], at: usize) -> Places
-    requires { (end_of (next_stream file.now) p n ≤ length file.now) × (at + length (new_streams file.now p n) ≤ length out.old) }
-    ensures value { result ≡ streams_behind file.now p n at }
-    ensures out_after { out.new ≡ sets out.old at (new_streams file.now p n) }
+// Stores the new bytes of the n streams that begin at these places; answers the places behind them.
+fn put_streams(file: &[u8], n: usize, from: Places, out: &mut [u8]) -> Places
+    requires { (end_of (next_stream file.now) from.file n ≤ length file.now) × (from.out + length (new_streams file.now from.file n) ≤ length out.old) }
+    ensures value { result ≡ streams_behind file.now from.file n from.out }
+    ensures out_after { out.new ≡ sets out.old from.out (new_streams file.now from.file n) }
 {
-    let mut q = p;
-    let mut to = at;
-    let mut k: usize = 0;
-    while k < n {
-        to = put_row(RowKind::Stream, stream_row(file, q), out, to);
-        q = next_stream(file, q);
-        k += 1;
+    let mut to = from;
+    for _ in 0..n {
+        to.out = put_row(RowKind::Stream, stream_row(file, to.file), out, to.out);
+        to.file = next_stream(file, to.file);
     }
-    Places { file: q, out: to }
+    to
 }
 
-// Stores the new bytes of the program at p and of its streams; answers the places behind them.
-pub fn put_program(file: &[u8], p: usize, out: &mut [u8], at: usize) -> Places
-    requires { (next_program file.now p ≤ length file.now) × (at + length (new_program file.now p) ≤ length out.old) }
-    ensures value { result ≡ program_behind file.now p at }
-    ensures out_after { out.new ≡ sets out.old at (new_program file.now p) }
+// Stores the new bytes of the program that begins at these places, and of its streams; answers the places behind them.
+pub fn put_program(file: &[u8], from: Places, out: &mut [u8]) -> Places
+    requires { (next_program file.now from.file ≤ length file.now) × (from.out + length (new_program file.now from.file) ≤ length out.old) }
+    ensures value { result ≡ program_behind file.now from.file from.out }
+    ensures out_after { out.new ≡ sets out.old from.out (new_program file.now from.file) }
 {
-    let row = program_row(file, p);
-    let to = put_row(RowKind::Program, row, out, at);
-    let num_streams = u8_at(file, p + 6) as usize;
-    put_streams(file, p + 8, num_streams, out, to)
+    let row = program_row(file, from.file);
+    let behind = put_row(RowKind::Program, row, out, from.out);
+    let num_streams = u8_at(file, from.file + 6) as usize;
+    let streams = Places {
+        file: from.file + 8,
+        out: behind,
+    };
+    put_streams(file, num_streams, streams, out)
 }

@@ -1,7 +1,7 @@
 -- How long the new sections are: counts are bytes, so that each length fits its four.
 use Prim.Native.Nat.{ℕ, ◌+◌, ◌*◌, ◌^◌, ◌<◌, ◌≤◌}
 use mathlib.Core.Path.{◌≡◌, refl, ap, ◌∙◌}
-use mathlib.Core.List.{List}
+use mathlib.Core.List.{List, [], ◌∷◌}
 use native.Mathlib.Omega.{arith}
 use lib.ListN.{length, length-append}
 use Rattle.format.specs.Bytes.{IsBytes, be_at, part}
@@ -11,7 +11,6 @@ use Rattle.format.specs.Rewriting.{program_bytes, stream_bytes}
 use Rattle.format.proofs.Counts.{gather_few, byte_few}
 use Rattle.format.proofs.Rows.{rows_length}
 use Rattle.row_values.specs.declared.RowKind.{RowKind}
-use Rattle.row_values.specs.declared.Row as value
 use Rattle.row_values.proofs.Lengths.{program_length, row_short}
 use Rattle.section_heads.proofs.Stored.{section_head, section_head_lem}
 use Rattle.rewrite_program.specs.Programs.{new_streams, new_program}
@@ -44,7 +43,7 @@ module _ (f : List ℕ) (bytes : IsBytes f) where
       let size = be_at f (q + 2) 1 in
       let coding = coding_at f (q + 3) size in
       let v = is_video coding in
-      let row : value.Row = record { cell0 = be_at f q 2; cell1 = coding; cell2 = format_at f (q + 3) size; cell3 = aspect_at v f (q + 3) size; cell4 = language_at v f (q + 3) size } in
+      let row : List ℕ = be_at f q 2 ∷ coding ∷ format_at f (q + 3) size ∷ aspect_at v f (q + 3) size ∷ language_at v f (q + 3) size ∷ [] in
       row_short RowKind.Stream row
 
   -- a program with its streams

@@ -8,43 +8,31 @@ ghost use Rattle.format.specs.Programs.{next_program, programs_end};
 ghost use Rattle.rewrite_sections.specs.Sections.{new_sequences, SequencesRoom, new_items, new_programs, ProgramsRoom};
 
 use numbers::{copy, u8_at};
-use rewrite_program::{measure_program, put_program};
+use rewrite_program::{Places, measure_program, put_program};
 use section_heads::put_head;
 
-// Stores the new sequences from `at` on, behind their head the very bytes of the old ones; answers the place behind.
-pub fn put_sequences(
-    file: &[u8],
-    start: usize,
-    atcs: usize,
-    stcs: usize,
-    out: &mut [u8],
-    at: usize,
-) -> usize
-    requires { SequencesRoom file.now start atcs stcs out.old at }
-    ensures value { result ≡ at + (6 + 6 * atcs + 14 * stcs) }
-    ensures out_after { out.new ≡ sets out.old at (new_sequences file.now start) }
+// Stores the new sequences at their place, behind their head the very bytes of the old ones; answers the place behind.
+pub fn put_sequences(file: &[u8], from: Places, atcs: usize, stcs: usize, out: &mut [u8]) -> usize
+    requires { SequencesRoom file.now from.file atcs stcs out.old from.out }
+    ensures value { result ≡ from.out + (6 + 6 * atcs + 14 * stcs) }
+    ensures out_after { out.new ≡ sets out.old from.out (new_sequences file.now from.file) }
 {
     let items = 6 * atcs + 14 * stcs;
-    put_head((2 + items) as u32, atcs as u32, out, at);
-    copy(file, start + 6, items, out, at + 6);
-    at + 6 + items
+    put_head((2 + items) as u32, atcs as u32, out, from.out);
+    copy(file, from.file + 6, items, out, from.out + 6);
+    from.out + 6 + items
 }
 
-// Where the new bytes of the n programs at p end in an output that has them from `at` on.
-fn measure_items(file: &[u8], p: usize, n: usize, at: usize) -> usize
-    requires { (end_of (next_program file.now) p n ≤ length file.now) × (at + length (new_items file.now p n) < 2 ^ 32) }
-    ensures { result ≡ at + length (new_items file.now p n) }
+// Where the new bytes of the n programs end that begin at these places. Beside `put_items` for the reason that `measure_streams` has beside `put_streams`.
+fn measure_items(file: &[u8], n: usize, from: Places) -> usize
+    requires { (end_of (next_program file.now) from.file n ≤ length file.now) × (from.out + length (new_items file.now from.file n) < 2 ^ 32) }
+    ensures { result ≡ from.out + length (new_items file.now from.file n) }
 {
-    let mut q = p;
-    let mut to = at;
-    let mut k: usize = 0;
-    while k < n {
-        let behind = measure_program(file, q, to);
-        q = behind.file;
-        to = behind.out;
-        k += 1;
+    let mut to = from;
+    for _ in 0..n {
+        to = measure_program(file, to);
     }
-    to
+    to.out
 }
 
 // How long the new programs are.
@@ -53,34 +41,37 @@ pub fn programs_length(file: &[u8], start: usize) -> usize
     ensures { result ≡ length (new_programs file.now start) }
 {
     let num_programs = u8_at(file, start + 5) as usize;
-    measure_items(file, start + 6, num_programs, 6)
+    let items = Places {
+        file: start + 6,
+        out: 6,
+    };
+    measure_items(file, num_programs, items)
 }
 
-// Stores the new bytes of the n programs at p from `at` on; answers the place behind them.
-fn put_items(file: &[u8], p: usize, n: usize, out: &mut [u8], at: usize) -> usize
-    requires { (end_of (next_program file.now) p n ≤ length file.now) × (at + length (new_items file.now p n) ≤ length out.old) }
-    ensures value { result ≡ at + length (new_items file.now p n) }
-    ensures out_after { out.new ≡ sets out.old at (new_items file.now p n) }
+// Stores the new bytes of the n programs that begin at these places; answers the place behind them.
+fn put_items(file: &[u8], n: usize, from: Places, out: &mut [u8]) -> usize
+    requires { (end_of (next_program file.now) from.file n ≤ length file.now) × (from.out + length (new_items file.now from.file n) ≤ length out.old) }
+    ensures value { result ≡ from.out + length (new_items file.now from.file n) }
+    ensures out_after { out.new ≡ sets out.old from.out (new_items file.now from.file n) }
 {
-    let mut q = p;
-    let mut to = at;
-    let mut k: usize = 0;
-    while k < n {
-        let behind = put_program(file, q, out, to);
-        q = behind.file;
-        to = behind.out;
-        k += 1;
+    let mut to = from;
+    for _ in 0..n {
+        to = put_program(file, to, out);
     }
-    to
+    to.out
 }
 
-// Stores the new programs, which are `size` bytes long, from `at` on; answers the place behind.
-pub fn put_programs(file: &[u8], start: usize, size: usize, out: &mut [u8], at: usize) -> usize
-    requires { ProgramsRoom file.now start size out.old at }
-    ensures value { result ≡ at + size }
-    ensures out_after { out.new ≡ sets out.old at (new_programs file.now start) }
+// Stores the new programs, which are `size` bytes long, at their place; answers the place behind.
+pub fn put_programs(file: &[u8], from: Places, size: usize, out: &mut [u8]) -> usize
+    requires { ProgramsRoom file.now from.file size out.old from.out }
+    ensures value { result ≡ from.out + size }
+    ensures out_after { out.new ≡ sets out.old from.out (new_programs file.now from.file) }
 {
-    let num_programs = u8_at(file, start + 5);
-    put_head((size - 4) as u32, num_programs, out, at);
-    put_items(file, start + 6, num_programs as usize, out, at + 6)
+    let num_programs = u8_at(file, from.file + 5);
+    put_head((size - 4) as u32, num_programs, out, from.out);
+    let items = Places {
+        file: from.file + 6,
+        out: from.out + 6,
+    };
+    put_items(file, num_programs as usize, items, out)
 }

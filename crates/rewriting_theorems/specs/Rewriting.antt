@@ -54,24 +54,15 @@ tables_left x =
 
 -- the scalars and the six tables that it is given, each with its rows
 abbrev pub given_to : Call write.Post → ClipTables
-given_to w =
-    stated_tables
-    (scalars_by w.arguments.0)
-    w.arguments.1.0
-    w.arguments.1.1.0.now
-    w.arguments.1.1.1.0.now
-    w.arguments.1.1.1.1.0.now
-    w.arguments.1.1.1.1.1.0.now
-    w.arguments.1.1.1.1.1.1.0.now
-    w.arguments.1.1.1.1.1.1.1.0.now
+given_to w = stated_tables (scalars_by w.arguments.0) w.arguments.1.0
 
 -- the output as it is lent
 abbrev pub output_given : Call write.Post → List ℕ
-output_given w = w.arguments.1.1.1.1.1.1.1.1.0.now
+output_given w = w.arguments.1.1.0.now
 
 -- and as the call leaves it
 abbrev pub output_left : Call write.Post → List ℕ
-output_left w = w.exit.1.1.1.1.1.1.1.1.0.now
+output_left w = w.exit.1.1.0.now
 
 -- the new file: as many bytes from the output's front as the call says it wrote
 abbrev pub new_file : Call write.Post → List ℕ

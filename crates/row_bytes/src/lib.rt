@@ -1,7 +1,7 @@
 // Rows of the sequences and programs, given by value, stored as their bytes in a file.
 #![tactic(auto)]
 
-ghost use Rattle.std.specs.Prelude.{◌≡◌, [], ◌∷◌, ◌+◌, ◌≤◌, length};
+ghost use Rattle.std.specs.Prelude.{◌≡◌, [], ◌∷◌, ◌+◌, ◌≤◌, length, get_or};
 ghost use Rattle.std.proofs.lemmas.List.Edits.{sets};
 ghost use Rattle.format.specs.Bytes.{field_bytes};
 ghost use Rattle.format.specs.Rewriting.{atc_bytes, stc_bytes, program_bytes, stream_bytes};
@@ -17,9 +17,9 @@ fn put_atc(row: Row, out: &mut [u8], at: usize) -> usize
     ensures value { result ≡ at + 6 }
     ensures out_after { out.new ≡ sets out.old at (atc_bytes (row3 row)) }
 {
-    put_u32(out, at, row.cell0);
-    put_u8(out, at + 4, row.cell1);
-    put_u8(out, at + 5, row.cell2);
+    put_u32(out, at, row[0]);
+    put_u8(out, at + 4, row[1]);
+    put_u8(out, at + 5, row[2]);
     at + 6
 }
 
@@ -29,10 +29,10 @@ fn put_stc(row: Row, out: &mut [u8], at: usize) -> usize
     ensures value { result ≡ at + 14 }
     ensures out_after { out.new ≡ sets out.old at (stc_bytes (row4 row)) }
 {
-    put_u16(out, at, row.cell0);
-    put_u32(out, at + 2, row.cell1);
-    put_u32(out, at + 6, row.cell2);
-    put_u32(out, at + 10, row.cell3);
+    put_u16(out, at, row[0]);
+    put_u32(out, at + 2, row[1]);
+    put_u32(out, at + 6, row[2]);
+    put_u32(out, at + 10, row[3]);
     at + 14
 }
 
@@ -42,9 +42,9 @@ fn put_program(row: Row, out: &mut [u8], at: usize) -> usize
     ensures value { result ≡ at + 8 }
     ensures out_after { out.new ≡ sets out.old at (program_bytes (row3 row)) }
 {
-    put_u32(out, at, row.cell0);
-    put_u16(out, at + 4, row.cell1);
-    put_u8(out, at + 6, row.cell2);
+    put_u32(out, at, row[0]);
+    put_u16(out, at + 4, row[1]);
+    put_u8(out, at + 6, row[2]);
     put_u8(out, at + 7, 0);
     at + 8
 }
@@ -52,12 +52,12 @@ fn put_program(row: Row, out: &mut [u8], at: usize) -> usize
 // Stores what every stream begins with: PID, the body's length, coding type, format.
 fn put_stream_head(row: Row, size: u32, out: &mut [u8], at: usize)
     requires { at + 5 ≤ length out.old }
-    ensures { out.new ≡ sets out.old at (field_bytes (2 ∷ 1 ∷ 1 ∷ 1 ∷ []) (row.cell0 ∷ size ∷ row.cell1 ∷ row.cell2 ∷ [])) }
+    ensures { out.new ≡ sets out.old at (field_bytes (2 ∷ 1 ∷ 1 ∷ 1 ∷ []) (get_or row 0 0 ∷ size ∷ get_or row 1 0 ∷ get_or row 2 0 ∷ [])) }
 {
-    put_u16(out, at, row.cell0);
+    put_u16(out, at, row[0]);
     put_u8(out, at + 2, size);
-    put_u8(out, at + 3, row.cell1);
-    put_u8(out, at + 4, row.cell2);
+    put_u8(out, at + 3, row[1]);
+    put_u8(out, at + 4, row[2]);
 }
 
 // Stores a stream: video with its aspect in the high four bits, anything else with its language, if it has one.
@@ -66,19 +66,19 @@ fn put_stream(row: Row, out: &mut [u8], at: usize) -> usize
     ensures value { result ≡ at + length (stream_bytes (row5 row)) }
     ensures out_after { out.new ≡ sets out.old at (stream_bytes (row5 row)) }
 {
-    if is_video(row.cell1) {
+    if is_video(row[1]) {
         put_stream_head(row, 3, out, at);
-        put_u8(out, at + 5, row.cell3 % 16 * 16);
-        return at + 6;
-    }
-    if row.cell4 == 0 {
+        put_u8(out, at + 5, row[3] % 16 * 16);
+        at + 6
+    } else if row[4] == 0 {
         put_stream_head(row, 2, out, at);
-        return at + 5;
+        at + 5
+    } else {
+        put_stream_head(row, 5, out, at);
+        put_u8(out, at + 5, row[4] / 65536);
+        put_u16(out, at + 6, row[4]);
+        at + 8
     }
-    put_stream_head(row, 5, out, at);
-    put_u8(out, at + 5, row.cell4 / 65536);
-    put_u16(out, at + 6, row.cell4);
-    at + 8
 }
 
 // Stores a row from `at` on; answers the place behind it.

@@ -3,17 +3,18 @@
 
 ghost use Rattle.std.specs.Prelude.{◌≡◌, ◌+◌, ◌*◌, ◌/◌, ◌%◌, ◌≤◌, [], ◌∷◌, length, ltb, eqb};
 ghost use Rattle.format.specs.Bytes.{both};
-ghost use Rattle.format.specs.ClipRecord.{entry_row, entry_cells, entry_size};
+ghost use Rattle.format.specs.ClipRecord.{entry_cells, entry_size};
 ghost use Rattle.format.specs.Refusals.{atc_fits, stc_fits, program_fits, stream_fits, map_fits, entry_fits};
 ghost use Rattle.format.specs.Tables.{cells_at, atc_cells, stc_cells, program_cells, stream_cells, map_cells};
+ghost use Rattle.entry_rows.specs.Reads.{row_of};
 ghost use Rattle.row_limits.specs.Kinds.{table_cells, fits_by};
 
 use cells::cell_at;
-use entry_rows::{SIZE, angle_at, i_end_at, packet_at, time_at, type_at};
+use entry_rows::{EntryRow, SIZE};
 use stream_coding::is_video;
 
-// Which table a row is of; an entry with the type of its map.
-#[derive(Clone, Copy)]
+// Which table a row is of; an entry with the type of its map. A value and no type: one walk tests rows of any kind.
+#[derive(Clone, Copy, Debug, PartialEq, Eq)]
 pub enum TableKind {
     Atc,
     Stc,
@@ -37,31 +38,6 @@ pub fn row_bytes(kind: TableKind) -> usize
     }
 }
 
-// A PID of 16 bits, coding type and format of 8, an aspect of 4, a language of 24; no language on video, no aspect on anything else.
-fn stream_fits(pid: u32, coding_type: u32, format: u32, aspect: u32, language: u32) -> bool
-    ensures { result ≡ stream_fits (pid ∷ coding_type ∷ format ∷ aspect ∷ language ∷ []) }
-{
-    if pid >= 65536 {
-        return false;
-    }
-    if coding_type >= 256 {
-        return false;
-    }
-    if format >= 256 {
-        return false;
-    }
-    if aspect >= 16 {
-        return false;
-    }
-    if language >= 16777216 {
-        return false;
-    }
-    if is_video(coding_type) {
-        return language == 0;
-    }
-    aspect == 0
-}
-
 // An angle of 1 bit and an I-end of 3, side by side in one number: one load and one mask where the two cells are neighbours.
 fn angle_fits(angle: u32, i_end: u32) -> bool
     ensures { result ≡ both (ltb angle 2) (ltb i_end 8) }
@@ -77,26 +53,13 @@ fn time_fits(time: u64) -> bool
 }
 
 // An angle of 1 bit, an I-end of 3, a time of 32 that is a multiple of 512, a type of 4 bits that is its map's. The map's type is tested for its 4 bits: it is the same at every row.
-fn entry_fits(
-    map_type: u32,
-    angle: u32,
-    i_end: u32,
-    time: u64,
-    packet: u32,
-    entry_type: u32,
-) -> bool
-    ensures { result ≡ entry_fits map_type (entry_row angle i_end time packet entry_type) }
+fn entry_fits(map_type: u32, entry: EntryRow) -> bool
+    ensures { result ≡ entry_fits map_type (row_of entry) }
 {
-    if map_type >= 16 {
-        return false;
-    }
-    if !angle_fits(angle, i_end) {
-        return false;
-    }
-    if !time_fits(time) {
-        return false;
-    }
-    entry_type == map_type
+    map_type < 16
+        && angle_fits(entry.angle, entry.i_end)
+        && time_fits(entry.time)
+        && entry.entry_type == map_type
 }
 
 // An ATC: at most 255 STCs, an offset id of 8 bits.
@@ -104,10 +67,7 @@ fn atc_fits(t: &[u8], p: usize) -> bool
     requires { p + 12 ≤ length t.now }
     ensures { result ≡ atc_fits (cells_at t.now atc_cells p) }
 {
-    if cell_at(t, p + 4) >= 256 {
-        return false;
-    }
-    cell_at(t, p + 8) < 256
+    cell_at(t, p + 4) < 256 && cell_at(t, p + 8) < 256
 }
 
 // An STC: a PID of 16 bits.
@@ -123,10 +83,7 @@ fn program_fits(t: &[u8], p: usize) -> bool
     requires { p + 12 ≤ length t.now }
     ensures { result ≡ program_fits (cells_at t.now program_cells p) }
 {
-    if cell_at(t, p + 4) >= 65536 {
-        return false;
-    }
-    cell_at(t, p + 8) < 256
+    cell_at(t, p + 4) < 65536 && cell_at(t, p + 8) < 256
 }
 
 // A map: a PID of 16 bits, a type of 4, at most 262,143 entries.
@@ -134,42 +91,27 @@ fn map_fits(t: &[u8], p: usize) -> bool
     requires { p + 12 ≤ length t.now }
     ensures { result ≡ map_fits (cells_at t.now map_cells p) }
 {
-    if cell_at(t, p) >= 65536 {
-        return false;
-    }
-    if cell_at(t, p + 4) >= 16 {
-        return false;
-    }
-    cell_at(t, p + 8) < 262144
+    cell_at(t, p) < 65536 && cell_at(t, p + 4) < 16 && cell_at(t, p + 8) < 262144
 }
 
-// A stream read from its table.
-fn stream_row_fits(t: &[u8], p: usize) -> bool
+// A stream: a PID of 16 bits, coding type and format of 8, an aspect of 4, a language of 24; no language on video, no aspect on anything else.
+fn stream_fits(t: &[u8], p: usize) -> bool
     requires { p + 20 ≤ length t.now }
     ensures { result ≡ stream_fits (cells_at t.now stream_cells p) }
 {
-    stream_fits(
-        cell_at(t, p),
-        cell_at(t, p + 4),
-        cell_at(t, p + 8),
-        cell_at(t, p + 12),
-        cell_at(t, p + 16),
-    )
-}
-
-// An entry of a map of this type, read from its table.
-fn entry_row_fits(t: &[u8], p: usize, map_type: u32) -> bool
-    requires { p + entry_size ≤ length t.now }
-    ensures { result ≡ entry_fits map_type (cells_at t.now entry_cells p) }
-{
-    entry_fits(
-        map_type,
-        angle_at(t, p),
-        i_end_at(t, p),
-        time_at(t, p),
-        packet_at(t, p),
-        type_at(t, p),
-    )
+    let coding_type = cell_at(t, p + 4);
+    let aspect = cell_at(t, p + 12);
+    let language = cell_at(t, p + 16);
+    cell_at(t, p) < 65536
+        && coding_type < 256
+        && cell_at(t, p + 8) < 256
+        && aspect < 16
+        && language < 16777216
+        && if is_video(coding_type) {
+            language == 0
+        } else {
+            aspect == 0
+        }
 }
 
 // Whether the row at a place fits.
@@ -181,8 +123,8 @@ pub fn row_fits(t: &[u8], p: usize, kind: TableKind) -> bool
         TableKind::Atc => atc_fits(t, p),
         TableKind::Stc => stc_fits(t, p),
         TableKind::Program => program_fits(t, p),
-        TableKind::Stream => stream_row_fits(t, p),
+        TableKind::Stream => stream_fits(t, p),
         TableKind::Map => map_fits(t, p),
-        TableKind::Entry(map_type) => entry_row_fits(t, p, map_type),
+        TableKind::Entry(map_type) => entry_fits(map_type, EntryRow::at(t, p)),
     }
 }

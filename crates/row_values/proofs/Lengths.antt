@@ -1,10 +1,10 @@
 -- How many bytes each kind of row has in a file.
 use Prim.Native.Nat.{ℕ, ◌≤◌}
 use mathlib.Core.Path.{◌≡◌}
-use mathlib.Core.List.{[], ◌∷◌}
+use mathlib.Core.List.{List, [], ◌∷◌}
 use mathlib.Core.Bool.{Bool, true, false}
 use native.Mathlib.Omega.{arith}
-use lib.ListN.{length, length-append}
+use lib.ListN.{length, length-append, get_or}
 use lib.Dec.{eqb}
 use borrow.Author.Tests.{ne_eqb}
 use Rattle.format.specs.ClipRecord.{Row}
@@ -12,7 +12,6 @@ use Rattle.format.specs.Programs.{is_video}
 use Rattle.format.specs.Rewriting.{atc_bytes, stc_bytes, program_bytes, stream_bytes_by, stream_bytes}
 use Rattle.format.proofs.Numbers.{bytes_length}
 use Rattle.row_values.specs.declared.RowKind.{RowKind}
-use Rattle.row_values.specs.declared.Row as value
 use Rattle.row_values.specs.Kinds.{row5, row_of, bytes_by}
 
 -- ---- how long each kind is
@@ -29,20 +28,20 @@ stc_length a b c d = simp (length-append, bytes_length)
 pub program_length : (a b c : ℕ) → length (program_bytes (a ∷ b ∷ c ∷ [])) ≡ 8
 program_length a b c = simp (length-append, bytes_length)
 
--- a stream with these cells: video, without a language, and with one
-module _ (a b c d e : ℕ) where
+-- a stream by value: video, without a language, and with one
+module _ (r : List ℕ) where
   -- PID, body length, coding type, format, aspect
-  pub video_length : {v : Bool} → v ≡ is_video b → v ≡ true → length (stream_bytes (a ∷ b ∷ c ∷ d ∷ e ∷ [])) ≡ 6
+  pub video_length : {v : Bool} → v ≡ is_video (get_or r 1 0) → v ≡ true → length (stream_bytes (row5 r)) ≡ 6
   video_length is h = rw (← is, h) (simp (length-append, bytes_length))
 
-  module _ {v : Bool} (is : v ≡ is_video b) (other : v ≡ false) where
+  module _ {v : Bool} (is : v ≡ is_video (get_or r 1 0)) (other : v ≡ false) where
     -- the same without the aspect
-    pub short_length : e ≡ 0 → length (stream_bytes (a ∷ b ∷ c ∷ d ∷ e ∷ [])) ≡ 5
+    pub short_length : get_or r 4 0 ≡ 0 → length (stream_bytes (row5 r)) ≡ 5
     short_length h = rw (← is, other, h) (simp (length-append, bytes_length))
 
     -- a language in its place
-    pub tagged_length : (e ≡ 0 → ⊥) → length (stream_bytes (a ∷ b ∷ c ∷ d ∷ e ∷ [])) ≡ 8
-    tagged_length h = rw (← is, other, ne_eqb e 0 h) (simp (length-append, bytes_length))
+    pub tagged_length : (get_or r 4 0 ≡ 0 → ⊥) → length (stream_bytes (row5 r)) ≡ 8
+    tagged_length h = rw (← is, other, ne_eqb (get_or r 4 0) 0 h) (simp (length-append, bytes_length))
 
 -- ---- no row is longer than an STC
 
@@ -53,8 +52,8 @@ stream_short false true row = simp (length-append, bytes_length) (omega arith)
 stream_short false false row = simp (length-append, bytes_length) (omega arith)
 
 -- a row of any kind, by value
-pub row_short : (kind : RowKind) (r : value.Row) → length (bytes_by kind (row_of kind r)) ≤ 14
-row_short RowKind.Atc r = rw (atc_length r.cell0 r.cell1 r.cell2) (omega arith)
-row_short RowKind.Stc r = rw (stc_length r.cell0 r.cell1 r.cell2 r.cell3) (omega arith)
-row_short RowKind.Program r = rw (program_length r.cell0 r.cell1 r.cell2) (omega arith)
-row_short RowKind.Stream r = stream_short (is_video r.cell1) (eqb r.cell4 0) (row5 r)
+pub row_short : (kind : RowKind) (r : List ℕ) → length (bytes_by kind (row_of kind r)) ≤ 14
+row_short RowKind.Atc r = rw (atc_length (get_or r 0 0) (get_or r 1 0) (get_or r 2 0)) (omega arith)
+row_short RowKind.Stc r = rw (stc_length (get_or r 0 0) (get_or r 1 0) (get_or r 2 0) (get_or r 3 0)) (omega arith)
+row_short RowKind.Program r = rw (program_length (get_or r 0 0) (get_or r 1 0) (get_or r 2 0)) (omega arith)
+row_short RowKind.Stream r = stream_short (is_video (get_or r 1 0)) (eqb (get_or r 4 0) 0) (row5 r)

@@ -8,7 +8,7 @@ ghost use Rattle.format.specs.Rewriting.{marks_bytes};
 
 use numbers::{put_u8, put_u16, put_u32};
 
-// The two sections of header rows with their own rows behind them.
+// The two sections of header rows with their own rows behind them. A value and no type: definitions and contracts tell the two apart by it.
 #[derive(Clone, Copy)]
 pub enum Section {
     Sequences,

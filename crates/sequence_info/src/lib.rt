@@ -8,17 +8,15 @@ ghost use Rattle.format.specs.ClipRecord.{atc_at, stc_at, next_stc, next_atc};
 ghost use Rattle.format.specs.Tables.{row_bytes_of, table_bytes};
 ghost use Rattle.common.specs.Reader.{moved_to};
 
-use cells::{put_row3, put_row4};
-use common::reader::{Moved, Number, Reader, read_count};
+use cells::put_row;
+use common::reader::{Reader, read_count};
 use numbers::{u8_at, u16_at, u32_at};
 
 // Past the ATC at the reader and its STCs.
-pub fn skip_atc(file: &[u8], r: Reader) -> Moved
+pub fn skip_atc(file: &[u8], r: Reader) -> Option<Reader>
     ensures { result ≡ moved_to file.now (next_atc file.now r.pos) }
 {
-    let Number::Read(num_stc, behind) = read_count(file, r, 4) else {
-        return Moved::PastEnd;
-    };
+    let (num_stc, behind) = read_count(file, r, 4)?;
     behind.skip(file, 1 + 14 * (num_stc as usize))
 }
 
@@ -27,12 +25,10 @@ pub fn put_atc(file: &[u8], p: usize, table: &mut [u8], at: usize)
     requires { (p + 6 ≤ length file.now) × (at + 12 ≤ length table.old) }
     ensures { table.new ≡ sets table.old at (row_bytes_of (atc_at file.now p)) }
 {
-    put_row3(
+    put_row(
         table,
         at,
-        u32_at(file, p),
-        u8_at(file, p + 4),
-        u8_at(file, p + 5),
+        [u32_at(file, p), u8_at(file, p + 4), u8_at(file, p + 5)],
     );
 }
 
@@ -41,13 +37,15 @@ fn put_stc(file: &[u8], p: usize, table: &mut [u8], at: usize)
     requires { (p + 14 ≤ length file.now) × (at + 16 ≤ length table.old) }
     ensures { table.new ≡ sets table.old at (row_bytes_of (stc_at file.now p)) }
 {
-    put_row4(
+    put_row(
         table,
         at,
-        u16_at(file, p),
-        u32_at(file, p + 2),
-        u32_at(file, p + 6),
-        u32_at(file, p + 10),
+        [
+            u16_at(file, p),
+            u32_at(file, p + 2),
+            u32_at(file, p + 6),
+            u32_at(file, p + 10),
+        ],
     );
 }
 
@@ -57,14 +55,8 @@ pub fn put_stcs(file: &[u8], p: usize, n: usize, table: &mut [u8], at: usize) ->
     ensures value { result ≡ end_of next_stc p n }
     ensures table_after { table.new ≡ sets table.old at (table_bytes (rows_at (stc_at file.now) next_stc p n)) }
 {
-    let mut q = p;
-    let mut cell = at;
-    let mut k: usize = 0;
-    while k < n {
-        put_stc(file, q, table, cell);
-        q += 14;
-        cell += 16;
-        k += 1;
+    for k in 0..n {
+        put_stc(file, p + 14 * k, table, at + 16 * k);
     }
-    q
+    p + 14 * n
 }

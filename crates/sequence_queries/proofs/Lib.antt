@@ -1,2 +1,2 @@
--- Laws of the loops over the STCs.
+-- Laws of the questions about the STCs.
 pub mod Laws

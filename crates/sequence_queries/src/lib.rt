@@ -1,16 +1,18 @@
 // Questions about the STC sequences: the first, how long they are, and how many minutes remain.
 #![tactic(auto)]
 
-ghost use Rattle.std.specs.Prelude.{◌≡◌, [], get_or, drop, suc, ◌≤◌, ◌<◌, max, min};
+ghost use Rattle.std.specs.Prelude.{◌≡◌, [], get_or, drop, suc, ◌≤◌, ◌<◌};
+ghost use Rattle.format.specs.ClipRecord.{stc_start, stc_end};
 ghost use Rattle.format.specs.Questions.{ask, first_stc_sequence, duration45k, duration90k, presentation_span_90k, minutes_remaining, latest_end, least_start, duration_of, left_of, minutes_left};
-ghost use Rattle.format.specs.Tables.{table_rows_of, row_room, stc_cells, stated};
+ghost use Rattle.format.specs.Tables.{row_room, stc_cells, stated};
 ghost use Rattle.ticks.specs.Times.{as45, as90};
 ghost use Rattle.queries.specs.Answers.{found_of, time45_of, time90_of};
 ghost use Rattle.queries.specs.Asked.{only_stcs};
 
 use cells::cell_at;
 use queries::{Found, Time45, Time90};
-use table_rows::own::is_stated;
+use refusals::Refusal;
+use table_rows::Table;
 use ticks::{Minutes, Ticks45, Ticks90};
 
 // The cells of a row (PID, packet, start, end), and its bytes.
@@ -23,150 +25,145 @@ const START: usize = 8;
 
 const END: usize = 12;
 
-// The later of two times.
-fn later(a: Ticks45, b: Ticks45) -> Ticks45
-    ensures { (as45 result).ticks ≡ max (as45 a).ticks (as45 b).ticks }
-{
-    if a.0 < b.0 { b } else { a }
+// STCs that all stand in the bytes of a table.
+#[derive(Clone, Copy)]
+struct Stcs<'a> {
+    bytes: &'a [u8],
+    rows: u32,
+    ghost inside: { rows ≤ row_room stc_cells bytes.now },
 }
 
-// The earlier of two times.
-fn earlier(a: Ticks45, b: Ticks45) -> Ticks45
-    ensures { (as45 result).ticks ≡ min (as45 a).ticks (as45 b).ticks }
-{
-    if b.0 < a.0 { b } else { a }
-}
+impl<'a> Stcs<'a> {
+    ghost use Rattle.sequence_queries.specs.Rows.{rows_in, rows_told, stated_rows};
 
-// The latest end of the STCs, 0 without any.
-fn latest_end(stcs: &[u8], rows: u32) -> Ticks45
-    requires { rows ≤ row_room stc_cells stcs.now }
-    ensures { as45 result ≡ latest_end (table_rows_of stc_cells stcs.now rows) }
-{
-    let mut latest = Ticks45(0);
-    let mut k: u32 = 0;
-    while k < rows {
-        let end = Ticks45(cell_at(stcs, ROW * (k as usize) + END));
-        latest = later(latest, end);
-        k += 1;
+    // Those stated to be in a table; refused where there is no room for them.
+    fn of(stcs: Table<'a>) -> Result<Stcs<'a>, Refusal>
+        ensures { rows_told result ≡ stated_rows (stated stcs.entry.bytes.now stcs.entry.rows) }
+    {
+        stcs.check(STC)?;
+        Ok(Stcs {
+            bytes: stcs.bytes,
+            rows: stcs.rows,
+        })
     }
-    latest
-}
 
-// The least of a start and those of the STCs.
-fn least_start(stcs: &[u8], rows: u32, first: Ticks45) -> Ticks45
-    requires { rows ≤ row_room stc_cells stcs.now }
-    ensures { as45 result ≡ least_start (as45 first) (table_rows_of stc_cells stcs.now rows) }
-{
-    let mut least = first;
-    let mut k: u32 = 0;
-    while k < rows {
-        let start = Ticks45(cell_at(stcs, ROW * (k as usize) + START));
-        least = earlier(least, start);
-        k += 1;
+    // The start of an STC.
+    fn start(self, stc: u32) -> Ticks45
+        requires { stc < self.rows }
+        ensures { as45 result ≡ stc_start (get_or (rows_in self.entry) stc []) }
+    {
+        Ticks45(cell_at(self.bytes, ROW * (stc as usize) + START))
     }
-    least
+
+    // Its end.
+    fn end(self, stc: u32) -> Ticks45
+        requires { stc < self.rows }
+        ensures { as45 result ≡ stc_end (get_or (rows_in self.entry) stc []) }
+    {
+        Ticks45(cell_at(self.bytes, ROW * (stc as usize) + END))
+    }
+
+    // The latest end, 0 without any.
+    fn latest_end(self) -> Ticks45
+        ensures { as45 result ≡ latest_end (rows_in self.entry) }
+    {
+        let mut latest = Ticks45(0);
+        for k in 0..self.rows {
+            latest = latest.max(self.end(k));
+        }
+        latest
+    }
+
+    // The least of a start and those of the STCs.
+    fn least_start(self, first: Ticks45) -> Ticks45
+        ensures { as45 result ≡ least_start (as45 first) (rows_in self.entry) }
+    {
+        let mut least = first;
+        for k in 0..self.rows {
+            least = least.min(self.start(k));
+        }
+        least
+    }
+
+    // The end of an STC less its start, not below 0.
+    fn duration(self, stc: u32) -> Ticks45
+        requires { stc < self.rows }
+        ensures { as45 result ≡ duration_of (get_or (rows_in self.entry) stc []) }
+    {
+        self.end(stc).less(self.start(stc))
+    }
+
+    // What is left of an STC at a time: twice its end less the time, a time before twice its start taken as that, not below 0.
+    fn left(self, stc: u32, at: Ticks90) -> Ticks90
+        requires { stc < self.rows }
+        ensures { as90 result ≡ left_of (get_or (rows_in self.entry) stc []) (as90 at) }
+    {
+        let start = self.start(stc).doubled();
+        self.end(stc).doubled().less(at.later(start))
+    }
+
+    // The minutes of what is left of an STC at a time and of all later ones: added up, then rounded down.
+    fn minutes_from(self, stc: u32, at: Ticks90) -> u64
+        requires { stc < self.rows }
+        ensures { result ≡ minutes_left (get_or (rows_in self.entry) stc []) (drop (suc stc) (rows_in self.entry)) (as90 at) }
+    {
+        let mut left = Minutes::none().plus(self.left(stc, at));
+        for k in stc + 1..self.rows {
+            left = left.plus(self.duration(k).doubled());
+        }
+        left.whole
+    }
 }
 
 // The presentation span: twice the latest end less twice the least start, not below 0; 0 without STCs.
-pub fn presentation_span_90k(stcs: &[u8], rows: u32) -> Time90
-    ensures { time90_of result ≡ ask presentation_span_90k (only_stcs (stated stcs.now rows)) }
+pub fn presentation_span_90k(stcs: Table) -> Time90
+    ensures { time90_of result ≡ ask presentation_span_90k (only_stcs (stated stcs.entry.bytes.now stcs.entry.rows)) }
 {
-    if !is_stated(stcs, rows, STC) {
-        return Time90::Refused(22);
+    let stcs = Stcs::of(stcs)?;
+    if stcs.rows == 0 {
+        return Ok(Some(Ticks90(0)));
     }
-    if rows == 0 {
-        return Time90::Ticks(Ticks90(0));
-    }
-    let latest = latest_end(stcs, rows).doubled();
-    let first = Ticks45(cell_at(stcs, START));
-    let least = least_start(stcs, rows, first).doubled();
-    Time90::Ticks(latest.less(least))
-}
-
-// The end of a row less its start, not below 0.
-fn row_duration(stcs: &[u8], rows: u32, stc: u32) -> Ticks45
-    requires { (rows ≤ row_room stc_cells stcs.now) × (stc < rows) }
-    ensures { as45 result ≡ duration_of (get_or (table_rows_of stc_cells stcs.now rows) stc []) }
-{
-    let at = ROW * (stc as usize);
-    let end = Ticks45(cell_at(stcs, at + END));
-    let start = Ticks45(cell_at(stcs, at + START));
-    end.less(start)
-}
-
-// What is left of a row at a time: twice its end less the time, a time before twice its start taken as that, not below 0.
-fn row_left(stcs: &[u8], rows: u32, stc: u32, at: Ticks90) -> Ticks90
-    requires { (rows ≤ row_room stc_cells stcs.now) × (stc < rows) }
-    ensures { as90 result ≡ left_of (get_or (table_rows_of stc_cells stcs.now rows) stc []) (as90 at) }
-{
-    let place = ROW * (stc as usize);
-    let end = Ticks45(cell_at(stcs, place + END));
-    let start = Ticks45(cell_at(stcs, place + START));
-    end.doubled().less(at.later(start.doubled()))
-}
-
-// The minutes of what is left of a row at a time and of all later rows: added up, then rounded down.
-fn minutes_from(stcs: &[u8], rows: u32, stc: u32, at: Ticks90) -> u64
-    requires { (rows ≤ row_room stc_cells stcs.now) × (stc < rows) }
-    ensures { result ≡ minutes_left (get_or (table_rows_of stc_cells stcs.now rows) stc []) (drop (suc stc) (table_rows_of stc_cells stcs.now rows)) (as90 at) }
-{
-    let mut left = Minutes::none().plus(row_left(stcs, rows, stc, at));
-    let mut k: u32 = stc + 1;
-    while k < rows {
-        left = left.plus(row_duration(stcs, rows, k).doubled());
-        k += 1;
-    }
-    left.whole
+    let latest = stcs.latest_end().doubled();
+    let least = stcs.least_start(stcs.start(0)).doubled();
+    Ok(Some(latest.less(least)))
 }
 
 // Minutes remaining at a time of an STC: what is left of it, and all later STCs.
-pub fn minutes_remaining(stcs: &[u8], rows: u32, stc: u32, at: Ticks90) -> Found
-    ensures { found_of result ≡ ask (minutes_remaining stc (as90 at)) (only_stcs (stated stcs.now rows)) }
+pub fn minutes_remaining(stcs: Table, stc: u32, at: Ticks90) -> Found
+    ensures { found_of result ≡ ask (minutes_remaining stc (as90 at)) (only_stcs (stated stcs.entry.bytes.now stcs.entry.rows)) }
 {
-    if !is_stated(stcs, rows, STC) {
-        return Found::Refused(22);
+    let stcs = Stcs::of(stcs)?;
+    if stc < stcs.rows {
+        return Ok(Some(stcs.minutes_from(stc, at)));
     }
-    if stc < rows {
-        return Found::Number(minutes_from(stcs, rows, stc, at));
-    }
-    Found::Refused(22)
+    Err(Refusal::Rows)
 }
 
 // How long an STC is, by its own clock.
-pub fn duration_45k(stcs: &[u8], rows: u32, stc: u32) -> Time45
-    ensures { time45_of result ≡ ask (duration45k stc) (only_stcs (stated stcs.now rows)) }
+pub fn duration_45k(stcs: Table, stc: u32) -> Time45
+    ensures { time45_of result ≡ ask (duration45k stc) (only_stcs (stated stcs.entry.bytes.now stcs.entry.rows)) }
 {
-    if !is_stated(stcs, rows, STC) {
-        return Time45::Refused(22);
+    let stcs = Stcs::of(stcs)?;
+    if stc >= stcs.rows {
+        return Err(Refusal::Rows);
     }
-    if stc >= rows {
-        return Time45::Refused(22);
-    }
-    Time45::Ticks(row_duration(stcs, rows, stc))
+    Ok(stcs.duration(stc))
 }
 
 // How long an STC is, in 90 kHz ticks.
-pub fn duration_90k(stcs: &[u8], rows: u32, stc: u32) -> Time90
-    ensures { time90_of result ≡ ask (duration90k stc) (only_stcs (stated stcs.now rows)) }
+pub fn duration_90k(stcs: Table, stc: u32) -> Time90
+    ensures { time90_of result ≡ ask (duration90k stc) (only_stcs (stated stcs.entry.bytes.now stcs.entry.rows)) }
 {
-    if !is_stated(stcs, rows, STC) {
-        return Time90::Refused(22);
-    }
-    if stc >= rows {
-        return Time90::Refused(22);
-    }
-    Time90::Ticks(row_duration(stcs, rows, stc).doubled())
+    Ok(Some(duration_45k(stcs, stc)?.doubled()))
 }
 
 // The first STC in file order, or nothing.
-pub fn first_stc_sequence(stcs: &[u8], rows: u32) -> Found
-    ensures { found_of result ≡ ask first_stc_sequence (only_stcs (stated stcs.now rows)) }
+pub fn first_stc_sequence(stcs: Table) -> Found
+    ensures { found_of result ≡ ask first_stc_sequence (only_stcs (stated stcs.entry.bytes.now stcs.entry.rows)) }
 {
-    if !is_stated(stcs, rows, STC) {
-        return Found::Refused(22);
+    let stcs = Stcs::of(stcs)?;
+    if stcs.rows == 0 {
+        return Ok(None);
     }
-    if rows == 0 {
-        return Found::Nothing;
-    }
-    Found::Number(0)
+    Ok(Some(0))
 }

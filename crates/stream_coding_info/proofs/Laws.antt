@@ -1,69 +1,56 @@
--- Letters, and a stream's body by its bytes.
-use Prim.Native.Nat.{ℕ, ◌+◌, ◌*◌, ◌/◌, ◌<◌, ◌≤◌}
-use mathlib.Core.Path.{◌≡◌, ap, ◌∙◌}
+-- A stream's body as a part of the file.
+use Prim.Native.Nat.{ℕ, ◌+◌, ◌/◌, ◌-◌, ◌≤◌}
+use mathlib.Core.Path.{◌≡◌, refl, sym, ap, ◌∙◌}
 use mathlib.Core.List.{List, [], ◌∷◌}
-use mathlib.Core.Bool.{Bool, true, false}
+use mathlib.Core.Bool.{Bool, true, false, not}
 use native.Mathlib.Nat.{add-zero}
 use native.Mathlib.Omega.{arith}
-use lib.Seq.{sets}
-use lib.Dec.{leb, lit<}
-use borrow.Author.Tests.{le-leb, lt-leb}
-use Rattle.format.specs.Bytes.{both, pick, be_at}
-use Rattle.format.specs.Programs.{is_video, lower, lowered, coding_at, aspect_at, language_at, stream_at}
-use Rattle.format.specs.ClipRecord.{Row}
-use Rattle.format.specs.Tables.{row_bytes_of}
-use Rattle.format.proofs.Tests.{ap_pick}
-use Rattle.numbers.specs.Reads.{ReadIs}
-use Rattle.numbers.proofs.Laws.{joined}
-use Rattle.stream_coding_info.specs.Bodies.{BodyByte}
+use lib.ListN.{length, get_or, drop}
+use lib.Seq.{get_or-drop}
+use lib.Dec.{leb}
+use Rattle.std.proofs.lemmas.List.{get_or-take, get_or_past}
+use Rattle.std.proofs.lemmas.Bool.{leb-true, leb-false}
+use Rattle.format.specs.Bytes.{both, pick, be_at, part}
+use Rattle.format.specs.Programs.{is_video, lowered, coding_at, aspect_at, language_at, stream_at, next_stream}
+use Rattle.format.proofs.Lists.{part_length}
+use Rattle.format.proofs.Stores.{be_same}
+use Rattle.format.proofs.Tests.{both_true}
 
--- ---- letters
+-- a number that is picked counts where the test passes alone
+pick_where : {A : Type 0} (b : Bool) (x y z : A) → (b ≡ true → x ≡ y) → pick b x z ≡ pick b y z
+pick_where true x y z h = h refl
+pick_where false x y z h = refl
 
--- lower case is at most 32 further on
-pub lower_near : (b : ℕ) → lower b ≤ b + 32
-unfolding lower
-lower_near b = go (both (leb 65 b) (leb b 90))
-  where
-    go : (t : Bool) → pick t (b + 32) b ≤ b + 32
-    go true = omega arith
-    go false = omega arith
+module _ (f : List ℕ) (p n : ℕ) (inside : p + n ≤ length f) where
+  -- a number that stands in the part stands in the file
+  in_part : (k w : ℕ) → k + w ≤ n → be_at (part f p n) k w ≡ be_at f (p + k) w
+  in_part k w h = be_same (part f p n) f k (p + k) w (λ i b. get_or-take n (drop p f) (k + i) 0 (omega arith) ∙ get_or-drop p f (k + i) 0 ∙ ap (λ (q : ℕ). get_or f q 0) (omega arith))
 
--- ---- a stream's body
+  -- byte k of the part, which is 0 where the part has none
+  byte_is : (k : ℕ) → get_or (part f p n) k 0 ≡ pick (leb (k + 1) n) (be_at f (p + k) 1) 0
+  unfolding be_at
+  byte_is k = go (leb (k + 1) n) refl
+    where
+      one : be_at (part f p n) k 1 ≡ get_or (part f p n) k 0
+      one = rw (add-zero k) (omega arith)
 
-module _ (f : List ℕ) (p size : ℕ) where
-  -- a byte that the body has, and one that it has not
-  pub byte_there : (i : ℕ) {r : ℕ} → i < size → ReadIs f (p + i) 1 r → BodyByte f p size i r
-  byte_there i h is = record { same = rw (le-leb (i + 1) size (omega arith)) is.same; below = is.below }
+      go : (t : Bool) → leb (k + 1) n ≡ t → get_or (part f p n) k 0 ≡ pick t (be_at f (p + k) 1) 0
+      go true e = sym one ∙ in_part k 1 (leb-true (k + 1) n e)
+      go false e = get_or_past (part f p n) k 0 (rw (part_length f p n inside) (omega (arith, leb-false (k + 1) n e)))
 
-  -- a byte past the end of the body counts as 0
-  pub byte_absent : (i : ℕ) → size ≤ i → BodyByte f p size i 0
-  byte_absent i h = record { same = rw (lt-leb (i + 1) size (omega arith)); below = lit< tt }
+  -- the aspect and the language that the part tells
+  aspect_is : (video : Bool) → aspect_at video (part f p n) 0 (length (part f p n)) ≡ aspect_at video f p n
+  aspect_is video = rw (part_length f p n inside) (pick_where (both video (leb 3 n)) _ _ 0 (λ t. ap (λ (v : ℕ). v / 16) (in_part 2 1 (leb-true 3 n (both_true t).1))))
 
-  -- the aspect of a video body
-  pub aspect_is : {video : Bool} {r : ℕ} → video ≡ true → BodyByte f p size 2 r → r / 16 ≡ aspect_at video f p size
-  aspect_is is b = rw (is, b.same) (ap_pick (λ (v : ℕ). v / 16) (leb 3 size) (be_at f (p + 2) 1) 0)
+  language_is : (video : Bool) → language_at video (part f p n) 0 (length (part f p n)) ≡ language_at video f p n
+  language_is video = rw (part_length f p n inside) (pick_where (both (not video) (leb 5 n)) _ _ 0 (λ t. ap lowered (in_part 2 3 (leb-true 5 n (both_true t).1))))
 
-  -- the language of a body that is not video, where it has three bytes for it, and where not
-  pub language_is : {video : Bool} {a b r : ℕ} → video ≡ false → 5 ≤ size → ReadIs f (p + 2) 1 a → ReadIs f (p + 3) 2 b
-      → r ≡ lowered (a * 65536 + b) → r ≡ language_at video f p size
-  language_is {a = a} {b = b} is h x y e =
-      let place : p + 2 + 1 ≡ p + 3 = omega arith in
-      let behind : ReadIs f (p + 2 + 1) 2 b = rw place y in
-      let whole = joined 1 2 x behind in
-      e ∙ rw (is, le-leb 5 size h) (ap lowered whole.same)
-
-  -- a body that is not video and has fewer than five bytes has no language, which is told as 0
-  pub language_absent : {video : Bool} → video ≡ false → size < 5 → 0 ≡ language_at video f p size
-  language_absent is h = rw (is, lt-leb 5 size h)
-
--- a stored row by other words for its cells
-pub same_row : (t : List ℕ) (at : ℕ) {row row' : Row} {t' : List ℕ} → row ≡ row' → t' ≡ sets t at (row_bytes_of row) → t' ≡ sets t at (row_bytes_of row')
-same_row t at e p = p ∙ ap (λ (r : Row). sets t at (row_bytes_of r)) e
-
--- the cells of a stream's row
-pub stream_is : (f : List ℕ) (p : ℕ) {pid size coding format ratio tag : ℕ} {video : Bool} → pid ≡ be_at f p 2 → size ≡ be_at f (p + 2) 1
-    → BodyByte f (p + 3) size 0 coding → BodyByte f (p + 3) size 1 format → video ≡ is_video coding
-    → ratio ≡ aspect_at video f (p + 3) size → tag ≡ language_at video f (p + 3) size → pid ∷ coding ∷ format ∷ ratio ∷ tag ∷ [] ≡ stream_at f p
-stream_is f p {size = size} {coding = coding} e s c x v a l =
-    let first : coding ≡ coding_at f (p + 3) size = c.same ∙ ap (λ (q : ℕ). pick (leb 1 size) (be_at f q 1) 0) (add-zero (p + 3)) in
-    rw (a, l, v, x.same, first, s, e)
+-- a stream's PID and what its body tells are the cells of its row
+pub stream_is : (f : List ℕ) (p : ℕ) {pid size coding format ratio tag : ℕ} {video : Bool} → next_stream f p ≤ length f → pid ≡ be_at f p 2 → size ≡ be_at f (p + 2) 1
+    → (let body = part f (p + 3) (p + 3 + size - (p + 3)) in coding ≡ get_or body 0 0 → format ≡ get_or body 1 0 → video ≡ is_video coding
+    → ratio ≡ aspect_at video body 0 (length body) → tag ≡ language_at video body 0 (length body) → pid ∷ coding ∷ format ∷ ratio ∷ tag ∷ [] ≡ stream_at f p)
+stream_is f p {size = size} {coding = coding} h e s c x v a l =
+    let n : p + 3 + size - (p + 3) ≡ size = omega arith in
+    let inside : p + 3 + size ≤ length f = rw s h in
+    let first : coding ≡ coding_at f (p + 3) size = rw (n, byte_is f (p + 3) size inside 0, add-zero (p + 3)) at c in
+    rw (l, a, x, n, language_is f (p + 3) size inside, aspect_is f (p + 3) size inside, byte_is f (p + 3) size inside 1, v, first, s, e)

@@ -2,12 +2,12 @@
 use Prim.Native.Nat.{ℕ, zero, suc, ◌+◌, ◌*◌, ◌-◌, ◌<◌, ◌≤◌}
 use mathlib.Core.Path.{◌≡◌, refl, sym, ap, ◌∙◌}
 use mathlib.Core.List.{List, [], ◌∷◌}
-use mathlib.Core.Bool.{Bool, true, false, not}
+use mathlib.Core.Bool.{Bool, true, false}
 use native.Mathlib.Nat.{mul_comm}
 use native.Mathlib.Omega.{arith}
 use lib.ListN.{length, get_or, take, drop}
 use lib.Dec.{eqb}
-use borrow.Author.Tests.{leb-true, ltb-true, eqb-true, lt-ltb, le-ltb, not-true, not-false}
+use borrow.Author.Tests.{leb-true, ltb-true, eqb-true, lt-ltb, le-ltb}
 use Rattle.format.specs.Bytes.{both, pick, total, rows_at}
 use Rattle.format.specs.ClipRecord.{Row}
 use Rattle.format.specs.Questions.{Answer, refused, unless22, first_row, own_rows}
@@ -76,17 +76,17 @@ pub record OwnRows (cell cells : ℕ) (heads rows : Table) (head first count : �
 
 module _ (cell cells : ℕ) (heads rows : Table) (head : ℕ) where
   -- which of the two the tests choose
-  chosen : (b : Bool) {first count f c : ℕ} → owns first count ≡ pick b (owns f c) refusal → (b ≡ true) × (first ≡ f) × (count ≡ c)
+  chosen : (b : Bool) {first count f c : ℕ} → owns first count ≡ pick b (owns f c) (refusal 22) → (b ≡ true) × (first ≡ f) × (count ≡ c)
   chosen true h = (refl, cc, cc)
-  chosen false h = let z : ◌≡◌ {A = ℕ} 0 1 = cc in absurd (omega arith)
+  chosen false h = cc
 
-  -- where a refusal is told the tests failed, as rows are no refusal
-  was_refused : (b : Bool) (f c : ℕ) → refusal ≡ pick b (owns f c) refusal → b ≡ false
-  was_refused true f c h = let z : ◌≡◌ {A = ℕ} 0 1 = cc in absurd (omega arith)
-  was_refused false f c h = refl
+  -- where a refusal is told the tests failed, as rows are no refusal, and its number is 22
+  was_refused : (b : Bool) {n : ℕ} (f c : ℕ) → refusal n ≡ pick b (owns f c) (refusal 22) → (b ≡ false) × (n ≡ 22)
+  was_refused true f c h = cc
+  was_refused false f c h = (refl, cc)
 
   -- a refusal says that the header row may not be asked about
-  pub not_owned : refusal ≡ owned_rows cell cells heads rows head → may_ask cell cells heads rows head ≡ false
+  pub not_owned : {n : ℕ} → refusal n ≡ owned_rows cell cells heads rows head → (may_ask cell cells heads rows head ≡ false) × (n ≡ 22)
   unfolding owned_rows
   not_owned h = was_refused (may_ask cell cells heads rows head) _ _ h
 
@@ -114,7 +114,7 @@ module _ (cell cells : ℕ) (heads rows : Table) (head : ℕ) where
 
   -- the first test that fails refuses
   first_fails : (a b c : Bool) (x : Answer) → both (both a b) c ≡ false → refused 22 ≡ unless22 a (unless22 (both b c) x)
-  first_fails true true true x h = let z : ◌≡◌ {A = ℕ} 0 1 = cc in absurd (omega arith)
+  first_fails true true true x h = cc
   first_fails true true false x h = refl
   first_fails true false c x h = refl
   first_fails false b c x h = refl
@@ -122,9 +122,9 @@ module _ (cell cells : ℕ) (heads rows : Table) (head : ℕ) where
   -- where none does, the answer stands
   none_fails : (a b c : Bool) (x : Answer) → both (both a b) c ≡ true → x ≡ unless22 a (unless22 (both b c) x)
   none_fails true true true x h = refl
-  none_fails true true false x h = let z : ◌≡◌ {A = ℕ} 0 1 = cc in absurd (omega arith)
-  none_fails true false c x h = let z : ◌≡◌ {A = ℕ} 0 1 = cc in absurd (omega arith)
-  none_fails false b c x h = let z : ◌≡◌ {A = ℕ} 0 1 = cc in absurd (omega arith)
+  none_fails true true false x h = cc
+  none_fails true false c x h = cc
+  none_fails false b c x h = cc
 
   -- the tests in a question's order, with the answer behind them
   abbrev pub behind_tests : Answer → Answer
@@ -132,11 +132,11 @@ module _ (cell cells : ℕ) (heads rows : Table) (head : ℕ) where
       unless22 (both (is_stated head_cells heads) (both (is_stated cells rows) true))
       (unless22 (both (add_up (cell_in cell) (rows_of head_cells heads) (rows_of cells rows)) (is_row head (rows_of head_cells heads))) x)
 
-  -- where the rows are refused the question is refused by 22, whatever its answer would be
-  pub tests_fail : (x : Answer) → refusal ≡ owned_rows cell cells heads rows head → refused 22 ≡ behind_tests x
+  -- where the rows are refused the question is refused by the same number, whatever its answer would be
+  pub tests_fail : (x : Answer) {n : ℕ} → refusal n ≡ owned_rows cell cells heads rows head → refused n ≡ behind_tests x
   unfolding may_ask is_counted
   tests_fail x h =
-      first_fails (both (is_stated head_cells heads) (both (is_stated cells rows) true)) (add_up (cell_in cell) (rows_of head_cells heads) (rows_of cells rows)) (is_row head (rows_of head_cells heads)) x (not_owned h)
+      rw (not_owned h).1 (first_fails (both (is_stated head_cells heads) (both (is_stated cells rows) true)) (add_up (cell_in cell) (rows_of head_cells heads) (rows_of cells rows)) (is_row head (rows_of head_cells heads)) x (not_owned h).0)
 
   -- where they are told the question has its answer
   pub tests_pass : (x : Answer) {first count : ℕ} → owns first count ≡ owned_rows cell cells heads rows head → x ≡ behind_tests x
@@ -154,27 +154,27 @@ module _ (cell cells : ℕ) (heads rows : Table) (x : Answer) where
 
   -- of two tests, either that fails refuses by 22
   one_fails : (p q : Bool) → both p q ≡ false → refused 22 ≡ unless22 p (unless22 q x)
-  one_fails true true h = let z : ◌≡◌ {A = ℕ} 0 1 = cc in absurd (omega arith)
+  one_fails true true h = cc
   one_fails true false h = refl
   one_fails false q h = refl
 
   -- where both pass, the answer stands
   both_pass : (p q : Bool) → both p q ≡ true → x ≡ unless22 p (unless22 q x)
   both_pass true true h = refl
-  both_pass true false h = let z : ◌≡◌ {A = ℕ} 0 1 = cc in absurd (omega arith)
-  both_pass false q h = let z : ◌≡◌ {A = ℕ} 0 1 = cc in absurd (omega arith)
+  both_pass true false h = cc
+  both_pass false q h = cc
 
   -- where the rows are not there or not counted the question is refused by 22
-  pub count_fails : {a : Bool} → a ≡ is_counted cell cells heads rows → not a ≡ true → refused 22 ≡ behind_count
+  pub count_fails : is_counted cell cells heads rows ≡ false → refused 22 ≡ behind_count
   unfolding is_counted
-  count_fails {a} is h =
-      one_fails (both (is_stated head_cells heads) (both (is_stated cells rows) true)) (add_up (cell_in cell) (rows_of head_cells heads) (rows_of cells rows)) (sym is ∙ not-true a h)
+  count_fails h =
+      one_fails (both (is_stated head_cells heads) (both (is_stated cells rows) true)) (add_up (cell_in cell) (rows_of head_cells heads) (rows_of cells rows)) h
 
   -- where they are, it has its answer
-  pub count_passes : {a : Bool} → a ≡ is_counted cell cells heads rows → not a ≡ false → x ≡ behind_count
+  pub count_passes : is_counted cell cells heads rows ≡ true → x ≡ behind_count
   unfolding is_counted
-  count_passes {a} is h =
-      both_pass (both (is_stated head_cells heads) (both (is_stated cells rows) true)) (add_up (cell_in cell) (rows_of head_cells heads) (rows_of cells rows)) (sym is ∙ not-false a h)
+  count_passes h =
+      both_pass (both (is_stated head_cells heads) (both (is_stated cells rows) true)) (add_up (cell_in cell) (rows_of head_cells heads) (rows_of cells rows)) h
 
 -- ---- the tests, in their order
 
@@ -187,44 +187,42 @@ module _ (heads rows : List ℕ) (n e cell cells : ℕ) where
   Rows = stated rows e
 
   -- with more header rows stated than lent the rows are not counted
-  pub no_heads : {a : Bool} → a ≡ is_stated head_cells Heads → not a ≡ true → false ≡ is_counted cell cells Heads Rows
+  pub no_heads : is_stated head_cells Heads ≡ false → false ≡ is_counted cell cells Heads Rows
   unfolding is_counted
-  no_heads {a} is h = rw (← is, not-true a h)
+  no_heads h = rw h
 
-  module _ {a : Bool} (is : a ≡ is_stated head_cells Heads) (there : not a ≡ false) where
+  module _ (there : is_stated head_cells Heads ≡ true) where
     -- nor with more own rows stated than lent
-    pub no_rows : {b : Bool} → b ≡ is_stated cells Rows → not b ≡ true → false ≡ is_counted cell cells Heads Rows
+    pub no_rows : is_stated cells Rows ≡ false → false ≡ is_counted cell cells Heads Rows
     unfolding is_counted
-    no_rows {b} is₂ h = rw (← is, not-false a there, ← is₂, not-true b h)
+    no_rows h = rw (there, h)
 
     -- with both lent, they are where the counts add up to the stated rows
-    pub counted : {b : Bool} → b ≡ is_stated cells Rows → not b ≡ false → {sum : ℕ} → sum ≡ total (cell_in cell) (table_rows_of head_cells heads n) → eqb sum e ≡ is_counted cell cells Heads Rows
+    pub counted : is_stated cells Rows ≡ true → {sum : ℕ} → sum ≡ total (cell_in cell) (table_rows_of head_cells heads n) → eqb sum e ≡ is_counted cell cells Heads Rows
     unfolding is_counted
-    counted {b} is₂ there₂ all = rw (← is, not-false a there, ← is₂, not-false b there₂, ← all, rows_stated cells Rows.bytes Rows.rows)
+    counted there₂ all = rw (there, there₂, ← all, rows_stated cells Rows.bytes Rows.rows)
 
   -- rows that are counted are there
-  pub heads_there : {a : Bool} → a ≡ is_counted cell cells Heads Rows → not a ≡ false → n ≤ row_room head_cells heads
+  pub heads_there : is_counted cell cells Heads Rows ≡ true → n ≤ row_room head_cells heads
   unfolding is_counted
-  heads_there {a} is h =
-      let whole = both_true (sym is ∙ not-false a h) in
-      leb-true n (row_room head_cells heads) (both_true whole.0).0
+  heads_there h = leb-true n (row_room head_cells heads) (both_true (both_true h).0).0
 
-  module _ (head : ℕ) {a : Bool} (is : a ≡ is_counted cell cells Heads Rows) where
+  module _ (head : ℕ) where
     -- rows that are not counted are refused
-    pub not_counted : not a ≡ true → refusal ≡ owned_rows cell cells Heads Rows head
+    pub not_counted : is_counted cell cells Heads Rows ≡ false → refusal 22 ≡ owned_rows cell cells Heads Rows head
     unfolding owned_rows may_ask
-    not_counted h = rw (← is, not-true a h)
+    not_counted h = rw h
 
     -- so are those of a header row that is not one of the stated ones
-    pub no_head : not a ≡ false → n ≤ head → refusal ≡ owned_rows cell cells Heads Rows head
+    pub no_head : is_counted cell cells Heads Rows ≡ true → n ≤ head → refusal 22 ≡ owned_rows cell cells Heads Rows head
     unfolding owned_rows may_ask
-    no_head h l = rw (← is, not-false a h, rows_stated head_cells Heads.bytes Heads.rows, le-ltb head n l)
+    no_head h l = rw (h, rows_stated head_cells Heads.bytes Heads.rows, le-ltb head n l)
 
     -- all pass
-    pub owned : not a ≡ false → head < n → cell < head_cells → {first count : ℕ} → first ≡ total (cell_in cell) (table_rows_of head_cells heads head) → CellIs heads (12 * head + 4 * cell) count
+    pub owned : is_counted cell cells Heads Rows ≡ true → head < n → cell < head_cells → {first count : ℕ} → first ≡ total (cell_in cell) (table_rows_of head_cells heads head) → CellIs heads (12 * head + 4 * cell) count
         → owns first count ≡ owned_rows cell cells Heads Rows head
     unfolding owned_rows may_ask
     owned h l j {first} {count} f c =
         let counted = cell_of head_cells heads n head cell l j (omega arith) c.same in
         let before : first ≡ first_row (cell_in cell) (table_rows_of head_cells heads n) head = f ∙ ap (total (cell_in cell)) (sym (first_rows heads n head (omega arith))) in
-        rw (← is, not-false a h, rows_stated head_cells Heads.bytes Heads.rows, lt-ltb head n l, ← before, ← counted)
+        rw (h, rows_stated head_cells Heads.bytes Heads.rows, lt-ltb head n l, ← before, ← counted)

@@ -2,27 +2,21 @@
 ghost use Rattle.std.specs.Prelude.{◌≡◌, ◌≤◌, ◌<◌};
 ghost use Rattle.format.specs.Bytes.{total};
 ghost use Rattle.format.specs.ClipRecord.{entry_cells};
-ghost use Rattle.format.specs.Tables.{is_stated, table_rows_of, row_room, stated};
+ghost use Rattle.format.specs.Tables.{table_rows_of, row_room, stated};
 ghost use Rattle.table_rows.specs.OwnRows.{head_cells, cell_in, is_counted, owned_of, owned_rows};
 
+use crate::Table;
 use cells::cell_at;
+use refusals::Refusal;
 
 // The bytes of a row with a count: of an ATC, a program or a map.
 const HEAD: usize = 12;
 
-// The rows of one header row, by the first and their number; or a refusal: rows that are not there, counts that don't add up, or no such header row.
+// The rows of one header row, by the first and their number.
 #[derive(Clone, Copy)]
-pub enum Own {
-    Refused,
-    Rows { first: u64, count: u32 },
-}
-
-// Whether there is room for the rows that are stated, each of so many cells.
-pub fn is_stated(table: &[u8], rows: u32, cells: usize) -> bool
-    requires { (0 < cells) × (cells ≤ entry_cells) }
-    ensures { result ≡ is_stated «cells» (stated table.now rows) }
-{
-    (rows as usize) <= table.len() / (4 * cells)
+pub struct OwnRows {
+    pub first: u64,
+    pub count: u32,
 }
 
 // The counts of the first header rows, added up. No sum of 32-bit counts passes 64 bits.
@@ -31,55 +25,40 @@ fn count_rows(heads: &[u8], rows: u32, cell: usize) -> u64
     ensures { result ≡ total (cell_in «cell») (table_rows_of head_cells heads.now rows) }
 {
     let mut sum: u64 = 0;
-    let mut k: u32 = 0;
-    while k < rows {
-        sum += cell_at(heads, HEAD * (k as usize) + 4 * cell) as u64;
-        k += 1;
+    for k in 0..rows {
+        sum += u64::from(cell_at(heads, HEAD * (k as usize) + 4 * cell));
     }
     sum
 }
 
 // Whether the rows are there and the counts of the header rows add up to them.
-pub fn adds_up(
-    heads: &[u8],
-    head_rows: u32,
-    rows: &[u8],
-    row_rows: u32,
-    cell: usize,
-    cells: usize,
-) -> bool
+pub fn adds_up(heads: Table, rows: Table, cell: usize, cells: usize) -> bool
     requires { (cell < head_cells) × (0 < cells) × (cells ≤ entry_cells) }
-    ensures { result ≡ is_counted «cell» «cells» (stated heads.now head_rows) (stated rows.now row_rows) }
+    ensures { result ≡ is_counted «cell» «cells» (stated heads.entry.bytes.now heads.entry.rows) (stated rows.entry.bytes.now rows.entry.rows) }
 {
-    if !is_stated(heads, head_rows, 3) {
-        return false;
-    }
-    if !is_stated(rows, row_rows, cells) {
-        return false;
-    }
-    count_rows(heads, head_rows, cell) == (row_rows as u64)
+    heads.is_stated(3)
+        && rows.is_stated(cells)
+        && count_rows(heads.bytes, heads.rows, cell) == u64::from(rows.rows)
 }
 
-// The rows, each of so many cells, of a header row whose count stands in the cell that is given.
+// The rows, each of so many cells, of a header row whose count stands in the cell that is given; refused where rows are not there, counts don't add up, or there is no such header row.
 pub fn own_rows(
-    heads: &[u8],
-    head_rows: u32,
-    rows: &[u8],
-    row_rows: u32,
+    heads: Table,
+    rows: Table,
     head: u32,
     cell: usize,
     cells: usize,
-) -> Own
+) -> Result<OwnRows, Refusal>
     requires { (cell < head_cells) × (0 < cells) × (cells ≤ entry_cells) }
-    ensures { owned_of result ≡ owned_rows «cell» «cells» (stated heads.now head_rows) (stated rows.now row_rows) head }
+    ensures { owned_of result ≡ owned_rows «cell» «cells» (stated heads.entry.bytes.now heads.entry.rows) (stated rows.entry.bytes.now rows.entry.rows) head }
 {
-    if !adds_up(heads, head_rows, rows, row_rows, cell, cells) {
-        return Own::Refused;
+    if !adds_up(heads, rows, cell, cells) {
+        return Err(Refusal::Rows);
     }
-    if head >= head_rows {
-        return Own::Refused;
+    if head >= heads.rows {
+        return Err(Refusal::Rows);
     }
-    let first = count_rows(heads, head, cell);
-    let count = cell_at(heads, HEAD * (head as usize) + 4 * cell);
-    Own::Rows { first, count }
+    let first = count_rows(heads.bytes, head, cell);
+    let count = cell_at(heads.bytes, HEAD * (head as usize) + 4 * cell);
+    Ok(OwnRows { first, count })
 }

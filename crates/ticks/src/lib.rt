@@ -6,15 +6,15 @@ ghost use Rattle.format.specs.Ticks.{doubled, less45, less90, later90};
 ghost use Rattle.ticks.specs.Times.{as45, as90, in_ticks, IsSum};
 
 // A time in 45 kHz ticks, as the file's STC times.
-#[derive(Clone, Copy)]
+#[derive(Clone, Copy, PartialEq, Eq, PartialOrd, Ord)]
 pub struct Ticks45(pub u32);
 
 // A time in 90 kHz ticks.
-#[derive(Clone, Copy)]
+#[derive(Clone, Copy, PartialEq, Eq, PartialOrd, Ord)]
 pub struct Ticks90(pub u64);
 
 // A time in 90 kHz ticks of 32 bits, which entry lookups are given.
-#[derive(Clone, Copy)]
+#[derive(Clone, Copy, PartialEq, Eq, PartialOrd, Ord)]
 pub struct Pts90(pub u32);
 
 impl Ticks45 {
@@ -22,37 +22,30 @@ impl Ticks45 {
     pub fn doubled(self) -> Ticks90
         ensures { as90 result ≡ doubled (as45 self) }
     {
-        let ticks = self.0 as u64;
-        Ticks90(2 * ticks)
+        Ticks90(2 * u64::from(self.0))
     }
 
-    // One time less another, not below 0.
+    // One time less another, not below 0. Each clock has its own, so that the clocks stay apart.
     pub fn less(self, other: Ticks45) -> Ticks45
         ensures { as45 result ≡ less45 (as45 self) (as45 other) }
     {
-        if self.0 < other.0 {
-            return Ticks45(0);
-        }
-        Ticks45(self.0 - other.0)
+        Ticks45(self.0.saturating_sub(other.0))
     }
 }
 
 impl Ticks90 {
-    // One time less another, not below 0.
+    // One time less another, not below 0. Each clock has its own, so that the clocks stay apart.
     pub fn less(self, other: Ticks90) -> Ticks90
         ensures { as90 result ≡ less90 (as90 self) (as90 other) }
     {
-        if self.0 < other.0 {
-            return Ticks90(0);
-        }
-        Ticks90(self.0 - other.0)
+        Ticks90(self.0.saturating_sub(other.0))
     }
 
     // The later of two times.
     pub fn later(self, other: Ticks90) -> Ticks90
         ensures { as90 result ≡ later90 (as90 self) (as90 other) }
     {
-        if self.0 < other.0 { other } else { self }
+        self.max(other)
     }
 }
 

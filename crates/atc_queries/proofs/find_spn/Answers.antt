@@ -1,21 +1,24 @@
 -- Each turn keeps the later row that the packet has reached.
-use Prim.Native.Nat.{◌-◌}
-use native.Mathlib.Omega.{arith}
+use Prim.Native.Nat.{◌+◌}
+use mathlib.Core.Path.{ap, ◌∙◌, refl}
+use borrow.Author.Tests.{le-leb, lt-leb}
+use Rattle.std.proofs.Common.{Ok}
+use Rattle.format.specs.Questions.{number}
 use Rattle.queries.specs.Answers.{found_of}
 use Rattle.atc_queries.proofs.Atcs.{spns_first, spns_turn, spns_done}
 use Rattle.atc_queries.proofs.find_spn.Goals as goal
+use Rattle.atc_queries.proofs.find_spn.Goals.{then-cell_at-spn, else-cell_at-spn}
 
 pub loop-k-init : goal.loop-k-init
-loop-k-init c = let a = c.args in (omega arith, spns_first a.stcs.now a.first a.count a.spn)
+loop-k-init c = spns_first _ _ _ _
 
 pub loop-k-preserved : goal.loop-k-preserved
 loop-k-preserved c =
-    let a = c.args in
-    let l = c.loop-k in
-    (omega arith, spns_turn a.stcs.now a.first a.count a.spn l.k (found_of l.found) (omega arith) c.cell_at.ensures c.kept-found.ensures l.invariant.1)
+    let cell = rw c.from.ensures at c.cell_at.ensures in
+    elim c.if-cell_at-spn.branch [
+      | then-cell_at-spn w ↦ spns_turn _ _ _ _ _ _ c.loop-k-test.true cell (ap (λ x. found_of (Ok x)) w.found-is ∙ ap (λ x. number (c.args.own.first + x)) c.from.ensures ∙ rw (le-leb c.cell_at.result c.args.spn w.if-cell_at-spn.true) refl) c.loop-k.invariant
+      | else-cell_at-spn w ↦ spns_turn _ _ _ _ _ _ c.loop-k-test.true cell (ap (λ x. found_of (Ok x)) w.found-is ∙ rw (lt-leb c.cell_at.result c.args.spn w.if-cell_at-spn.false) refl) c.loop-k.invariant
+    ]
 
 pub returns : goal.returns
-returns c =
-    let a = c.args in
-    let l = c.loop-k in
-    spns_done a.stcs.now a.first a.count a.spn l.k (found_of l.found) c.loop-k-test.false l.invariant.1
+returns c = spns_done _ _ _ _ _ _ c.loop-k-test.false c.loop-k.invariant

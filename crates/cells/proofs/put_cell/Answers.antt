@@ -1,20 +1,15 @@
--- The four stores are one store of the cell's bytes.
-use Prim.Native.Nat.{◌/◌, ◌%◌}
-use lib.ListN.{length-set}
-use native.Mathlib.Omega.{arith}
-use Rattle.cells.proofs.Laws.{cell_bytes_lem, four_stores}
+-- The four bytes are put in place of as many.
+use mathlib.Core.Path.{◌≡◌, sym, ap, ◌∙◌}
+use lib.ListN.{length}
+use lib.Seq.{sets}
+use Rattle.format.specs.Tables.{cell_bytes}
+use Rattle.format.proofs.Cells.{low_length}
+use Rattle.cells.proofs.Laws.{cell_bytes_lem}
+use Rattle.cells.proofs.Parts.{put_as_sets}
 use Rattle.cells.proofs.put_cell.Goals as goal
-
-pub bounds-t-at-2 : goal.bounds-t-at-2
-bounds-t-at-2 c = simp length-set (omega arith)
-
-pub bounds-t-at-3 : goal.bounds-t-at-3
-bounds-t-at-3 c = simp length-set (omega arith)
-
-pub bounds-t-at-4 : goal.bounds-t-at-4
-bounds-t-at-4 c = simp length-set (omega arith)
 
 pub returns : goal.returns
 returns c =
-    let v = c.args.v in
-    rw (cell_bytes_lem v) (four_stores c.args.t.now c.args.at (v % 256) (v / 256 % 256) (v / 65536 % 256) (v / 16777216 % 256))
+    let a = c.args in
+    let is : c.copy_from_slice.new.self ≡ cell_bytes a.v = c.copy_from_slice.ensures.after ∙ c.to_le_bytes.ensures ∙ sym (cell_bytes_lem a.v) in
+    put_as_sets a.t.now c.copy_from_slice.new.self a.at 4 (ap length is ∙ low_length 4 a.v) c.requires ∙ ap (sets a.t.now a.at) is

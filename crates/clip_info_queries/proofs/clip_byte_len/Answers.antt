@@ -3,4 +3,4 @@ use Rattle.clip_info_queries.proofs.Laws.{len_is}
 use Rattle.clip_info_queries.proofs.clip_byte_len.Goals as goal
 
 pub returns : goal.returns
-returns c = len_is c.args.packets
+returns c = rw c.from.ensures (len_is c.args.packets)

@@ -13,4 +13,4 @@ pub returns : goal.returns
 returns c =
     let a = c.args in
     let some = c.if-rate-eq0.false in
-    let is = c.divide.ensures in record { result_value = ap seconds is ∙ seconds_are a.rate a.packets some; transfer = subst⁻¹ (λ (q : Float). IsTransfer a.rate a.packets (seconds q)) is (near a.rate a.packets some (omega arith) (omega arith)) }
+    let is = rw (c.from-bytes.ensures, c.from.ensures) at c.divide.ensures in record { result_value = ap seconds is ∙ seconds_are a.rate a.packets some; transfer = subst⁻¹ (λ (q : Float). IsTransfer a.rate a.packets (seconds q)) is (near a.rate a.packets some (omega arith) (omega arith)) }

@@ -1,59 +1,50 @@
 -- Each return, by what was measured before it.
-use Prim.Native.Nat.{ℕ, ◌≤◌}
-use mathlib.Core.Path.{sym, ◌∙◌}
-use mathlib.Core.List.{List}
+use mathlib.Core.Path.{sym}
 use native.Mathlib.Omega.{arith}
-use lib.ListN.{length}
-use Rattle.nine_tables.specs.declared.Rows.{Rows}
+use Rattle.std.proofs.lemmas.Result.{err_from_is_err_and}
 use Rattle.clip_sections.proofs.Laws.{SectionsAre, sections_are, accepted_bounds}
 use Rattle.clip_prepare.proofs.PrepareLaws.{Passed, sections_refused, room_short, room_enough, made_ready}
 use Rattle.clip_prepare.proofs.prepare.Goals as goal
+use Rattle.clip_prepare.proofs.prepare.Goals.{In_ok-sections, After-table_room}
+
+pub returns-in_err-sections : goal.returns-in_err-sections
+returns-in_err-sections c =
+    let p = err_from_is_err_and c.from_residual.result c.from_residual.ensures.1 in
+    rw (p.1, p.2) record { answer = sections_refused c.args.file.now c.args.bytes _ c.in_err-sections.ensures; ready = tt }
+
+-- the sections are measured
+measured : (c : In_ok-sections) → SectionsAre c.args.file.now c.in_ok-sections.sections
+measured c = sections_are c.args.file.now (sym c.in_ok-sections.ensures)
 
 pub read-requires : goal.read-requires
-read-requires c =
-    let F : List ℕ = c.args.file.now in
-    let sections : SectionsAre F c.in-Counts.atcs c.in-Counts.stcs c.in-Counts.programs c.in-Counts.streams c.in-Counts.maps c.in-Counts.entries = sections_are F _ _ _ _ _ _ (sym c.measure.ensures ∙ c.in-Counts.is) in
-    let bounds : (length F ≤ 536870912) × (194 ≤ length F) = accepted_bounds F sections.accepts in omega (arith, bounds)
+read-requires c = omega (arith, accepted_bounds c.args.file.now (measured (goal.at.read-requires c).In_ok-sections).accepts)
 
 pub measure-found-requires : goal.measure-found-requires
-measure-found-requires c =
-    let F : List ℕ = c.args.file.now in
-    let sections : SectionsAre F c.in-Counts.atcs c.in-Counts.stcs c.in-Counts.programs c.in-Counts.streams c.in-Counts.maps c.in-Counts.entries = sections_are F _ _ _ _ _ _ (sym c.measure.ensures ∙ c.in-Counts.is) in
-    let bounds : (length F ≤ 536870912) × (194 ≤ length F) = accepted_bounds F sections.accepts in bounds.0
+measure-found-requires c = (accepted_bounds c.args.file.now (measured (goal.at.measure-found-requires c).In_ok-sections).accepts).0
 
-pub returns-in-Refused : goal.returns-in-Refused
-returns-in-Refused c =
-    record { answer = sections_refused c.args.file.now c.args.bytes _ (sym c.measure.ensures ∙ c.in-Refused.is); ready = tt }
+-- so is all else
+passed : (c : After-table_room)
+    → Passed c.args.file.now c.in_ok-sections.sections c.read.result.extensions c.measure-found.result c.measure_list-second.result c.unwrap_or-listed.result
+passed c = record {
+  sections = measured (goal.at.After-table_room c).In_ok-sections;
+  start_is = c.read.ensures.extensions;
+  block = c.measure-found.ensures;
+  second_is = c.measure_list-second.ensures;
+  listed_is = c.unwrap_or-listed.ensures;
+}
 
-pub returns-in-Short : goal.returns-in-Short
-returns-in-Short c =
-    let F : List ℕ = c.args.file.now in
-    let B : Rows = c.args.bytes in
-    let sections : SectionsAre F c.in-Counts.atcs c.in-Counts.stcs c.in-Counts.programs c.in-Counts.streams c.in-Counts.maps c.in-Counts.entries = sections_are F _ _ _ _ _ _ (sym c.measure.ensures ∙ c.in-Counts.is) in
-    let passed : Passed F c.in-Counts.atcs c.in-Counts.stcs c.in-Counts.programs c.in-Counts.streams c.in-Counts.maps c.in-Counts.entries c.read.result.extensions c.measure-found.result c.measure_list-second.result c.list_programs.result c.list_streams.result = record {
-      sections = sections;
-      start_is = c.read.ensures.extensions;
-      block = c.measure-found.ensures;
-      second_is = c.measure_list-second.ensures;
-      lp_is = c.list_programs.ensures;
-      ls_is = c.list_streams.ensures;
-    } in
-    record { answer = room_short F B passed _ _ c.table_room.ensures c.in-Short.is; ready = tt }
+pub returns-in_err-table_room : goal.returns-in_err-table_room
+returns-in_err-table_room c =
+    let a = c.args in
+    let p = err_from_is_err_and c.from_residual-in_err-table_room.result c.from_residual-in_err-table_room.ensures.1 in
+    rw (p.1, p.2) record { answer = room_short a.file.now a.bytes (passed (goal.at.returns-in_err-table_room c).After-table_room) c.in_err-table_room.ensures; ready = tt }
 
-pub returns-in-Enough : goal.returns-in-Enough
-returns-in-Enough c =
-    let F : List ℕ = c.args.file.now in
-    let B : Rows = c.args.bytes in
-    let sections : SectionsAre F c.in-Counts.atcs c.in-Counts.stcs c.in-Counts.programs c.in-Counts.streams c.in-Counts.maps c.in-Counts.entries = sections_are F _ _ _ _ _ _ (sym c.measure.ensures ∙ c.in-Counts.is) in
-    let passed : Passed F c.in-Counts.atcs c.in-Counts.stcs c.in-Counts.programs c.in-Counts.streams c.in-Counts.maps c.in-Counts.entries c.read.result.extensions c.measure-found.result c.measure_list-second.result c.list_programs.result c.list_streams.result = record {
-      sections = sections;
-      start_is = c.read.ensures.extensions;
-      block = c.measure-found.ensures;
-      second_is = c.measure_list-second.ensures;
-      lp_is = c.list_programs.ensures;
-      ls_is = c.list_streams.ensures;
-    } in
+pub returns : goal.returns
+returns c =
+    let a = c.args in
+    let all = passed (goal.at.returns c).After-table_room in
+    rw c.and.ensures
     record {
-      answer = room_enough F B passed c.table_room.ensures c.in-Enough.is;
-      ready = made_ready F B passed c.table_room.ensures c.in-Enough.is c.is_list.ensures;
+      answer = room_enough a.file.now a.bytes all c.in_ok-table_room.ensures;
+      ready = made_ready a.file.now a.bytes all c.in_ok-table_room.ensures;
     }

@@ -1,23 +1,26 @@
 -- Each turn keeps the lesser PID.
-use Prim.Native.Nat.{◌-◌}
-use native.Mathlib.Omega.{arith}
-use Rattle.cpi_queries.proofs.Choice.{no_pid, pids_first, pids_turn, pid_is}
+use mathlib.Core.Path.{ap}
+use Rattle.cpi_queries.specs.PrimaryMap.{as_best}
+use Rattle.cpi_queries.proofs.Choice.{pids_first, pids_turn, pid_is}
 use Rattle.cpi_queries.proofs.least_pid.Goals as goal
 
-pub returns-then-rows-eq0 : goal.returns-then-rows-eq0
-returns-then-rows-eq0 c =
-    no_pid c.args.maps.now c.args.rows c.if-rows-eq0.true
+pub loop-row-init : goal.loop-row-init
+loop-row-init c = pids_first c.args.maps.bytes.now c.args.maps.rows
 
-pub loop-k-init : goal.loop-k-init
-loop-k-init c =
-    (omega (arith, c.if-rows-eq0.false), omega (arith, c.if-rows-eq0.false), pids_first c.args.maps.now c.args.rows c.if-rows-eq0.false c.cell_at.ensures)
+pub loop-row-preserved : goal.loop-row-preserved
+loop-row-preserved c =
+    let m = c.args.maps in
+    let l = c.loop-row in
+    pids_turn m.bytes.now m.rows l.row (as_best l.least) c.loop-row-test.true c.cell_at.ensures c.lesser-least.ensures l.invariant
 
-pub loop-k-preserved : goal.loop-k-preserved
-loop-k-preserved c =
-    let l = c.loop-k in
-    (l.invariant.0, omega arith, pids_turn c.args.maps.now c.args.rows l.k l.least (omega arith) c.cell_at-pid.ensures c.lesser-least.ensures l.invariant.2)
+pub returns-in_err-least : goal.returns-in_err-least
+returns-in_err-least c =
+    let m = c.args.maps in
+    let l = c.loop-row in
+    rw c.from_residual.ensures (pid_is m.bytes.now m.rows l.row (ap as_best c.in_err-least.was) c.loop-row-test.false l.invariant)
 
 pub returns : goal.returns
 returns c =
-    let l = c.loop-k in
-    pid_is c.args.maps.now c.args.rows l.k l.least (omega arith) l.invariant.2
+    let m = c.args.maps in
+    let l = c.loop-row in
+    rw c.from.ensures (pid_is m.bytes.now m.rows l.row (ap as_best c.in_ok-least.was) c.loop-row-test.false l.invariant)

@@ -1,10 +1,7 @@
 -- Each turn keeps the lesser PID.
-use Prim.Native.Nat.{◌-◌, ◌<◌, ◌≤◌}
+use Rattle.cpi_queries.specs.PrimaryMap.{as_best}
 use Rattle.cpi_queries.proofs.Choice.{Pids}
 use Rattle.cpi_queries.proofs.least_pid.Given as goal
 
-abbrev pub invariant-loop-k : goal.invariant-loop-k
-invariant-loop-k l = (0 < l.rows) × (l.k ≤ l.rows) × Pids l.maps l.rows l.k l.least
-
-abbrev pub decreases-loop-k : goal.decreases-loop-k
-decreases-loop-k l = l.rows - l.k
+abbrev pub invariant-loop-row : goal.invariant-loop-row
+invariant-loop-row l = Pids l.maps.bytes.now l.maps.rows l.row (as_best l.least)

@@ -8,6 +8,3 @@ use Rattle.encode_head.proofs.put_zeros.Given as goal
 
 abbrev pub invariant-loop-k : goal.invariant-loop-k
 invariant-loop-k l = (l.k ≤ l.n) × (length l.out ≡ length l.initial.out) × (sets l.out (l.at + l.k) (bytes_of (l.n - l.k) 0) ≡ sets l.initial.out l.at (bytes_of l.n 0))
-
-abbrev pub decreases-loop-k : goal.decreases-loop-k
-decreases-loop-k l = l.n - l.k

@@ -10,15 +10,15 @@ use Rattle.encode_map.proofs.put_body.Goals.{After-put_rows-coarse}
 deep : (c : After-put_rows-coarse) → 4 ≤ c.put_rows-coarse.result
 deep c =
     let a = c.args in
-    omega (arith, c.requires.below, c.put_rows-coarse.ensures.n_value, body_size a.entries.now a.p a.n)
+    omega (arith, c.requires.below, c.put_rows-coarse.ensures.n_value, body_size a.entries.table.now a.entries.first a.entries.count)
 
 pub overflow_sub-fine : goal.overflow_sub-fine
-overflow_sub-fine c = let a = c.args in omega (arith, c.requires.below, body_size a.entries.now a.p a.n)
+overflow_sub-fine c = let a = c.args in omega (arith, c.requires.below, body_size a.entries.table.now a.entries.first a.entries.count)
 
 pub put_rows-coarse-requires : goal.put_rows-coarse-requires
 put_rows-coarse-requires c =
     let a = c.args in
-    let size = body_size a.entries.now a.p a.n in
+    let size = body_size a.entries.table.now a.entries.first a.entries.count in
     record {
       there = c.requires.there;
       few = c.requires.few;
@@ -33,7 +33,7 @@ overflow_sub-coarse c = deep (goal.at.overflow_sub-coarse c).After-put_rows-coar
 pub overflow_cast-fine : goal.overflow_cast-fine
 overflow_cast-fine c =
     let a = c.args in
-    record { fits = omega (arith, c.put_rows-coarse.ensures.n_value, c.requires.few, runs_within a.entries.now a.p a.n) }
+    record { fits = omega (arith, c.put_rows-coarse.ensures.n_value, c.requires.few, runs_within a.entries.table.now a.entries.first a.entries.count) }
 
 pub put_u32-requires : goal.put_u32-requires
 put_u32-requires c =
@@ -46,4 +46,4 @@ pub returns : goal.returns
 returns c =
     let a = c.args in
     let rows = c.put_rows-coarse in
-    let room = deep (goal.at.returns c).After-put_rows-coarse in record { n_value = omega (arith, rows.ensures.n_value, room, body_size a.entries.now a.p a.n, c.requires.below); out_after = body_below (entries_at a.entries.now a.p a.n) a.out.now rows.result (a.end - 4 * a.n) rows.ensures.n_value room rows.ensures.out_after c.put_u32.ensures }
+    let room = deep (goal.at.returns c).After-put_rows-coarse in record { n_value = omega (arith, rows.ensures.n_value, room, body_size a.entries.table.now a.entries.first a.entries.count, c.requires.below); out_after = body_below (entries_at a.entries.table.now a.entries.first a.entries.count) a.out.now rows.result (a.end - 4 * a.entries.count) rows.ensures.n_value room rows.ensures.out_after c.put_u32.ensures }

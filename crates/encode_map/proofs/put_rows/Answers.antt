@@ -1,68 +1,66 @@
 -- Each turn stores the rows of one entry below those of the entries behind it.
-use Prim.Native.Nat.{◌+◌, ◌*◌, ◌-◌, ◌<◌, ◌≤◌}
+use Prim.Native.Nat.{◌+◌, ◌*◌, ◌-◌, ◌^◌, ◌<◌, ◌≤◌}
 use mathlib.Core.Path.{◌≡◌, refl}
 use native.Mathlib.Omega.{arith}
 use lib.ListN.{length}
 use Rattle.format.specs.ClipRecord.{entry_size}
-use Rattle.encode_map.proofs.Bodies.{stored_empty, turning_first, turning_room, turning_next, first_pair, first_room, first_stored, pair_narrow, row_fits}
+use Rattle.encode_map.specs.Bodies.{EntryIs}
+use Rattle.encode_map.proofs.Bodies.{stored_empty, turning_first, turning_room, turning_next, first_is, first_room, first_stored, entry_narrow, fine_put, row_fits}
 use Rattle.encode_map.proofs.put_rows.Goals as goal
-use Rattle.encode_map.proofs.put_rows.Goals.{In-loop-k}
+use Rattle.encode_map.proofs.put_rows.Goals.{In-loop-k, After-loop-k, After-at-before}
 
 -- within the loop the entry lies inside its table
-row_there : (c : In-loop-k) → let a = c.args in a.p + entry_size * c.loop-k.k + entry_size ≤ length a.entries.now
+row_there : (c : In-loop-k) → let a = c.args in a.entries.first + entry_size * (c.loop-k.k - 1) + entry_size ≤ length a.entries.table.now
 row_there c = omega (arith, c.requires.there, c.loop-k.invariant.stored.within)
 
 -- so does its fine row inside the output
-fine-there : (c : In-loop-k) → c.args.fine + 4 * c.loop-k.k + 4 ≤ length c.loop-k.out
+fine-there : (c : In-loop-k) → c.args.fine + 4 * (c.loop-k.k - 1) + 4 ≤ length c.loop-k.out
 fine-there c = omega (arith, c.requires.room, c.loop-k.invariant.stored.within, c.loop-k.invariant.stored.long)
 
 pub returns-then-n-eq0 : goal.returns-then-n-eq0
-returns-then-n-eq0 c = let a = c.args in let r = stored_empty a.entries.now a.p a.n a.out.now a.fine c.if-n-eq0.true in record { n_value = r.0; out_after = r.1 }
+returns-then-n-eq0 c = let a = c.args in let r = stored_empty a.entries.table.now a.entries.first a.entries.count a.out.now a.fine c.if-n-eq0.true in record { n_value = r.0; out_after = r.1 }
 
-pub overflow_sub-k : goal.overflow_sub-k
-overflow_sub-k c = omega (arith, c.if-n-eq0.false)
+-- the entry before it, by its numbers
+before_is : (c : After-at-before) → let a = c.args in EntryIs a.entries.table.now (a.entries.first + entry_size * (c.loop-k.k - 1 - 1)) c.at-before.result
+before_is c = let e = c.at-before.ensures in record { angle_is = e.angle_is; end_is = e.end_is; time_is = e.time_is; packet_is = e.packet_is }
 
-pub overflow_mul-k : goal.overflow_mul-k
-overflow_mul-k c = omega (arith, c.if-n-eq0.false, c.requires.there)
-
-pub overflow_add-p : goal.overflow_add-p
-overflow_add-p c = omega (arith, c.if-n-eq0.false, c.requires.there)
-
-pub pair_at-pair-requires : goal.pair_at-pair-requires
-pair_at-pair-requires c = omega (arith, c.if-n-eq0.false, c.requires.there)
-
-pub loop-k-init : goal.loop-k-init
-loop-k-init c = let a = c.args in turning_first a.entries.now a.p a.n a.out.now a.fine (a.n - 1) (omega (arith, c.if-n-eq0.false)) refl c.pair_at-pair.ensures
-
-pub overflow_mul-q : goal.overflow_mul-q
-overflow_mul-q c = omega (arith, row_there (goal.at.overflow_mul-q c).In-loop-k)
-
-pub overflow_add-q : goal.overflow_add-q
-overflow_add-q c = omega (arith, row_there (goal.at.overflow_add-q c).In-loop-k)
-
-pub overflow_sub-q : goal.overflow_sub-q
-overflow_sub-q c = omega (arith, c.loop-k-test.true)
-
-pub pair_at-before-requires : goal.pair_at-before-requires
-pair_at-before-requires c = omega (arith, row_there (goal.at.pair_at-before-requires c).In-loop-k, c.loop-k-test.true)
-
-pub overflow_mul-k-in-loop-k : goal.overflow_mul-k-in-loop-k
-overflow_mul-k-in-loop-k c = omega (arith, fine-there (goal.at.overflow_mul-k-in-loop-k c).In-loop-k)
-
-pub overflow_add-fine : goal.overflow_add-fine
-overflow_add-fine c = omega (arith, fine-there (goal.at.overflow_add-fine c).In-loop-k)
-
-pub put_fine-requires : goal.put_fine-requires
-put_fine-requires c =
+-- the entry's numbers are narrow
+narrow : (c : In-loop-k) → let e = c.loop-k.entry in (e.angle < 2 ^ 1) × (e.i_end < 2 ^ 3) × (e.time < 2 ^ 33)
+narrow c =
     let a = c.args in
     let l = c.loop-k in
-    record {
-      there = row_there (goal.at.put_fine-requires c).In-loop-k;
-      is = l.invariant.is;
-      type = c.requires.fit.type;
-      fit = row_fits a.entries.now a.p a.n l.k c.requires.fit l.invariant.stored.within;
-      room = fine-there (goal.at.put_fine-requires c).In-loop-k;
-    }
+    entry_narrow a.entries.table.now (a.entries.first + entry_size * (l.k - 1)) c.requires.fit.type (row_fits a.entries.table.now a.entries.first a.entries.count (l.k - 1) c.requires.fit l.invariant.stored.within) l.invariant.is
+
+-- behind the loop the first entry is left
+some : (c : After-loop-k) → 0 < c.args.entries.count
+some c = omega (arith, c.loop-k.invariant.stored.within)
+
+last : (c : After-loop-k) → c.loop-k.k - 1 ≡ 0
+last c = omega (arith, c.loop-k-test.false)
+
+-- it is at hand
+first_at : (c : After-loop-k) → let a = c.args in EntryIs a.entries.table.now a.entries.first c.loop-k.entry
+first_at c = let a = c.args in let l = c.loop-k in first_is a.entries.table.now a.entries.first a.entries.count a.out.now a.fine (some c) l.out l.to (l.k - 1) l.entry l.invariant (last c)
+
+-- narrow too
+first_narrow : (c : After-loop-k) → let e = c.loop-k.entry in (e.angle < 2 ^ 1) × (e.i_end < 2 ^ 3) × (e.time < 2 ^ 33)
+first_narrow c =
+    let a = c.args in
+    let first : a.entries.first + entry_size * 0 ≡ a.entries.first = omega arith in
+    entry_narrow a.entries.table.now a.entries.first c.requires.fit.type (rw first at (row_fits a.entries.table.now a.entries.first a.entries.count 0 c.requires.fit (some c))) (first_at c)
+
+-- there is room for its coarse row
+deep : (c : After-loop-k) → 8 ≤ c.loop-k.to
+deep c = let a = c.args in let l = c.loop-k in first_room a.entries.table.now a.entries.first a.entries.count a.out.now a.fine (some c) l.out l.to (l.k - 1) l.entry l.invariant (last c) c.requires.below
+
+pub loop-k-init : goal.loop-k-init
+loop-k-init c =
+    let a = c.args in
+    let e = c.at-entry.ensures in
+    turning_first a.entries.table.now a.entries.first a.entries.count a.out.now a.fine (a.entries.count - 1) (omega (arith, c.if-n-eq0.false)) refl (record { angle_is = e.angle_is; end_is = e.end_is; time_is = e.time_is; packet_is = e.packet_is })
+
+pub put_fine_row-requires : goal.put_fine_row-requires
+put_fine_row-requires c = let p = (goal.at.put_fine_row-requires c).In-loop-k in let n = narrow p in (n.0, n.1, fine-there p)
 
 pub put_coarse-to-requires : goal.put_coarse-to-requires
 put_coarse-to-requires c =
@@ -70,72 +68,36 @@ put_coarse-to-requires c =
     let l = c.loop-k in
     record {
       few = omega (arith, c.requires.few, l.invariant.stored.within);
-      narrow = pair_narrow a.entries.now (a.p + entry_size * l.k) c.requires.fit.type (row_fits a.entries.now a.p a.n l.k c.requires.fit l.invariant.stored.within) l.invariant.is;
-      below = turning_room a.entries.now a.p a.n a.out.now a.fine l.out l.to l.k l.pair l.invariant (omega (arith, c.loop-k-test.true)) c.pair_at-before.ensures c.requires.below;
-      room = omega (arith, c.requires.room, l.invariant.stored.place, l.invariant.stored.long, c.put_fine.auto);
+      narrow = (narrow (goal.at.put_coarse-to-requires c).In-loop-k).2;
+      below = turning_room a.entries.table.now a.entries.first a.entries.count a.out.now a.fine l.out l.to (l.k - 1) l.entry l.invariant (omega (arith, c.loop-k-test.true)) (before_is (goal.at.put_coarse-to-requires c).After-at-before) c.requires.below;
+      room = omega (arith, c.requires.room, l.invariant.stored.place, l.invariant.stored.long, c.put_fine_row.auto);
     }
-
-pub overflow_sub-k-in-loop-k : goal.overflow_sub-k-in-loop-k
-overflow_sub-k-in-loop-k c = omega (arith, c.loop-k-test.true)
-
-pub loop-k-smaller : goal.loop-k-smaller
-loop-k-smaller c = omega (arith, c.loop-k-test.true)
 
 pub loop-k-preserved : goal.loop-k-preserved
 loop-k-preserved c =
     let a = c.args in
     let l = c.loop-k in
     let put = c.put_coarse-to.ensures in
-    turning_next a.entries.now a.p a.n a.out.now a.fine l.out l.to l.k l.pair l.invariant (omega (arith, c.loop-k-test.true)) c.pair_at-before.ensures c.put_fine.ensures put.pair_value put.out_after
-
-pub put_fine-requires-2 : goal.put_fine-requires-2
-put_fine-requires-2 c =
-    let some : 0 < c.args.n = omega (arith, c.loop-k.invariant.stored.within) in
-    let last : c.loop-k.k ≡ 0 = omega (arith, c.loop-k-test.false) in
-    let a = c.args in
-    let l = c.loop-k in
-    let first : a.p + entry_size * 0 ≡ a.p = omega arith in
-    record {
-      there = omega (arith, c.requires.there, some);
-      is = first_pair a.entries.now a.p a.n a.out.now a.fine some l.out l.to l.k l.pair l.invariant last;
-      type = c.requires.fit.type;
-      fit = rw first at (row_fits a.entries.now a.p a.n 0 c.requires.fit some);
-      room = omega (arith, c.requires.room, l.invariant.stored.long, some);
-    }
+    let fine = fine_put a.entries.table.now (a.entries.first + entry_size * (l.k - 1)) l.entry l.out (a.fine + 4 * (l.k - 1)) l.invariant.is c.put_fine_row.ensures in
+    turning_next a.entries.table.now a.entries.first a.entries.count a.out.now a.fine l.out l.to (l.k - 1) l.entry l.invariant (omega (arith, c.loop-k-test.true)) (before_is (goal.at.loop-k-preserved c).After-at-before) fine put.value put.out_after
 
 pub overflow_sub-to : goal.overflow_sub-to
-overflow_sub-to c =
-    let some : 0 < c.args.n = omega (arith, c.loop-k.invariant.stored.within) in
-    let last : c.loop-k.k ≡ 0 = omega (arith, c.loop-k-test.false) in
-    let deep : 8 ≤ c.loop-k.to = let a = c.args in let l = c.loop-k in first_room a.entries.now a.p a.n a.out.now a.fine some l.out l.to l.k l.pair l.invariant last c.requires.below in
-    deep
+overflow_sub-to c = deep (goal.at.overflow_sub-to c).After-loop-k
 
 pub put_coarse_row-requires : goal.put_coarse_row-requires
 put_coarse_row-requires c =
-    let some : 0 < c.args.n = omega (arith, c.loop-k.invariant.stored.within) in
-    let last : c.loop-k.k ≡ 0 = omega (arith, c.loop-k-test.false) in
-    let deep : 8 ≤ c.loop-k.to = let a = c.args in let l = c.loop-k in first_room a.entries.now a.p a.n a.out.now a.fine some l.out l.to l.k l.pair l.invariant last c.requires.below in
-    let a = c.args in
     let l = c.loop-k in
-    let fit = row_fits a.entries.now a.p a.n l.k c.requires.fit l.invariant.stored.within in (
-      omega arith,
-      pair_narrow a.entries.now (a.p + entry_size * l.k) c.requires.fit.type fit l.invariant.is,
-      omega (arith, deep, c.requires.room, l.invariant.stored.place, l.invariant.stored.long, c.put_fine-2.auto),
-    )
+    let p = (goal.at.put_coarse_row-requires c).After-loop-k in
+    (omega arith, (first_narrow p).2, omega (arith, deep p, c.requires.room, l.invariant.stored.place, l.invariant.stored.long, c.put_fine_row-2.auto))
 
 pub overflow_sub-result : goal.overflow_sub-result
-overflow_sub-result c =
-    let some : 0 < c.args.n = omega (arith, c.loop-k.invariant.stored.within) in
-    let last : c.loop-k.k ≡ 0 = omega (arith, c.loop-k-test.false) in
-    let deep : 8 ≤ c.loop-k.to = let a = c.args in let l = c.loop-k in first_room a.entries.now a.p a.n a.out.now a.fine some l.out l.to l.k l.pair l.invariant last c.requires.below in
-    deep
+overflow_sub-result c = deep (goal.at.overflow_sub-result c).After-loop-k
 
 pub returns : goal.returns
 returns c =
-    let some : 0 < c.args.n = omega (arith, c.loop-k.invariant.stored.within) in
-    let last : c.loop-k.k ≡ 0 = omega (arith, c.loop-k-test.false) in
     let a = c.args in
     let l = c.loop-k in
-    let r = first_stored a.entries.now a.p a.n a.out.now a.fine some l.out l.to l.k l.pair l.invariant last c.requires.below
-    c.put_fine-2.ensures c.put_coarse_row.ensures in
+    let p = (goal.at.returns c).After-loop-k in
+    let fine = fine_put a.entries.table.now a.entries.first l.entry l.out a.fine (first_at p) c.put_fine_row-2.ensures in
+    let r = first_stored a.entries.table.now a.entries.first a.entries.count a.out.now a.fine (some p) l.out l.to (l.k - 1) l.entry l.invariant (last p) c.requires.below fine c.put_coarse_row.ensures in
     record { n_value = r.0; out_after = r.1 }

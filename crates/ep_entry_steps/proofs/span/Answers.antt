@@ -1,11 +1,10 @@
--- The numbers of one time less the other.
-use mathlib.Core.Path.{ap, ◌∙◌}
-use Rattle.format.proofs.Fields.{time_cells}
-use Rattle.format.specs.Ticks.{Ticks90}
-use Rattle.format.specs.Questions.{answer_numbers, ticks90}
+-- From the first record to the last; no records span nothing.
+use mathlib.Core.Path.{◌∙◌}
+use Rattle.ep_entry_steps.proofs.Laws.{span_is, no_span}
 use Rattle.ep_entry_steps.proofs.span.Goals as goal
 
-pub returns : goal.returns
-returns c =
-    let a = c.args in
-    rw (time_cells a.first.pts_ep_start, time_cells a.last.pts_ep_start) (c.answer_of_90.ensures ∙ ap (λ (t : Ticks90). answer_numbers (ticks90 t)) c.less.ensures)
+pub returns-in-Some : goal.returns-in-Some
+returns-in-Some c = c.between.ensures ∙ span_is c.args.rows.now c.in-Some.ensures
+
+pub returns-in-None : goal.returns-in-None
+returns-in-None c = no_span c.args.rows.now c.in-None.ensures

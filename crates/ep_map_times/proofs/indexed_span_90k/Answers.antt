@@ -1,25 +1,19 @@
 -- A refusal stands in front of the map's own entries; else they have their span.
-use mathlib.Core.Path.{◌≡◌, sym, ap, ◌∙◌}
+use mathlib.Core.Path.{ap, ◌∙◌}
+use Rattle.std.proofs.lemmas.Result.{err_from_is_err_and}
 use Rattle.format.specs.Questions.{ticks90}
 use Rattle.format.specs.Tables.{stated}
-use Rattle.table_rows.specs.OwnRows.{owns, owned_of}
-use Rattle.ep_map_queries.specs.InMap.{owned_entries}
-use Rattle.ep_map_queries.proofs.Answers.{not_asked, asked, inside}
+use Rattle.ep_map_queries.proofs.Answers.{not_asked, asked}
 use Rattle.ep_map_times.proofs.Lasts.{span_asks}
 use Rattle.ep_map_times.proofs.indexed_span_90k.Goals as goal
 
-pub span-requires : goal.span-requires
-span-requires c =
-    let own : let a = c.args in owns c.in-Rows.first c.in-Rows.count ≡ owned_entries (stated a.maps.now a.map_rows) (stated a.entries.now a.entry_rows) a.map = sym (ap owned_of c.in-Rows.is) ∙ c.entries_of_map.ensures in
-    let a = c.args in inside (stated a.maps.now a.map_rows) (stated a.entries.now a.entry_rows) a.map own
-
-pub returns-in-Refused : goal.returns-in-Refused
-returns-in-Refused c =
+pub returns-in_err-own : goal.returns-in_err-own
+returns-in_err-own c =
     let a = c.args in
-    not_asked (span_asks (stated a.maps.now a.map_rows) (stated a.entries.now a.entry_rows) a.map) (sym (ap owned_of c.in-Refused.is) ∙ c.entries_of_map.ensures)
+    let p = err_from_is_err_and c.from_residual.result c.from_residual.ensures.1 in
+    rw (p.1, p.2) (not_asked (span_asks (stated a.maps.bytes.now a.maps.rows) (stated a.entries.bytes.now a.entries.rows) a.map) c.in_err-own.ensures)
 
-pub returns-in-Rows : goal.returns-in-Rows
-returns-in-Rows c =
-    let own : let a = c.args in owns c.in-Rows.first c.in-Rows.count ≡ owned_entries (stated a.maps.now a.map_rows) (stated a.entries.now a.entry_rows) a.map = sym (ap owned_of c.in-Rows.is) ∙ c.entries_of_map.ensures in
+pub returns : goal.returns
+returns c =
     let a = c.args in
-    ap (λ x. ticks90 x) c.span.ensures ∙ asked (span_asks (stated a.maps.now a.map_rows) (stated a.entries.now a.entry_rows) a.map) own
+    ap (λ x. ticks90 x) c.span.ensures ∙ asked (span_asks (stated a.maps.bytes.now a.maps.rows) (stated a.entries.bytes.now a.entries.rows) a.map) c.in_ok-own.ensures

@@ -1,11 +1,10 @@
 -- No entries span nothing; else the last time is lessened by the first.
+use Rattle.ep_map_queries.specs.Rows.{rows_in}
 use Rattle.ep_map_times.proofs.Lasts.{no_span, span_is}
 use Rattle.ep_map_times.proofs.span.Goals as goal
 
-pub returns-then-count-eq0 : goal.returns-then-count-eq0
-returns-then-count-eq0 c = let a = c.args in no_span a.entries.now a.first a.count c.if-count-eq0.true
+pub returns-in-Some : goal.returns-in-Some
+returns-in-Some c = span_is (rows_in c.args.entries) c.in-Some.ensures c.time_of.ensures c.less.ensures
 
-pub returns : goal.returns
-returns c =
-    let a = c.args in
-    span_is a.entries.now a.first a.count c.if-count-eq0.false c.time_of.ensures c.time_of-2.ensures c.less.ensures
+pub returns-in-None : goal.returns-in-None
+returns-in-None c = no_span (rows_in c.args.entries) c.in-None.ensures

@@ -1,11 +1,11 @@
 -- Each read that fails shows that the entries pass the end; the numbers are those of the head.
-use Prim.Native.Nat.{ℕ, ◌+◌, ◌*◌, ◌<◌}
-use mathlib.Core.Path.{◌≡◌, sym, ◌∙◌}
-use mathlib.Core.List.{List}
+use Prim.Native.Nat.{◌+◌, ◌*◌}
+use mathlib.Core.Path.{◌≡◌, ◌∙◌}
 use native.Mathlib.Omega.{arith}
 use Rattle.common.proofs.Laws.{Got, got, not_got, went, stayed}
 use Rattle.extension.proofs.Laws.{at_zero, at_end, no_length, too_short_lem, entries, seven}
 use Rattle.extension.proofs.head_at.Goals as goal
+use Rattle.extension.proofs.head_at.Goals.{In_ok-front, In_ok-length, In_ok-skip, In_ok-n}
 
 pub returns-then-start-eq0 : goal.returns-then-start-eq0
 returns-then-start-eq0 c = at_zero c.args.file.now c.args.start c.if-start-eq0.true
@@ -13,93 +13,59 @@ returns-then-start-eq0 c = at_zero c.args.file.now c.args.start c.if-start-eq0.t
 pub returns-then-start-file : goal.returns-then-start-file
 returns-then-start-file c = at_end c.args.file.now c.args.start c.if-start-file.true
 
-pub returns-in_default : goal.returns-in_default
-returns-in_default c =
-    let f = c.args.file.now in
-    too_short_lem f c.args.start (omega (arith, stayed f c.args.start (sym c.in_default.is ∙ c.seek.ensures)))
+-- the reader stands at the start
+at_front : (c : In_ok-front) → c.in_ok-front.front.pos ≡ c.args.start
+at_front c = (went c.args.file.now c.args.start c.in_ok-front.ensures).1
 
-pub returns-in_default-read_u32 : goal.returns-in_default-read_u32
-returns-in_default-read_u32 c =
-    let file : List ℕ = c.args.file.now in
-    let start : ℕ = c.args.start in
-    let at_front : c.in-At.front.pos ≡ start = (went file start (sym c.in-At.is ∙ c.seek.ensures)).1 in
-    too_short_lem file start (omega (arith, not_got file start 4 (rw at_front at (sym c.in_default-read_u32.is ∙ c.read_u32.ensures.same))))
+pub returns-in_err-length : goal.returns-in_err-length
+returns-in_err-length c =
+    let f = c.args.file.now in
+    let start = c.args.start in
+    let front = at_front (goal.at.returns-in_err-length c).In_ok-front in
+    c.from_residual-in_err-length.ensures ∙ too_short_lem f start (omega (arith, not_got f start 4 (rw front at c.in_err-length.ensures.same)))
+
+-- the length is read
+length_read : (c : In_ok-length) → Got c.args.file.now c.args.start 4 c.in_ok-length.length c.in_ok-length.ignored
+length_read c = got c.args.file.now c.args.start 4 (rw (at_front (goal.at.In_ok-length c).In_ok-front) at c.in_ok-length.ensures.same)
 
 pub returns-then-length-eq0 : goal.returns-then-length-eq0
-returns-then-length-eq0 c =
-    let file : List ℕ = c.args.file.now in
-    let start : ℕ = c.args.start in
-    let at_front : c.in-At.front.pos ≡ start = (went file start (sym c.in-At.is ∙ c.seek.ensures)).1 in
-    let got-length : Got file start 4 c.in-Read.length c.in-Read.ignored =
-    got file start 4 (rw at_front at (sym c.in-Read.is ∙ c.read_u32.ensures.same)) in
-    no_length file start got-length.value c.if-length-eq0.true
+returns-then-length-eq0 c = no_length c.args.file.now c.args.start (length_read (goal.at.returns-then-length-eq0 c).In_ok-length).value c.if-length-eq0.true
 
-pub returns-in_default-skip : goal.returns-in_default-skip
-returns-in_default-skip c =
-    let file : List ℕ = c.args.file.now in
-    let start : ℕ = c.args.start in
-    let at_front : c.in-At.front.pos ≡ start = (went file start (sym c.in-At.is ∙ c.seek.ensures)).1 in
-    let got-length : Got file start 4 c.in-Read.length c.in-Read.ignored =
-    got file start 4 (rw at_front at (sym c.in-Read.is ∙ c.read_u32.ensures.same)) in
-    let next = c.in-Read.ignored in
-    too_short_lem file start (omega (arith, got-length.behind, stayed file (next.pos + 7) (sym c.in_default-skip.is ∙ c.skip.ensures)))
+pub returns-in_err-skip : goal.returns-in_err-skip
+returns-in_err-skip c =
+    let f = c.args.file.now in
+    let g = length_read (goal.at.returns-in_err-skip c).In_ok-length in
+    c.from_residual-in_err-skip.ensures ∙ too_short_lem f c.args.start (omega (arith, g.behind, stayed f (c.in_ok-length.ignored.pos + 7) c.in_err-skip.ensures))
 
-pub returns-in_default-read_u8 : goal.returns-in_default-read_u8
-returns-in_default-read_u8 c =
-    let file : List ℕ = c.args.file.now in
-    let start : ℕ = c.args.start in
-    let at_front : c.in-At.front.pos ≡ start = (went file start (sym c.in-At.is ∙ c.seek.ensures)).1 in
-    let got-length : Got file start 4 c.in-Read.length c.in-Read.ignored =
-    got file start 4 (rw at_front at (sym c.in-Read.is ∙ c.read_u32.ensures.same)) in
-    let at_count : c.in-At-skip.count.pos ≡ start + 11 =
-    (went file (start + 11) (rw (got-length.behind, seven start) at (sym c.in-At-skip.is ∙ c.skip.ensures))).1 in
-    too_short_lem file start (omega (arith, not_got file (start + 11) 1 (rw at_count at (sym c.in_default-read_u8.is ∙ c.read_u8.ensures.same))))
+-- the reader stands before the count
+at_count : (c : In_ok-skip) → c.in_ok-skip.field-0.pos ≡ c.args.start + 11
+at_count c =
+    let g = length_read (goal.at.In_ok-skip c).In_ok-length in
+    (went c.args.file.now (c.args.start + 11) (rw (g.behind, seven c.args.start) at c.in_ok-skip.ensures)).1
 
-pub overflow_mul-n : goal.overflow_mul-n
-overflow_mul-n c = omega (arith, rw c.in-Read-read_u8.is at c.read_u8.ensures.below)
+pub returns-in_err-n : goal.returns-in_err-n
+returns-in_err-n c =
+    let f = c.args.file.now in
+    let start = c.args.start in
+    let count = at_count (goal.at.returns-in_err-n c).In_ok-skip in
+    c.from_residual-in_err-n.ensures ∙ too_short_lem f start (omega (arith, not_got f (start + 11) 1 (rw count at c.in_err-n.ensures.same)))
 
-pub returns-in_default-skip-2 : goal.returns-in_default-skip-2
-returns-in_default-skip-2 c =
-    let file : List ℕ = c.args.file.now in
-    let start : ℕ = c.args.start in
-    let at_front : c.in-At.front.pos ≡ start = (went file start (sym c.in-At.is ∙ c.seek.ensures)).1 in
-    let got-length : Got file start 4 c.in-Read.length c.in-Read.ignored =
-    got file start 4 (rw at_front at (sym c.in-Read.is ∙ c.read_u32.ensures.same)) in
-    let at_count : c.in-At-skip.count.pos ≡ start + 11 =
-    (went file (start + 11) (rw (got-length.behind, seven start) at (sym c.in-At-skip.is ∙ c.skip.ensures))).1 in
-    let count : Got file (start + 11) 1 c.in-Read-read_u8.n c.in-Read-read_u8.entries =
-    got file (start + 11) 1 (rw at_count at (sym c.in-Read-read_u8.is ∙ c.read_u8.ensures.same)) in
-    too_short_lem file start (omega (arith, count.value, count.behind, stayed file (c.in-Read-read_u8.entries.pos + 12 * c.in-Read-read_u8.n) (sym c.in_default-skip-2.is ∙ c.skip-2.ensures)))
+-- the count is read
+count_read : (c : In_ok-n) → Got c.args.file.now (c.args.start + 11) 1 c.in_ok-n.n c.in_ok-n.entries
+count_read c = got c.args.file.now (c.args.start + 11) 1 (rw (at_count (goal.at.In_ok-n c).In_ok-skip) at c.in_ok-n.ensures.same)
 
-pub overflow_add-start : goal.overflow_add-start
-overflow_add-start c =
-    let file : List ℕ = c.args.file.now in
-    let start : ℕ = c.args.start in
-    let at_front : c.in-At.front.pos ≡ start = (went file start (sym c.in-At.is ∙ c.seek.ensures)).1 in
-    let got-length : Got file start 4 c.in-Read.length c.in-Read.ignored =
-    got file start 4 (rw at_front at (sym c.in-Read.is ∙ c.read_u32.ensures.same)) in
-    omega (arith, got-length.inside, c.requires)
-
-pub overflow_add-start-2 : goal.overflow_add-start-2
-overflow_add-start-2 c =
-    let file : List ℕ = c.args.file.now in
-    let start : ℕ = c.args.start in
-    let at_front : c.in-At.front.pos ≡ start = (went file start (sym c.in-At.is ∙ c.seek.ensures)).1 in
-    let got-length : Got file start 4 c.in-Read.length c.in-Read.ignored =
-    got file start 4 (rw at_front at (sym c.in-Read.is ∙ c.read_u32.ensures.same)) in
-    let length-below : c.in-Read.length < 4294967296 = rw c.in-Read.is at c.read_u32.ensures.below in
-    omega (arith, got-length.inside, length-below, c.requires)
+pub returns-in_err-skip-2 : goal.returns-in_err-skip-2
+returns-in_err-skip-2 c =
+    let f = c.args.file.now in
+    let g = count_read (goal.at.returns-in_err-skip-2 c).In_ok-n in
+    c.from_residual-in_err-skip-2.ensures
+    ∙ too_short_lem f c.args.start (omega (arith, g.value, g.behind, stayed f (c.in_ok-n.entries.pos + 12 * c.in_ok-n.n) c.in_err-skip-2.ensures))
 
 pub returns : goal.returns
 returns c =
-    let file : List ℕ = c.args.file.now in
-    let start : ℕ = c.args.start in
-    let at_front : c.in-At.front.pos ≡ start = (went file start (sym c.in-At.is ∙ c.seek.ensures)).1 in
-    let got-length : Got file start 4 c.in-Read.length c.in-Read.ignored =
-    got file start 4 (rw at_front at (sym c.in-Read.is ∙ c.read_u32.ensures.same)) in
-    let at_count : c.in-At-skip.count.pos ≡ start + 11 =
-    (went file (start + 11) (rw (got-length.behind, seven start) at (sym c.in-At-skip.is ∙ c.skip.ensures))).1 in
-    let count : Got file (start + 11) 1 c.in-Read-read_u8.n c.in-Read-read_u8.entries =
-    got file (start + 11) 1 (rw at_count at (sym c.in-Read-read_u8.is ∙ c.read_u8.ensures.same)) in
-    let all = went file (c.in-Read-read_u8.entries.pos + 12 * c.in-Read-read_u8.n) (sym c.in-At-skip-2.is ∙ c.skip-2.ensures) in
-    entries file start c.if-start-eq0.false c.if-start-file.false got-length.value c.if-length-eq0.false count.value (omega (arith, count.behind, all.0)) c.smaller.ensures
+    let f = c.args.file.now in
+    let start = c.args.start in
+    let length = length_read (goal.at.returns c).In_ok-length in
+    let count = count_read (goal.at.returns c).In_ok-n in
+    let all = went f (c.in_ok-n.entries.pos + 12 * c.in_ok-n.n) c.in_ok-skip-2.ensures in
+    entries f start c.if-start-eq0.false c.if-start-file.false length.value c.if-length-eq0.false count.value (omega (arith, count.behind, all.0)) c.min.ensures

@@ -1,44 +1,23 @@
 -- Rows that are not there are refused; each turn passes a row with other ids.
-use Prim.Native.Nat.{◌-◌, ◌≤◌}
-use native.Mathlib.Omega.{arith}
-use Rattle.format.specs.Tables.{row_room, extension_cells, stated}
-use Rattle.queries.proofs.Asking.{room}
+use mathlib.Core.Path.{ap, ◌∙◌}
+use Rattle.queries.specs.Answers.{found_of}
+use Rattle.table_rows.proofs.Checked.{passed, returned}
 use Rattle.extension_queries.proofs.Search.{searched_all, not_stated, row_fails, row_is, no_row}
 use Rattle.extension_queries.proofs.entry.Goals as goal
-use Rattle.extension_queries.proofs.entry.Goals.{Else-not-is_stated}
 
--- the rows are there
-rows_fit : (e : Else-not-is_stated) → let a = e.args in a.rows ≤ row_room extension_cells a.extensions.now
-rows_fit e = let a = e.args in room extension_cells (stated a.extensions.now a.rows) e.is_stated.ensures e.if-not-is_stated.false-raw
-
-pub returns-then-not-is_stated : goal.returns-then-not-is_stated
-returns-then-not-is_stated c =
-    let a = c.args in
-    not_stated a.extensions.now a.rows a.id1 a.id2 c.is_stated.ensures c.if-not-is_stated.true-raw
+pub returns-in_err-check : goal.returns-in_err-check
+returns-in_err-check c = let r = returned _ c.from_residual.result c.from_residual.ensures.1 c.in_err-check.ensures in ap found_of r.1 ∙ not_stated _ _ _ _ r.0
 
 pub loop-k-init : goal.loop-k-init
-loop-k-init c = let a = c.args in (omega arith, searched_all a.extensions.now a.rows a.id1 a.id2)
-
-pub cell_at-requires : goal.cell_at-requires
-cell_at-requires c = omega (arith, rows_fit (goal.at.cell_at-requires c).Else-not-is_stated)
-
-pub cell_at-requires-in-loop-k : goal.cell_at-requires-in-loop-k
-cell_at-requires-in-loop-k c = omega (arith, rows_fit (goal.at.cell_at-requires-in-loop-k c).Else-not-is_stated)
+loop-k-init c = searched_all _ _ _ _
 
 pub returns-then-are_ids : goal.returns-then-are_ids
 returns-then-are_ids c =
-    let a = c.args in
-    let l = c.loop-k in
-    row_is a.extensions.now a.rows a.id1 a.id2 l.k (omega arith) c.cell_at.ensures c.cell_at-in-loop-k.ensures c.are_ids.ensures l.invariant.1 c.if-are_ids.true c.is_stated.ensures c.if-not-is_stated.false-raw
+    rw c.from-then-are_ids.ensures
+    (row_is _ _ _ _ _ c.loop-k-test.true c.cell_at-a.ensures c.cell_at-b.ensures (rw (c.from.ensures, c.from-in-loop-k.ensures) at c.are_ids.ensures) c.loop-k.invariant c.if-are_ids.true (passed _ c.in_ok-check.ensures))
 
 pub loop-k-preserved : goal.loop-k-preserved
-loop-k-preserved c =
-    let a = c.args in
-    let l = c.loop-k in
-    (omega arith, row_fails a.extensions.now a.rows a.id1 a.id2 l.k (omega arith) c.cell_at.ensures c.cell_at-in-loop-k.ensures c.are_ids.ensures l.invariant.1 c.if-are_ids.false)
+loop-k-preserved c = row_fails _ _ _ _ _ c.loop-k-test.true c.cell_at-a.ensures c.cell_at-b.ensures (rw (c.from.ensures, c.from-in-loop-k.ensures) at c.are_ids.ensures) c.loop-k.invariant c.if-are_ids.false
 
 pub returns : goal.returns
-returns c =
-    let a = c.args in
-    let l = c.loop-k in
-    no_row a.extensions.now a.rows a.id1 a.id2 l.k c.loop-k-test.false l.invariant.1 c.is_stated.ensures c.if-not-is_stated.false-raw
+returns c = no_row _ _ _ _ _ c.loop-k-test.false c.loop-k.invariant (passed _ c.in_ok-check.ensures)

@@ -1,5 +1,4 @@
 -- A turn copies one byte; what is left of the part, put from here, gives the whole.
-use Prim.Native.Nat.{◌-◌}
 use Rattle.numbers.proofs.Parts.{copying_first, copying_turn, copying_done}
 use Rattle.numbers.proofs.copy.Goals as goal
 
@@ -10,9 +9,6 @@ pub loop-k-preserved : goal.loop-k-preserved
 loop-k-preserved c =
     let a = c.args in
     copying_turn a.s.now a.from a.n a.out.now a.at c.loop-k.invariant c.loop-k-test.true c.requires.0
-
-pub shape_of-out : goal.shape_of-out
-shape_of-out c = c.loop-k.invariant.long
 
 pub returns : goal.returns
 returns c =

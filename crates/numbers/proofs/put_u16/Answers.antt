@@ -1,9 +1,9 @@
--- Two bytes stored one behind the other are one number.
-use mathlib.Core.Path.{refl}
-use Rattle.numbers.proofs.Laws.{stored_joined}
+-- The two bytes are put in place of as many.
+use mathlib.Core.Path.{◌∙◌}
+use Rattle.numbers.proofs.Laws.{two_bytes, bytes_stored}
 use Rattle.numbers.proofs.put_u16.Goals as goal
 
 pub returns : goal.returns
 returns c =
     let a = c.args in
-    stored_joined a.out.now a.at 1 1 a.v a.v refl c.put_u8.ensures c.put_u8-2.ensures
+    bytes_stored a.out.now a.at 2 a.v c.copy_from_slice.ensures.after (c.to_be_bytes.ensures ∙ two_bytes a.v) c.requires

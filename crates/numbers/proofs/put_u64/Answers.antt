@@ -1,10 +1,9 @@
--- Two numbers of four bytes stored one behind the other are one.
-use Prim.Native.Nat.{◌%◌}
-use Rattle.format.proofs.Stores.{bytes_low}
-use Rattle.numbers.proofs.Laws.{stored_joined}
+-- The eight bytes are put in place of as many.
+use mathlib.Core.Path.{◌∙◌}
+use Rattle.numbers.proofs.Laws.{eight_bytes, bytes_stored}
 use Rattle.numbers.proofs.put_u64.Goals as goal
 
 pub returns : goal.returns
 returns c =
     let a = c.args in
-    stored_joined a.out.now a.at 4 4 a.v (a.v % 4294967296) (bytes_low 4 a.v) c.put_u32.ensures c.put_u32-2.ensures
+    bytes_stored a.out.now a.at 8 a.v c.copy_from_slice.ensures.after (c.to_be_bytes.ensures ∙ eight_bytes a.v) c.requires

@@ -1,5 +1,5 @@
 -- A turn stores one row and goes on behind the body of the file and by 20 bytes of the table.
-use Prim.Native.Nat.{◌-◌}
+use Prim.Native.Nat.{◌+◌, ◌*◌}
 use lib.ListN.{length}
 use lib.Seq.{sets}
 use Rattle.format.specs.Bytes.{rows_at}
@@ -11,7 +11,4 @@ use Rattle.program_info.proofs.put_streams.Given as goal
 abbrev pub invariant-loop-k : goal.invariant-loop-k
 invariant-loop-k l =
     Along (next_stream l.file) (length l.file) l.p l.n l.q l.k
-    × Filling (rows_at (stream_at l.file) (next_stream l.file)) l.initial.table (sets l.initial.table l.at (table_bytes (rows_at (stream_at l.file) (next_stream l.file) l.p l.n))) l.table l.cell l.q l.n l.k
-
-abbrev pub decreases-loop-k : goal.decreases-loop-k
-decreases-loop-k l = l.n - l.k
+    × Filling (rows_at (stream_at l.file) (next_stream l.file)) l.initial.table (sets l.initial.table l.at (table_bytes (rows_at (stream_at l.file) (next_stream l.file) l.p l.n))) l.table (l.at + 20 * l.k) l.q l.n l.k

@@ -1,8 +1,9 @@
 -- The search of the table answers the question.
 use mathlib.Core.Path.{◌∙◌}
-use Rattle.format.specs.Tables.{stated}
+use Rattle.std.proofs.Common.{rules}
+use Rattle.format.specs.Questions.{is_audio}
 use Rattle.program_queries.proofs.Laws.{audio_asked}
 use Rattle.program_queries.proofs.next_audio_stream.Goals as goal
 
 pub returns : goal.returns
-returns c = let a = c.args in c.first_row.ensures ∙ audio_asked (stated a.streams.now a.rows) a.from
+returns c = c.first_row.ensures is_audio (λ x r post. search rules) ∙ audio_asked _ _

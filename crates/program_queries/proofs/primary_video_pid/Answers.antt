@@ -1,42 +1,26 @@
 -- The number in the row of the first video stream.
-use mathlib.Core.Path.{◌≡◌, sym, ap, ◌∙◌}
+use mathlib.Core.Path.{ap, ◌∙◌, ◌≡◌}
 use native.Mathlib.Omega.{arith}
-use lib.Dec.{lit<}
+use Rattle.std.proofs.Common.{rules}
 use Rattle.format.specs.ClipRecord.{stream_pid}
 use Rattle.format.specs.Questions.{number, next_video_stream, of_row, ask}
 use Rattle.format.specs.Tables.{rows_of, stream_cells, stated}
 use Rattle.queries.specs.Answers.{found_of}
 use Rattle.queries.specs.Asked.{only_streams}
-use Rattle.row_search.proofs.FirstRow.{of_row_lem}
-use Rattle.program_queries.proofs.Laws.{pid_of, row_there}
+use Rattle.queries.proofs.Asking.{passed_on}
+use Rattle.program_queries.proofs.Laws.{pid_of, row_there, pid_found}
 use Rattle.program_queries.proofs.primary_video_pid.Goals as goal
 
-pub overflow_mul-row : goal.overflow_mul-row
-overflow_mul-row c =
-    let found-row : let a = c.args in number c.in-Number.row ≡ ask (next_video_stream 0) (only_streams (stated a.streams.now a.rows)) = sym (ap found_of c.in-Number.is) ∙ c.next_video_stream.ensures in
-    let a = c.args in record { fits = omega (arith, row_there (stated a.streams.now a.rows) c.in-Number.row found-row) }
+pub returns-in_err-row : goal.returns-in_err-row
+returns-in_err-row c =
+    let l = stated c.args.streams.bytes.now c.args.streams.rows in
+    ap found_of (passed_on c.from_residual.result c.from_residual.ensures.1) ∙ ap (of_row stream_pid (rows_of stream_cells l)) c.in_err-row.ensures ∙ pid_of l
 
-pub cell_at-requires : goal.cell_at-requires
-cell_at-requires c =
-    let found-row : let a = c.args in number c.in-Number.row ≡ ask (next_video_stream 0) (only_streams (stated a.streams.now a.rows)) = sym (ap found_of c.in-Number.is) ∙ c.next_video_stream.ensures in
-    let a = c.args in omega (arith, row_there (stated a.streams.now a.rows) c.in-Number.row found-row)
+pub map-requires : goal.map-requires
+map-requires c = λ row is.
+    let found : number row ≡ ask (next_video_stream 0) (only_streams (stated c.args.streams.bytes.now c.args.streams.rows)) = rw is at c.in_ok-row.ensures in
+    let there = row_there _ row found in
+    (λ κs v x r u. record { fits = omega (arith, there) }, λ κs v x r u l. omega (arith, there))
 
-pub returns-in-Refused : goal.returns-in-Refused
-returns-in-Refused c =
-    let t = c.args in
-    let l = stated t.streams.now t.rows in
-    ap (of_row stream_pid (rows_of stream_cells l)) (sym (ap found_of c.in-Refused.is) ∙ c.next_video_stream.ensures) ∙ pid_of l
-
-pub returns-in-Nothing : goal.returns-in-Nothing
-returns-in-Nothing c =
-    let t = c.args in
-    let l = stated t.streams.now t.rows in
-    ap (of_row stream_pid (rows_of stream_cells l)) (sym (ap found_of c.in-Nothing.is) ∙ c.next_video_stream.ensures) ∙ pid_of l
-
-pub returns-in-Number : goal.returns-in-Number
-returns-in-Number c =
-    let found-row : let a = c.args in number c.in-Number.row ≡ ask (next_video_stream 0) (only_streams (stated a.streams.now a.rows)) = sym (ap found_of c.in-Number.is) ∙ c.next_video_stream.ensures in
-    let t = c.args in
-    let l = stated t.streams.now t.rows in
-    of_row_lem stream_cells 0 l c.in-Number.row (row_there l c.in-Number.row found-row).0 (lit< tt) (omega arith) c.cell_at.ensures
-    ∙ ap (of_row stream_pid (rows_of stream_cells l)) found-row ∙ pid_of l
+pub returns : goal.returns
+returns c = pid_found _ c.in_ok-row.row c.map.result c.in_ok-row.ensures c.map.ensures.cases (λ row pid read. search rules)

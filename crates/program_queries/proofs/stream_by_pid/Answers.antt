@@ -1,8 +1,9 @@
 -- The search of the table answers the question.
 use mathlib.Core.Path.{◌∙◌}
-use Rattle.format.specs.Tables.{stated}
+use lib.Dec.{eqb}
+use Rattle.std.proofs.Common.{rules}
 use Rattle.program_queries.proofs.Laws.{stream_asked}
 use Rattle.program_queries.proofs.stream_by_pid.Goals as goal
 
 pub returns : goal.returns
-returns c = let a = c.args in c.first_row.ensures ∙ stream_asked (stated a.streams.now a.rows) a.pid
+returns c = c.first_row.ensures (λ x. eqb x c.args.pid) (λ x r post. search rules) ∙ stream_asked _ _

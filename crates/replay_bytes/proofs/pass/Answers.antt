@@ -1,45 +1,51 @@
--- Each byte is within both, and what is left after those that are the same decides.
-use Prim.Native.Nat.{◌-◌}
-use borrow.Author.Rules.{rules}
-use Rattle.replay_bytes.proofs.PartLaws.{none_same, one_same, one_differs, all_same, part_no_place, part_too_long, part_outside}
+-- What one of both has not is none; else the library's test decides.
+use Prim.Native.Nat.{◌+◌, ◌<◌}
+use mathlib.Core.Path.{sym, ◌∙◌}
+use mathlib.Core.Logic.{inl, inr}
+use native.Mathlib.Omega.{arith}
+use lib.ListN.{length}
+use Rattle.std.specs.Prelude.{Some}
+use Rattle.std.proofs.lemmas.Slice.{between_to_end}
+use Rattle.replay_bytes.proofs.PartLaws.{part_outside, part_beyond, part_stands, part_differs, cut_part}
 use Rattle.replay_bytes.proofs.pass.Goals as goal
 
-pub returns-then-at-answer : goal.returns-then-at-answer
-returns-then-at-answer c =
+pub returns-in_err-get : goal.returns-in_err-get
+returns-in_err-get c =
     let a = c.args in
-    part_no_place a.answer.now a.at a.other.now a.from a.n (search rules)
+    let h : length a.other.now < a.from + a.n = elim c.in_err-get.ensures.lookup.0 [ inl x ↦ omega arith | inr x ↦ omega arith ] in
+    c.from_residual.ensures ∙ part_outside a.answer.now (Some a.at) a.other.now a.from a.n h
 
-pub returns-then-n-answer : goal.returns-then-n-answer
-returns-then-n-answer c =
+pub returns-in_err-part : goal.returns-in_err-part
+returns-in_err-part c =
     let a = c.args in
-    part_too_long a.answer.now a.at a.other.now a.from a.n (search rules) (search rules)
+    let rest = c.in_ok-get.ensures.lookup.0 in
+    let h : length a.other.now < a.from + a.n = elim c.in_err-part.ensures.lookup.0 [ inl x ↦ omega arith | inr x ↦ omega arith ] in
+    c.from_residual-in_err-part.ensures ∙ part_outside a.answer.now (Some a.at) a.other.now a.from a.n h
 
-pub returns-then-from-other : goal.returns-then-from-other
-returns-then-from-other c =
+pub returns-in_err-get-2 : goal.returns-in_err-get-2
+returns-in_err-get-2 c =
     let a = c.args in
-    part_outside a.answer.now a.at a.other.now a.from a.n (search rules)
+    let rest = c.in_ok-get.ensures.lookup.0 in
+    let part = c.in_ok-part.ensures.lookup.0 in
+    let h : length a.answer.now < a.at = elim c.in_err-get-2.ensures.lookup.0 [ inl x ↦ omega arith | inr x ↦ omega arith ] in
+    c.from_residual-in_err-get-2.ensures ∙ part_beyond a.answer.now a.at a.other.now a.from a.n h (omega arith)
 
-pub returns-then-n-other : goal.returns-then-n-other
-returns-then-n-other c =
+pub returns-then-starts_with : goal.returns-then-starts_with
+returns-then-starts_with c =
     let a = c.args in
-    part_outside a.answer.now a.at a.other.now a.from a.n (search rules)
+    let rest = c.in_ok-get.ensures.lookup.0 in
+    let part = c.in_ok-part.ensures.lookup.0 in
+    let left = c.in_ok-get-2.ensures.lookup.0 in
+    let cut = cut_part a.other.now a.from a.n rest.2 part.2 in
+    let behind = left.2 ∙ between_to_end a.answer.now a.at (length a.answer.now) (omega arith) in
+    part_stands a.answer.now a.at a.other.now a.from a.n (omega arith) cut behind (omega arith) (sym c.starts_with.ensures.value ∙ c.if-starts_with.true)
 
-pub loop-i-init : goal.loop-i-init
-loop-i-init c =
+pub returns-else-starts_with : goal.returns-else-starts_with
+returns-else-starts_with c =
     let a = c.args in
-    none_same a.answer.now a.at a.other.now a.from a.n
-
-pub returns-then-answer-at : goal.returns-then-answer-at
-returns-then-answer-at c =
-    let a = c.args in
-    one_differs a.answer.now a.at a.other.now a.from a.n (search rules) (search rules) c.loop-i-test.true c.loop-i.invariant c.if-answer-at.true
-
-pub loop-i-preserved : goal.loop-i-preserved
-loop-i-preserved c =
-    let a = c.args in
-    one_same a.answer.now a.at a.other.now a.from a.n (search rules) (search rules) c.loop-i-test.true c.loop-i.invariant c.if-answer-at.false
-
-pub returns : goal.returns
-returns c =
-    let a = c.args in
-    all_same a.answer.now a.at a.other.now a.from a.n (search rules) (search rules) c.loop-i-test.false c.loop-i.invariant
+    let rest = c.in_ok-get.ensures.lookup.0 in
+    let part = c.in_ok-part.ensures.lookup.0 in
+    let left = c.in_ok-get-2.ensures.lookup.0 in
+    let cut = cut_part a.other.now a.from a.n rest.2 part.2 in
+    let behind = left.2 ∙ between_to_end a.answer.now a.at (length a.answer.now) (omega arith) in
+    part_differs a.answer.now a.at a.other.now a.from a.n (omega arith) cut behind (sym c.starts_with.ensures.value ∙ c.if-starts_with.false)

@@ -1,11 +1,6 @@
 -- Each number has its cell, and what is left after those that are the same decides.
-use Prim.Native.Nat.{◌-◌}
-use lib.ListN.{length}
 use Rattle.replay_bytes.proofs.PartLaws.{Told}
 use Rattle.replay_bytes.proofs.pass_numbers.Given as goal
 
 abbrev pub invariant-loop-k : goal.invariant-loop-k
 invariant-loop-k l = Told l.answer l.numbers l.k
-
-abbrev pub decreases-loop-k : goal.decreases-loop-k
-decreases-loop-k l = length l.numbers - l.k

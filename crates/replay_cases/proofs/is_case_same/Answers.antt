@@ -6,4 +6,4 @@ use Rattle.replay_cases.proofs.is_case_same.Goals as goal
 pub returns : goal.returns
 returns c =
     let a = c.args in
-    rw (add-sub_cancel_left a.at a.n, add-sub_cancel_left (a.at + a.n) a.m) at c.is_same.ensures
+    rw (add-sub_cancel_left 8 a.n, add-sub_cancel_left (8 + a.n) a.m) at c.is_same.ensures

@@ -1,19 +1,28 @@
 -- Each case stands behind the one before; what is counted, with what is left, is the whole.
-use Prim.Native.Nat.{◌-◌}
-use borrow.Author.Rules.{rules}
-use Rattle.replay_cases.proofs.SampleLaws.{none_counted, one_counted, cut_short_lem, none_left}
+use Prim.Native.Nat.{◌+◌}
+use mathlib.Core.Path.{ap, ◌∙◌}
+use native.Mathlib.Omega.{arith}
+use lib.ListN.{length}
+use Rattle.std.proofs.lemmas.Slice.{between_to_end}
+use Rattle.replay_cases.proofs.SampleLaws.{flag_is, none_counted, ended, one_counted}
 use Rattle.replay_cases.proofs.replay.Goals as goal
 
-pub loop-at-init : goal.loop-at-init
-loop-at-init c = none_counted c.args.sample.now
+pub loop-rest-init : goal.loop-rest-init
+loop-rest-init c = none_counted c.args.sample.now
+
+pub loop-rest-preserved : goal.loop-rest-preserved
+loop-rest-preserved c =
+    let l = c.loop-rest in
+    let rest = l.rest.now in
+    let n = c.cell_at-n.ensures.same in
+    let m = c.cell_at-m.ensures.same in
+    let count = ap (λ k. l.same + k) (c.from-same.ensures ∙ flag_is c.is_case_same.result) in
+    one_counted c.args.sample.now (omega (arith, n, m)) (rw (← n, ← m) c.is_case_same.ensures) count
+    (between_to_end rest (8 + c.cell_at-n.result + c.cell_at-m.result) (length rest) (omega arith) ∙ rw (n, m)) l.invariant
+
+pub returns-after-loop-rest : goal.returns-after-loop-rest
+returns-after-loop-rest c = ended c.args.sample.now (omega arith) c.loop-rest.invariant
 
 pub returns-then-n-m : goal.returns-then-n-m
 returns-then-n-m c =
-    cut_short_lem c.args.sample.now (search rules) c.cell_at-n.ensures.same c.cell_at-m.ensures.same c.loop-at.invariant c.if-n-m.true
-
-pub loop-at-preserved : goal.loop-at-preserved
-loop-at-preserved c =
-    one_counted c.args.sample.now (search rules) c.cell_at-n.ensures.same c.cell_at-m.ensures.same c.loop-at.invariant (search rules) c.is_case_same.ensures c.one_more-same.ensures
-
-pub returns : goal.returns
-returns c = none_left c.args.sample.now c.loop-at-test.false c.loop-at.invariant
+    ended c.args.sample.now (omega (arith, c.cell_at-n.ensures.same, c.cell_at-m.ensures.same)) c.loop-rest.invariant

@@ -87,14 +87,6 @@ overflow_add-len-in-loop-k-3 c =
     (left_map a.file.now a.start a.count l.k c.loop-k-test.true c.requires l.invariant.left) in
     omega (arith, rows.few, c.if-runs-gt-MOST_RUNS.false, c.loop-k.invariant.small, bound, c.loop-k-test.true)
 
-pub overflow_add-k : goal.overflow_add-k
-overflow_add-k c =
-    let bound : c.args.start + 8 + 12 * c.args.count ≤ 536870912 = omega (arith, (there c.args.file.now c.args.start c.args.count c.requires (omega (arith, c.if-count-eq0.false))).headers, c.requires.small) in
-    omega (arith, bound, c.loop-k-test.true)
-
-pub loop-k-smaller : goal.loop-k-smaller
-loop-k-smaller c = omega (arith, c.loop-k-test.true)
-
 pub loop-k-preserved : goal.loop-k-preserved
 loop-k-preserved c =
     let a = c.args in

@@ -15,26 +15,19 @@ overflow_add-body-2 c = omega (arith, c.requires.room)
 pub loop-k-init : goal.loop-k-init
 loop-k-init c =
     let a = c.args in
-    putting_first a.file.now a.start a.count a.out.now a.at c.requires
+    putting_first a.file.now a.from.file a.count a.out.now a.from.out c.requires
 
 pub put_map-body-requires : goal.put_map-body-requires
 put_map-body-requires c =
     let a = c.args in
     let l = c.loop-k in
-    putting_room a.file.now a.start a.count a.out.now a.at c.requires l.out l.body l.k l.invariant c.loop-k-test.true
-
-pub overflow_add-k : goal.overflow_add-k
-overflow_add-k c =
-    omega (arith, c.requires.few, c.loop-k-test.true)
-
-pub loop-k-smaller : goal.loop-k-smaller
-loop-k-smaller c = omega (arith, c.loop-k-test.true)
+    putting_room a.file.now a.from.file a.count a.out.now a.from.out c.requires l.out l.body l.k l.invariant c.loop-k-test.true
 
 pub loop-k-preserved : goal.loop-k-preserved
 loop-k-preserved c =
     let a = c.args in
     let l = c.loop-k in
-    putting_turn a.file.now a.start a.count a.out.now a.at c.requires l.out l.body l.k l.invariant c.loop-k-test.true c.put_map-body.ensures.value c.put_map-body.ensures.out_after
+    putting_turn a.file.now a.from.file a.count a.out.now a.from.out c.requires l.out l.body l.k l.invariant c.loop-k-test.true c.put_map-body.ensures.value c.put_map-body.ensures.out_after
 
 pub shape_of-out : goal.shape_of-out
 shape_of-out c = c.loop-k.invariant.long
@@ -43,5 +36,5 @@ pub returns : goal.returns
 returns c =
     let a = c.args in
     let l = c.loop-k in
-    let r = putting_done a.file.now a.start a.count a.out.now a.at c.requires l.out l.body l.k l.invariant c.loop-k-test.false in
+    let r = putting_done a.file.now a.from.file a.count a.out.now a.from.out c.requires l.out l.body l.k l.invariant c.loop-k-test.false in
     record { value = r.0; out_after = r.1 }

@@ -7,28 +7,28 @@ use Rattle.format.proofs.Places.{program_head}
 use Rattle.rewrite_program.proofs.Laws.{program_long, program_ends, streams_within}
 use Rattle.rewrite_program.proofs.measure_program.Goals as goal
 
-pub overflow_add-p : goal.overflow_add-p
-overflow_add-p c =
-    let head : c.args.p + 8 ≤ length c.args.file.now = omega (arith, program_head c.args.file.now c.args.p, c.requires.0) in
+pub overflow_add-from : goal.overflow_add-from
+overflow_add-from c =
+    let head : c.args.from.file + 8 ≤ length c.args.file.now = omega (arith, program_head c.args.file.now c.args.from.file, c.requires.0) in
     omega (arith, head)
 
 pub u8_at-num_streams-requires : goal.u8_at-num_streams-requires
 u8_at-num_streams-requires c =
-    let head : c.args.p + 8 ≤ length c.args.file.now = omega (arith, program_head c.args.file.now c.args.p, c.requires.0) in
+    let head : c.args.from.file + 8 ≤ length c.args.file.now = omega (arith, program_head c.args.file.now c.args.from.file, c.requires.0) in
     omega (arith, head)
 
-pub overflow_add-p-2 : goal.overflow_add-p-2
-overflow_add-p-2 c =
-    let head : c.args.p + 8 ≤ length c.args.file.now = omega (arith, program_head c.args.file.now c.args.p, c.requires.0) in
+pub overflow_add-streams : goal.overflow_add-streams
+overflow_add-streams c =
+    let head : c.args.from.file + 8 ≤ length c.args.file.now = omega (arith, program_head c.args.file.now c.args.from.file, c.requires.0) in
     omega (arith, head)
 
 pub measure_streams-requires : goal.measure_streams-requires
 measure_streams-requires c =
     let f = c.args.file.now in
     let count = c.u8_at-num_streams.ensures.same in
-    (streams_within f c.args.p count c.requires.0, omega (arith, program_long f c.args.p count, c.requires.1))
+    (streams_within f c.args.from.file count c.requires.0, omega (arith, program_long f c.args.from.file count, c.requires.1))
 
 pub returns : goal.returns
 returns c =
     let a = c.args in
-    program_ends a.file.now a.p c.u8_at-num_streams.ensures.same a.at refl c.measure_streams.ensures
+    program_ends a.file.now a.from.file c.u8_at-num_streams.ensures.same a.from.out refl c.measure_streams.ensures

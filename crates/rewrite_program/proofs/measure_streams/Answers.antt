@@ -21,49 +21,41 @@ use Rattle.rewrite_program.proofs.measure_streams.Goals as goal
 the-same : (n : ℕ) → n ≡ n
 the-same n = refl
 
-pub loop-k-init : goal.loop-k-init
-loop-k-init c =
+pub loop-init : goal.loop-init
+loop-init c =
     let a = c.args in
     let f = a.file.now in (
-      along_first (next_stream f) (le_trans (end_ge (next_stream f) (up_stream f) a.p a.n) c.requires.0),
-      ap (λ (l : List ℕ). a.at + length l) (ap (flat stream_bytes) (rest_all (stream_at f) (next_stream f) a.p a.n)),
+      along_first (next_stream f) (le_trans (end_ge (next_stream f) (up_stream f) a.from.file a.n) c.requires.0),
+      ap (λ (l : List ℕ). a.from.out + length l) (ap (flat stream_bytes) (rest_all (stream_at f) (next_stream f) a.from.file a.n)),
     )
 
 pub stream_row-requires : goal.stream_row-requires
 stream_row-requires c =
     let bytes : List ℕ = c.args.file.now in
-    let within : next_stream bytes c.loop-k.q ≤ length bytes = along_within c.loop-k.invariant.0 (up_stream bytes) c.loop-k-test.true c.requires.0 in
+    let within : next_stream bytes c.loop.to.file ≤ length bytes = along_within c.loop.invariant.0 (up_stream bytes) c.loop-test.true c.requires.0 in
     within
 
 pub overflow_add-to : goal.overflow_add-to
 overflow_add-to c =
-    let l = c.loop-k in
+    let l = c.loop in
     let a = c.args in
     let f : List ℕ = a.file.now in
-    let added = row_added (stream_at f) (next_stream f) stream_bytes (a.at + length (new_streams f a.p a.n)) l.to l.q a.n l.k l.invariant.1 c.loop-k-test.true (c.row_length-to.ensures ∙ ap (λ (r : Row). length (stream_bytes r)) c.stream_row.ensures) (the-same (next_stream f l.q)) in
+    let added = row_added (stream_at f) (next_stream f) stream_bytes (a.from.out + length (new_streams f a.from.file a.n)) l.to.out l.to.file a.n l.counter l.invariant.1 c.loop-test.true (c.row_length.ensures ∙ ap (λ (r : Row). length (stream_bytes r)) c.stream_row.ensures) (the-same (next_stream f l.to.file)) in
     record { fits = omega (arith, added, c.requires.1) }
 
-pub next_stream-q-requires : goal.next_stream-q-requires
-next_stream-q-requires c =
+pub next_stream-requires : goal.next_stream-requires
+next_stream-requires c =
     let bytes : List ℕ = c.args.file.now in
-    let within : next_stream bytes c.loop-k.q ≤ length bytes = along_within c.loop-k.invariant.0 (up_stream bytes) c.loop-k-test.true c.requires.0 in
+    let within : next_stream bytes c.loop.to.file ≤ length bytes = along_within c.loop.invariant.0 (up_stream bytes) c.loop-test.true c.requires.0 in
     within
 
-pub loop-k-preserved : goal.loop-k-preserved
-loop-k-preserved c =
+pub loop-preserved : goal.loop-preserved
+loop-preserved c =
     let bytes : List ℕ = c.args.file.now in
-    let within : next_stream bytes c.loop-k.q ≤ length bytes = along_within c.loop-k.invariant.0 (up_stream bytes) c.loop-k-test.true c.requires.0 in
-    let next = c.next_stream-q.ensures in
-    let l = c.loop-k in
+    let within : next_stream bytes c.loop.to.file ≤ length bytes = along_within c.loop.invariant.0 (up_stream bytes) c.loop-test.true c.requires.0 in
+    let next = c.next_stream.ensures in
+    let l = c.loop in
     let a = c.args in
     let f : List ℕ = a.file.now in
-    let added = row_added (stream_at f) (next_stream f) stream_bytes (a.at + length (new_streams f a.p a.n)) l.to l.q a.n l.k l.invariant.1 c.loop-k-test.true (c.row_length-to.ensures ∙ ap (λ (r : Row). length (stream_bytes r)) c.stream_row.ensures) next in
-    (along_turn c.loop-k.invariant.0 c.loop-k-test.true next (omega (arith, next, within)), added)
-
-pub returns : goal.returns
-returns c =
-    let l = c.loop-k in
-    let a = c.args in
-    let f = a.file.now in
-    let all = rows_added (stream_at f) (next_stream f) stream_bytes (a.at + length (new_streams f a.p a.n)) l.to l.q a.n l.k l.invariant.1 c.loop-k-test.false in
-    places_are (along_done l.invariant.0 c.loop-k-test.false) all
+    let added = row_added (stream_at f) (next_stream f) stream_bytes (a.from.out + length (new_streams f a.from.file a.n)) l.to.out l.to.file a.n l.counter l.invariant.1 c.loop-test.true (c.row_length.ensures ∙ ap (λ (r : Row). length (stream_bytes r)) c.stream_row.ensures) next in
+    (along_turn c.loop.invariant.0 c.loop-test.true next (omega (arith, next, within)), added)

@@ -11,47 +11,47 @@ both a b = (a, b)
 
 pub program_row-row-requires : goal.program_row-row-requires
 program_row-row-requires c =
-    let head : c.args.p + 8 ≤ length c.args.file.now = omega (arith, program_head c.args.file.now c.args.p, c.requires.0) in
+    let head : c.args.from.file + 8 ≤ length c.args.file.now = omega (arith, program_head c.args.file.now c.args.from.file, c.requires.0) in
     head
 
-pub put_row-to-requires : goal.put_row-to-requires
-put_row-to-requires c =
+pub put_row-behind-requires : goal.put_row-behind-requires
+put_row-behind-requires c =
     let a = c.args in
-    head_room a.file.now a.p a.out.now a.at c.program_row-row.ensures c.requires.1
+    head_room a.file.now a.from.file a.out.now a.from.out c.program_row-row.ensures c.requires.1
 
-pub overflow_add-p : goal.overflow_add-p
-overflow_add-p c =
-    let head : c.args.p + 8 ≤ length c.args.file.now = omega (arith, program_head c.args.file.now c.args.p, c.requires.0) in
+pub overflow_add-from : goal.overflow_add-from
+overflow_add-from c =
+    let head : c.args.from.file + 8 ≤ length c.args.file.now = omega (arith, program_head c.args.file.now c.args.from.file, c.requires.0) in
     omega (arith, head)
 
 pub u8_at-num_streams-requires : goal.u8_at-num_streams-requires
 u8_at-num_streams-requires c =
-    let head : c.args.p + 8 ≤ length c.args.file.now = omega (arith, program_head c.args.file.now c.args.p, c.requires.0) in
+    let head : c.args.from.file + 8 ≤ length c.args.file.now = omega (arith, program_head c.args.file.now c.args.from.file, c.requires.0) in
     omega (arith, head)
 
-pub overflow_add-p-2 : goal.overflow_add-p-2
-overflow_add-p-2 c =
-    let head : c.args.p + 8 ≤ length c.args.file.now = omega (arith, program_head c.args.file.now c.args.p, c.requires.0) in
+pub overflow_add-streams : goal.overflow_add-streams
+overflow_add-streams c =
+    let head : c.args.from.file + 8 ≤ length c.args.file.now = omega (arith, program_head c.args.file.now c.args.from.file, c.requires.0) in
     omega (arith, head)
 
 pub put_streams-requires : goal.put_streams-requires
 put_streams-requires c =
-    let head : c.args.p + 8 ≤ length c.args.file.now = omega (arith, program_head c.args.file.now c.args.p, c.requires.0) in
+    let head : c.args.from.file + 8 ≤ length c.args.file.now = omega (arith, program_head c.args.file.now c.args.from.file, c.requires.0) in
     let a = c.args in
     let f = a.file.now in
     let count = c.u8_at-num_streams.ensures.same in
     let is = c.program_row-row.ensures in
-    let head = both c.put_row-to.ensures.value c.put_row-to.ensures.out_after in
-    let place = head_place f a.p count a.out.now a.at is head in
-    let room = streams_room f a.p count a.out.now a.at is head c.requires.1 in
-    (streams_within f a.p count c.requires.0, omega arith)
+    let head = both c.put_row-behind.ensures.value c.put_row-behind.ensures.out_after in
+    let place = head_place f a.from.file count a.out.now a.from.out is head in
+    let room = streams_room f a.from.file count a.out.now a.from.out is head c.requires.1 in
+    (streams_within f a.from.file count c.requires.0, omega arith)
 
 pub returns : goal.returns
 returns c =
-    let head : c.args.p + 8 ≤ length c.args.file.now = omega (arith, program_head c.args.file.now c.args.p, c.requires.0) in
+    let head : c.args.from.file + 8 ≤ length c.args.file.now = omega (arith, program_head c.args.file.now c.args.from.file, c.requires.0) in
     let a = c.args in
     let f = a.file.now in
     let count = c.u8_at-num_streams.ensures.same in
     let is = c.program_row-row.ensures in
-    let head = both c.put_row-to.ensures.value c.put_row-to.ensures.out_after in
-    let put = c.put_streams.ensures in record { value = program_ends f a.p count a.at (head_place f a.p count a.out.now a.at is head) put.value; out_after = streams_put f a.p count a.out.now a.at is head put.out_after }
+    let head = both c.put_row-behind.ensures.value c.put_row-behind.ensures.out_after in
+    let put = c.put_streams.ensures in record { value = program_ends f a.from.file count a.from.out (head_place f a.from.file count a.out.now a.from.out is head) put.value; out_after = streams_put f a.from.file count a.out.now a.from.out is head put.out_after }

@@ -23,31 +23,31 @@ added : (f : List ℕ) (all to q n k : ℕ) → Adding (new_program f) (next_pro
     → {q' to' : ℕ} → q' ≡ next_program f q → to' ≡ to + length (new_program f q) → Adding (new_program f) (next_program f) as_is all to' q' n (k + 1)
 added f all to q n k a more e place = rw place (row_added (new_program f) (next_program f) as_is all to q n k a more refl e)
 
-pub loop-k-init : goal.loop-k-init
-loop-k-init c =
+pub loop-init : goal.loop-init
+loop-init c =
     let a = c.args in
     let f = a.file.now in (
-      along_first (next_program f) (le_trans (end_ge (next_program f) (up_program f) a.p a.n) c.requires.0),
-      ap (λ (l : List ℕ). a.at + length l) (ap (flat as_is) (rest_all (new_program f) (next_program f) a.p a.n) ∙ flat_gather as_is (new_program f) (next_program f) a.p a.n),
+      along_first (next_program f) (le_trans (end_ge (next_program f) (up_program f) a.from.file a.n) c.requires.0),
+      ap (λ (l : List ℕ). a.from.out + length l) (ap (flat as_is) (rest_all (new_program f) (next_program f) a.from.file a.n) ∙ flat_gather as_is (new_program f) (next_program f) a.from.file a.n),
     )
 
-pub measure_program-behind-requires : goal.measure_program-behind-requires
-measure_program-behind-requires c =
+pub measure_program-to-requires : goal.measure_program-to-requires
+measure_program-to-requires c =
     let bytes : List ℕ = c.args.file.now in
-    let within : next_program bytes c.loop-k.q ≤ length bytes = along_within c.loop-k.invariant.0 (up_program bytes) c.loop-k-test.true c.requires.0 in
-    (within, omega (arith, added bytes (c.args.at + length (new_items bytes c.args.p c.args.n)) c.loop-k.to c.loop-k.q c.args.n c.loop-k.k c.loop-k.invariant.1 c.loop-k-test.true refl refl, c.requires.1))
+    let within : next_program bytes c.loop.to.file ≤ length bytes = along_within c.loop.invariant.0 (up_program bytes) c.loop-test.true c.requires.0 in
+    (within, omega (arith, added bytes (c.args.from.out + length (new_items bytes c.args.from.file c.args.n)) c.loop.to.out c.loop.to.file c.args.n c.loop.counter c.loop.invariant.1 c.loop-test.true refl refl, c.requires.1))
 
-pub loop-k-preserved : goal.loop-k-preserved
-loop-k-preserved c =
+pub loop-preserved : goal.loop-preserved
+loop-preserved c =
     let bytes : List ℕ = c.args.file.now in
-    let within : next_program bytes c.loop-k.q ≤ length bytes = along_within c.loop-k.invariant.0 (up_program bytes) c.loop-k-test.true c.requires.0 in
-    let next = ap (λ (r : Places). r.file) c.measure_program-behind.ensures in
-    let place = ap (λ (r : Places). r.out) c.measure_program-behind.ensures in
-    (along_turn c.loop-k.invariant.0 c.loop-k-test.true next (omega (arith, next, within)), added bytes (c.args.at + length (new_items bytes c.args.p c.args.n)) c.loop-k.to c.loop-k.q c.args.n c.loop-k.k c.loop-k.invariant.1 c.loop-k-test.true next place)
+    let within : next_program bytes c.loop.to.file ≤ length bytes = along_within c.loop.invariant.0 (up_program bytes) c.loop-test.true c.requires.0 in
+    let next = ap (λ (r : Places). r.file) c.measure_program-to.ensures in
+    let place = ap (λ (r : Places). r.out) c.measure_program-to.ensures in
+    (along_turn c.loop.invariant.0 c.loop-test.true next (omega (arith, next, within)), added bytes (c.args.from.out + length (new_items bytes c.args.from.file c.args.n)) c.loop.to.out c.loop.to.file c.args.n c.loop.counter c.loop.invariant.1 c.loop-test.true next place)
 
 pub returns : goal.returns
 returns c =
-    let l = c.loop-k in
+    let l = c.loop in
     let a = c.args in
     let f = a.file.now in
-    rows_added (new_program f) (next_program f) as_is (a.at + length (new_items f a.p a.n)) l.to l.q a.n l.k l.invariant.1 c.loop-k-test.false
+    rows_added (new_program f) (next_program f) as_is (a.from.out + length (new_items f a.from.file a.n)) l.to.out l.to.file a.n l.counter l.invariant.1 c.loop-test.false

@@ -17,8 +17,8 @@ u8_at-num_programs-requires c =
     let head : c.args.start + 6 ≤ length c.args.file.now = head_within c.args.file.now c.args.start refl c.requires in
     omega (arith, head)
 
-pub overflow_add-start-2 : goal.overflow_add-start-2
-overflow_add-start-2 c =
+pub overflow_add-items : goal.overflow_add-items
+overflow_add-items c =
     let head : c.args.start + 6 ≤ length c.args.file.now = head_within c.args.file.now c.args.start refl c.requires in
     omega (arith, head)
 

@@ -18,43 +18,43 @@ use Rattle.rewrite_sections.specs.Sections.{new_items}
 use Rattle.rewrite_sections.proofs.Groups.{flat_gather}
 use Rattle.rewrite_sections.proofs.put_items.Goals as goal
 
-pub loop-k-init : goal.loop-k-init
-loop-k-init c =
+pub loop-init : goal.loop-init
+loop-init c =
     let a = c.args in
     let f = a.file.now in (
-      along_first (next_program f) (le_trans (end_ge (next_program f) (up_program f) a.p a.n) c.requires.0),
-      storing_first a.out.now (new_items f a.p a.n) a.at c.requires.1
-          (ap (flat as_is) (rest_all (new_program f) (next_program f) a.p a.n) ∙ flat_gather as_is (new_program f) (next_program f) a.p a.n),
+      along_first (next_program f) (le_trans (end_ge (next_program f) (up_program f) a.from.file a.n) c.requires.0),
+      storing_first a.out.now (new_items f a.from.file a.n) a.from.out c.requires.1
+          (ap (flat as_is) (rest_all (new_program f) (next_program f) a.from.file a.n) ∙ flat_gather as_is (new_program f) (next_program f) a.from.file a.n),
     )
 
-pub put_program-behind-requires : goal.put_program-behind-requires
-put_program-behind-requires c =
+pub put_program-to-requires : goal.put_program-to-requires
+put_program-to-requires c =
     let bytes : List ℕ = c.args.file.now in
-    let within : next_program bytes c.loop-k.q ≤ length bytes = along_within c.loop-k.invariant.0 (up_program bytes) c.loop-k-test.true c.requires.0 in
-    let l = c.loop-k in
+    let within : next_program bytes c.loop.to.file ≤ length bytes = along_within c.loop.invariant.0 (up_program bytes) c.loop-test.true c.requires.0 in
+    let l = c.loop in
     let f = bytes in
-    (within, row_room_lem (new_program f) (next_program f) as_is l.q c.args.n l.k l.invariant.1 c.loop-k-test.true)
+    (within, row_room_lem (new_program f) (next_program f) as_is l.to.file c.args.n l.counter l.invariant.1 c.loop-test.true)
 
-pub loop-k-preserved : goal.loop-k-preserved
-loop-k-preserved c =
+pub loop-preserved : goal.loop-preserved
+loop-preserved c =
     let bytes : List ℕ = c.args.file.now in
-    let within : next_program bytes c.loop-k.q ≤ length bytes = along_within c.loop-k.invariant.0 (up_program bytes) c.loop-k-test.true c.requires.0 in
-    let l = c.loop-k in
+    let within : next_program bytes c.loop.to.file ≤ length bytes = along_within c.loop.invariant.0 (up_program bytes) c.loop-test.true c.requires.0 in
+    let l = c.loop in
     let f = bytes in
-    let put = c.put_program-behind.ensures in
+    let put = c.put_program-to.ensures in
     let next = ap (λ (r : Places). r.file) put.value in
     let place = ap (λ (r : Places). r.out) put.value in (
-      along_turn l.invariant.0 c.loop-k-test.true next (omega (arith, next, within)),
-      row_put (new_program f) (next_program f) as_is l.q c.args.n l.k l.invariant.1 c.loop-k-test.true put.out_after place next,
+      along_turn l.invariant.0 c.loop-test.true next (omega (arith, next, within)),
+      row_put (new_program f) (next_program f) as_is l.to.file c.args.n l.counter l.invariant.1 c.loop-test.true put.out_after place next,
     )
 
 pub shape_of-out : goal.shape_of-out
-shape_of-out c = c.loop-k.invariant.1.long
+shape_of-out c = c.loop.invariant.1.long
 
 pub returns : goal.returns
 returns c =
-    let l = c.loop-k in
+    let l = c.loop in
     let a = c.args in
     let f = a.file.now in
-    let done = storing_done l.invariant.1 (ap (flat as_is) (rest_done (new_program f) (next_program f) l.q a.n l.k c.loop-k-test.false)) in
+    let done = storing_done l.invariant.1 (ap (flat as_is) (rest_done (new_program f) (next_program f) l.to.file a.n l.counter c.loop-test.false)) in
     record { value = done.0; out_after = done.1 }

@@ -1,5 +1,5 @@
 -- A turn stores one program with its streams and goes on behind them, in the file and in the output.
-use Prim.Native.Nat.{◌+◌, ◌-◌}
+use Prim.Native.Nat.{◌+◌}
 use lib.ListN.{length}
 use lib.Seq.{sets}
 use Rattle.format.specs.Programs.{next_program}
@@ -10,10 +10,7 @@ use Rattle.rewrite_program.specs.Programs.{new_program}
 use Rattle.rewrite_sections.specs.Sections.{new_items}
 use Rattle.rewrite_sections.proofs.put_items.Given as goal
 
-abbrev pub invariant-loop-k : goal.invariant-loop-k
-invariant-loop-k l =
-    Along (next_program l.file) (length l.file) l.p l.n l.q l.k
-    × Storing l.initial.out (sets l.initial.out l.at (new_items l.file l.p l.n)) (l.at + length (new_items l.file l.p l.n)) (rows_left (new_program l.file) (next_program l.file) as_is l.q l.n l.k) l.out l.to
-
-abbrev pub decreases-loop-k : goal.decreases-loop-k
-decreases-loop-k l = l.n - l.k
+abbrev pub invariant-loop : goal.invariant-loop
+invariant-loop l =
+    Along (next_program l.file) (length l.file) l.initial.to.file l.n l.to.file l.counter
+    × Storing l.initial.out (sets l.initial.out l.initial.to.out (new_items l.file l.initial.to.file l.n)) (l.initial.to.out + length (new_items l.file l.initial.to.file l.n)) (rows_left (new_program l.file) (next_program l.file) as_is l.to.file l.n l.counter) l.out l.to.out

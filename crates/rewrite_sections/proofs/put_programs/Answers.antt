@@ -8,33 +8,33 @@ use Rattle.rewrite_sections.proofs.Groups.{programs_long, items_room, programs_p
 use Rattle.rewrite_sections.proofs.Lengths.{programs_short}
 use Rattle.rewrite_sections.proofs.put_programs.Goals as goal
 
-pub overflow_add-start : goal.overflow_add-start
-overflow_add-start c =
-    let head : c.args.start + 6 ≤ length c.args.file.now = head_within c.args.file.now c.args.start refl c.requires.ends in
+pub overflow_add-from : goal.overflow_add-from
+overflow_add-from c =
+    let head : c.args.from.file + 6 ≤ length c.args.file.now = head_within c.args.file.now c.args.from.file refl c.requires.ends in
     omega (arith, head)
 
 pub u8_at-num_programs-requires : goal.u8_at-num_programs-requires
 u8_at-num_programs-requires c =
-    let head : c.args.start + 6 ≤ length c.args.file.now = head_within c.args.file.now c.args.start refl c.requires.ends in
+    let head : c.args.from.file + 6 ≤ length c.args.file.now = head_within c.args.file.now c.args.from.file refl c.requires.ends in
     omega (arith, head)
 
 pub overflow_sub-size : goal.overflow_sub-size
 overflow_sub-size c =
-    let long : 6 ≤ c.args.size = omega (arith, c.requires.size_is, programs_long c.args.file.now c.args.start refl) in
+    let long : 6 ≤ c.args.size = omega (arith, c.requires.size_is, programs_long c.args.file.now c.args.from.file refl) in
     omega (arith, long)
 
 pub overflow_cast-size : goal.overflow_cast-size
 overflow_cast-size c =
-    record { fits = omega (arith, c.requires.size_is, programs_short c.args.file.now (λ i. (c.type_inv.file i).fits) c.args.start) }
+    record { fits = omega (arith, c.requires.size_is, programs_short c.args.file.now (λ i. (c.type_inv.file i).fits) c.args.from.file) }
 
 pub put_head-requires : goal.put_head-requires
 put_head-requires c =
-    let long : 6 ≤ c.args.size = omega (arith, c.requires.size_is, programs_long c.args.file.now c.args.start refl) in
+    let long : 6 ≤ c.args.size = omega (arith, c.requires.size_is, programs_long c.args.file.now c.args.from.file refl) in
     omega (arith, long, c.requires.room)
 
-pub overflow_add-start-2 : goal.overflow_add-start-2
-overflow_add-start-2 c =
-    let head : c.args.start + 6 ≤ length c.args.file.now = head_within c.args.file.now c.args.start refl c.requires.ends in
+pub overflow_add-items : goal.overflow_add-items
+overflow_add-items c =
+    let head : c.args.from.file + 6 ≤ length c.args.file.now = head_within c.args.file.now c.args.from.file refl c.requires.ends in
     omega (arith, head)
 
 pub put_items-requires : goal.put_items-requires
@@ -42,12 +42,12 @@ put_items-requires c =
     let a = c.args in
     let f = a.file.now in
     let count = c.u8_at-num_programs.ensures.same in
-    let room = items_room f a.start count c.requires.size_is a.out.now a.at (section_head (a.size - 4) c.u8_at-num_programs.result) c.requires.room c.put_head.ensures in
-    (items_within f a.start count c.requires.ends, omega arith)
+    let room = items_room f a.from.file count c.requires.size_is a.out.now a.from.out (section_head (a.size - 4) c.u8_at-num_programs.result) c.requires.room c.put_head.ensures in
+    (items_within f a.from.file count c.requires.ends, omega arith)
 
 pub returns : goal.returns
 returns c =
     let a = c.args in
     let f = a.file.now in
     let count = c.u8_at-num_programs.ensures.same in
-    let put = c.put_items.ensures in record { value = omega (arith, put.value, c.requires.size_is, programs_long f a.start count); out_after = programs_put f a.start count c.requires.size_is a.out.now a.at c.put_head.ensures put.out_after }
+    let put = c.put_items.ensures in record { value = omega (arith, put.value, c.requires.size_is, programs_long f a.from.file count); out_after = programs_put f a.from.file count c.requires.size_is a.out.now a.from.out c.put_head.ensures put.out_after }

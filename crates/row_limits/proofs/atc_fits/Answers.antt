@@ -1,17 +1,10 @@
--- Each test is one of the definition's; the packet has 32 bits.
-use lib.Dec.{ltb}
-use native.Mathlib.Omega.{arith}
-use borrow.Author.Tests.{lt-ltb, le-ltb}
-use Rattle.row_limits.proofs.Fits.{last_test, any_cell, third}
+-- The packet has 32 bits.
+use borrow.Author.Rules.{rules}
+use Rattle.row_limits.proofs.Fits.{any_cell}
 use Rattle.row_limits.proofs.atc_fits.Goals as goal
 
-pub returns-then-cell_at-ge256 : goal.returns-then-cell_at-ge256
-returns-then-cell_at-ge256 c =
+pub returns-then-cell_at-lt256 : goal.returns-then-cell_at-lt256
+returns-then-cell_at-lt256 c =
     let a = c.args in
-    rw (any_cell a.t.now (λ i. (c.shared_slice_known-1.given i).fits) a.p, ← c.cell_at.ensures.same, le-ltb c.cell_at.result 256 (omega arith))
-
-pub returns : goal.returns
-returns c =
-    let a = c.args in
-    rw (any_cell a.t.now (λ i. (c.shared_slice_known-1.given i).fits) a.p, ← c.cell_at.ensures.same, lt-ltb c.cell_at.result 256 c.if-cell_at-ge256.false, third a.p, ← c.cell_at-2.ensures.same)
-    (last_test (ltb c.cell_at-2.result 256))
+    let wide = any_cell a.t.now (λ i. (c.type_inv.t i).fits) a.p in
+    search rules

@@ -1,11 +1,14 @@
--- The one test; packet, start and end have 32 bits.
+-- Packet, start and end have 32 bits.
 use Prim.Native.Nat.{◌+◌}
-use lib.Dec.{ltb}
-use Rattle.row_limits.proofs.Fits.{last_test, any_cell}
+use borrow.Author.Rules.{rules}
+use Rattle.row_limits.proofs.Fits.{any_cell}
 use Rattle.row_limits.proofs.stc_fits.Goals as goal
 
 pub returns : goal.returns
 returns c =
     let a = c.args in
-    let any = any_cell a.t.now (λ i. (c.shared_slice_known-1.given i).fits) in
-    rw (any (a.p + 4), any (a.p + 4 + 4), any (a.p + 4 + 4 + 4), ← c.cell_at.ensures.same) (last_test (ltb c.cell_at.result 65536))
+    let any = any_cell a.t.now (λ i. (c.type_inv.t i).fits) in
+    let packet = any (a.p + 4) in
+    let start = any (a.p + 4 + 4) in
+    let end = any (a.p + 4 + 4 + 4) in
+    search rules

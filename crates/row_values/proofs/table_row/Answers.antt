@@ -1,26 +1,9 @@
--- Each kind is read with its own number of cells.
+-- Each turn reads one cell more.
+use Rattle.std.proofs.Common.{arith}
+use Rattle.row_values.proofs.Cells.{cells_few, one_read}
 use Rattle.row_values.proofs.table_row.Goals as goal
 
-pub row_of_3-requires : goal.row_of_3-requires
-row_of_3-requires c = rw c.in-Atc.is at c.requires
-
-pub row_of_4-requires : goal.row_of_4-requires
-row_of_4-requires c = rw c.in-Stc.is at c.requires
-
-pub row_of_3-requires-in-Program : goal.row_of_3-requires-in-Program
-row_of_3-requires-in-Program c = rw c.in-Program.is at c.requires
-
-pub row_of_5-requires : goal.row_of_5-requires
-row_of_5-requires c = rw c.in-Stream.is at c.requires
-
-pub returns-in-Atc : goal.returns-in-Atc
-returns-in-Atc c = rw c.in-Atc.is c.row_of_3.ensures
-
-pub returns-in-Stc : goal.returns-in-Stc
-returns-in-Stc c = rw c.in-Stc.is c.row_of_4.ensures
-
-pub returns-in-Program : goal.returns-in-Program
-returns-in-Program c = rw c.in-Program.is c.row_of_3-in-Program.ensures
-
-pub returns-in-Stream : goal.returns-in-Stream
-returns-in-Stream c = rw c.in-Stream.is c.row_of_5.ensures
+pub loop-k-preserved : goal.loop-k-preserved
+loop-k-preserved c =
+    let l = c.loop-k in
+    one_read c.args.t.now c.args.p l.row l.k c.cell_at.result l.invariant (omega (arith, c.loop-k-test.true, c.cells_of-k-end.ensures, cells_few c.args.kind)) c.cell_at.ensures.same

@@ -10,4 +10,4 @@ pub returns : goal.returns
 returns c =
     let a = c.args in
     ap₂ eqb c.run_key.ensures c.run_key-2.ensures
-    ∙ keys_same (time_key a.time) (packet_key a.packet) (time_key a.other_time) (packet_key a.other_packet) (omega arith) (omega arith)
+    ∙ keys_same (time_key a.a.time) (packet_key a.a.packet) (time_key a.b.time) (packet_key a.b.packet) (omega arith) (omega arith)

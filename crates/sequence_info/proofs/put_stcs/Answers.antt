@@ -1,60 +1,39 @@
--- A turn stores one row and goes on by 14 bytes of the file and 16 of the table.
-use Prim.Native.Nat.{◌+◌, ◌-◌, ◌≤◌}
-use mathlib.Core.Path.{refl}
+-- A turn stores one row: the next 14 bytes of the file to the next 16 of the table.
+use Prim.Native.Nat.{◌+◌, ◌*◌}
+use mathlib.Core.Path.{◌≡◌, refl, sym}
+use native.Mathlib.Nat.{add-zero}
 use native.Mathlib.Omega.{arith}
-use lib.ListN.{length}
 use Rattle.format.specs.ClipRecord.{stc_at, next_stc}
 use Rattle.format.proofs.Loops.{end_ge}
-use Rattle.format.proofs.Sweep.{along_first, along_turn, along_done, along_within, filling_rows, row_room_lem, row_put, filled}
+use Rattle.format.proofs.Sweep.{along_first, along_turn, along_within, end_steps, filling_rows, row_room_lem, row_put, filled}
 use Rattle.format.proofs.Places.{up_stc}
 use Rattle.sequence_info.proofs.put_stcs.Goals as goal
 
 pub loop-k-init : goal.loop-k-init
 loop-k-init c =
     let a = c.args in
+    rw (add-zero a.p, add-zero a.at)
     (along_first next_stc (omega (arith, end_ge next_stc up_stc a.p a.n)), filling_rows 4 (stc_at a.file.now) next_stc (λ q. refl) a.table.now a.at a.p a.n c.requires.1)
 
 pub put_stc-requires : goal.put_stc-requires
 put_stc-requires c =
-    let room : (c.loop-k.q + 14 ≤ length c.args.file.now) × (c.loop-k.cell + 16 ≤ length c.loop-k.table) = let l = c.loop-k in
-    let a = c.args in
+    let l = c.loop-k in
     let more = c.loop-k-test.true in
-    (along_within l.invariant.0 up_stc more c.requires.0, row_room_lem (stc_at a.file.now) next_stc l.invariant.1 more) in
-    room
-
-pub overflow_add-q : goal.overflow_add-q
-overflow_add-q c =
-    let room : (c.loop-k.q + 14 ≤ length c.args.file.now) × (c.loop-k.cell + 16 ≤ length c.loop-k.table) = let l = c.loop-k in
-    let a = c.args in
-    let more = c.loop-k-test.true in
-    (along_within l.invariant.0 up_stc more c.requires.0, row_room_lem (stc_at a.file.now) next_stc l.invariant.1 more) in
-    omega (arith, room)
-
-pub overflow_add-cell : goal.overflow_add-cell
-overflow_add-cell c =
-    let room : (c.loop-k.q + 14 ≤ length c.args.file.now) × (c.loop-k.cell + 16 ≤ length c.loop-k.table) = let l = c.loop-k in
-    let a = c.args in
-    let more = c.loop-k-test.true in
-    (along_within l.invariant.0 up_stc more c.requires.0, row_room_lem (stc_at a.file.now) next_stc l.invariant.1 more) in
-    omega (arith, room)
+    (along_within l.invariant.0 up_stc more c.requires.0, row_room_lem (stc_at c.args.file.now) next_stc l.invariant.1 more)
 
 pub loop-k-preserved : goal.loop-k-preserved
 loop-k-preserved c =
-    let room : (c.loop-k.q + 14 ≤ length c.args.file.now) × (c.loop-k.cell + 16 ≤ length c.loop-k.table) = let l = c.loop-k in
     let a = c.args in
-    let more = c.loop-k-test.true in
-    (along_within l.invariant.0 up_stc more c.requires.0, row_room_lem (stc_at a.file.now) next_stc l.invariant.1 more) in
     let l = c.loop-k in
-    let f = c.args.file.now in
-    let more = c.loop-k-test.true in (
-      along_turn l.invariant.0 more refl room.0,
-      row_put (stc_at f) next_stc l.invariant.1 more c.put_stc.ensures refl,
+    let more = c.loop-k-test.true in
+    let next : a.p + 14 * (l.k + 1) ≡ next_stc (a.p + 14 * l.k) = omega arith in
+    let cell : a.at + 16 * l.k + 16 ≡ a.at + 16 * (l.k + 1) = omega arith in (
+      along_turn l.invariant.0 more next (rw next (along_within l.invariant.0 up_stc more c.requires.0)),
+      rw cell at (row_put (stc_at a.file.now) next_stc l.invariant.1 more c.put_stc.ensures next),
     )
-
-pub shape_of-table : goal.shape_of-table
-shape_of-table c = c.loop-k.invariant.1.long
 
 pub returns : goal.returns
 returns c =
+    let a = c.args in
     let l = c.loop-k in
-    record { value = along_done l.invariant.0 c.loop-k-test.false; table_after = filled (λ q. refl) l.invariant.1 c.loop-k-test.false }
+    record { value = sym (end_steps 14 a.p a.n); table_after = filled (λ q. refl) l.invariant.1 c.loop-k-test.false }

@@ -1,44 +1,28 @@
 -- Rows that are not there, and a row number outside them, are refused; else the minutes are added up from the row on.
 use Prim.Native.Nat.{ℕ, suc}
 use mathlib.Core.Path.{◌≡◌, refl, ap, ◌∙◌}
-use mathlib.Core.List.{List}
 use lib.ListN.{drop}
-use Rattle.format.specs.ClipRecord.{Row}
 use Rattle.format.specs.Ticks.{Ticks90}
-use Rattle.format.specs.Questions.{Answer, stcs, minutes_remaining, number, minutes_left, of_stc, answer}
-use Rattle.format.specs.Tables.{table_rows_of, stc_cells, clip_in, stated}
+use Rattle.format.specs.Questions.{minutes_remaining, number, minutes_left, of_stc, answer}
+use Rattle.format.specs.Tables.{Table, rows_of, stc_cells, clip_in}
 use Rattle.ticks.specs.Times.{as90}
 use Rattle.queries.specs.Asked.{only_stcs}
-use Rattle.queries.proofs.Asking.{unstated, room}
-use Rattle.sequence_queries.proofs.Laws.{no_row, row_answers}
+use Rattle.queries.specs.Answers.{found_of}
+use Rattle.queries.proofs.Asking.{passed_on}
+use Rattle.sequence_queries.proofs.Laws.{refused_by, no_row, row_answers}
 use Rattle.sequence_queries.proofs.minutes_remaining.Goals as goal
 
--- what is answered of the row, with those behind it
-abbrev of_row : (k : ℕ) (at : Ticks90) (t : List ℕ) (n : ℕ) → Row → Answer
-of_row k at t n s = number (minutes_left s (drop (suc k) (table_rows_of stc_cells t n)) at)
-
--- the question is about one row
-asks : (k : ℕ) (at : Ticks90) (t : List ℕ) (n : ℕ) → answer (minutes_remaining k at) (clip_in (only_stcs (stated t n))) ≡ of_stc (table_rows_of stc_cells t n) k (of_row k at t n)
+-- the question is about one row, with those behind it
+asks : (k : ℕ) (at : Ticks90) (u : Table) → answer (minutes_remaining k at) (clip_in (only_stcs u)) ≡ of_stc (rows_of stc_cells u) k (λ s. number (minutes_left s (drop (suc k) (rows_of stc_cells u)) at))
 unfolding answer clip_in
-asks k at t n = refl
+asks k at u = refl
 
-pub returns-then-not-is_stated : goal.returns-then-not-is_stated
-returns-then-not-is_stated c =
-    let a = c.args in
-    unstated (minutes_remaining a.stc (as90 a.at)) (only_stcs (stated a.stcs.now a.rows)) stcs refl c.is_stated.ensures c.if-not-is_stated.true-raw
+pub returns-in_err-stcs : goal.returns-in_err-stcs
+returns-in_err-stcs c = ap found_of (passed_on c.from_residual.result c.from_residual.ensures.1) ∙ refused_by (minutes_remaining c.args.stc (as90 c.args.at)) _ refl c.in_err-stcs.ensures
 
-pub minutes_from-requires : goal.minutes_from-requires
-minutes_from-requires c =
-    let a = c.args in
-    (room stc_cells (stated a.stcs.now a.rows) c.is_stated.ensures c.if-not-is_stated.false-raw, c.if-stc-rows.true)
-
-pub returns-then-stc-rows : goal.returns-then-stc-rows
-returns-then-stc-rows c =
-    let a = c.args in
-    ap number c.minutes_from.ensures
-    ∙ row_answers (minutes_remaining a.stc (as90 a.at)) a.stcs.now a.rows a.stc (of_row a.stc (as90 a.at) a.stcs.now a.rows) refl c.is_stated.ensures c.if-not-is_stated.false-raw (asks a.stc (as90 a.at) a.stcs.now a.rows) c.if-stc-rows.true refl
+pub returns-then-stc-stcs : goal.returns-then-stc-stcs
+returns-then-stc-stcs c =
+    ap number c.minutes_from.ensures ∙ row_answers (minutes_remaining c.args.stc (as90 c.args.at)) _ refl _ c.in_ok-stcs.ensures c.args.stc _ (asks c.args.stc (as90 c.args.at) _) c.if-stc-stcs.true
 
 pub returns : goal.returns
-returns c =
-    let a = c.args in
-    no_row (minutes_remaining a.stc (as90 a.at)) a.stcs.now a.rows a.stc (of_row a.stc (as90 a.at) a.stcs.now a.rows) refl c.is_stated.ensures c.if-not-is_stated.false-raw (asks a.stc (as90 a.at) a.stcs.now a.rows) c.if-stc-rows.false
+returns c = no_row (minutes_remaining c.args.stc (as90 c.args.at)) _ refl _ c.in_ok-stcs.ensures c.args.stc _ (asks c.args.stc (as90 c.args.at) _) c.if-stc-stcs.false

@@ -5,5 +5,5 @@ use Rattle.stream_coding_info.proofs.stream_at.Goals as goal
 pub returns : goal.returns
 returns c =
     let a = c.args in
-    stream_is a.file.now a.p c.u16_at-pid.ensures.same c.u8_at-size.ensures.same c.body_byte-coding.ensures c.body_byte-format.ensures
-    c.is_video-video.ensures c.aspect-ratio.ensures c.language-tag.ensures
+    stream_is a.file.now a.p c.requires c.u16_at.ensures.same c.u8_at-size.ensures.same c.body_byte-coding.ensures c.body_byte.ensures
+    c.is_video-video.ensures c.aspect.ensures c.language.ensures

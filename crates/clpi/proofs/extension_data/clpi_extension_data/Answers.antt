@@ -7,4 +7,6 @@ use Rattle.clpi.proofs.extension_data.clpi_extension_data.Goals as goal
 pub returns : goal.returns
 returns c =
     let a = c.args in
-    c.part_of.ensures ∙ place_numbers_lem a.file.now (stated a.extensions.now a.rows) a.row c.data_place.result c.data_place.ensures.same
+    let t = c.table-extensions in
+    c.part_of.ensures
+    ∙ rw (t.ensures.bytes_are, t.ensures.rows_are) at (place_numbers_lem a.file.now (stated t.result.bytes.now t.result.rows) a.row c.data_place.result c.data_place.ensures.same)

@@ -1,13 +1,15 @@
 -- Each return, by the tests that led to it.
-use Prim.Native.Nat.{ℕ, ◌+◌, ◌*◌, ◌≤◌, ◌<◌}
-use mathlib.Core.Path.{◌≡◌, sym, ◌∙◌}
-use mathlib.Core.List.{List}
+use Prim.Native.Nat.{◌+◌, ◌*◌, ◌≤◌}
+use mathlib.Core.Path.{◌≡◌}
 use native.Mathlib.Omega.{arith}
 use lib.ListN.{length}
-use Rattle.format.specs.EntryPoints.{cpi_length, cpi_end, cpi_type}
+use Rattle.std.proofs.lemmas.Result.{err_from_is_err_and}
+use Rattle.format.specs.EntryPoints.{cpi_end, cpi_type}
+use Rattle.refusals.proofs.Laws.{refused_as}
 use Rattle.common.proofs.Laws.{Got, got, not_got, went, stayed}
 use Rattle.cpi.proofs.Heads.{head_zero, head_far, head_past, head_two, head_type, head_four, head_headers, head_maps}
 use Rattle.cpi.proofs.maps.read_head.Goals as goal
+use Rattle.cpi.proofs.maps.read_head.Goals.{In_ok-len, In_ok-last, Else-u16_at-ne1}
 
 pub returns-then-start-eq0 : goal.returns-then-start-eq0
 returns-then-start-eq0 c = let a = c.args in head_zero a.file.now a.start c.if-start-eq0.true
@@ -15,125 +17,94 @@ returns-then-start-eq0 c = let a = c.args in head_zero a.file.now a.start c.if-s
 pub returns-then-file-start : goal.returns-then-file-start
 returns-then-file-start c = let a = c.args in head_far a.file.now a.start c.if-file-start.true
 
-pub returns-in_default : goal.returns-in_default
-returns-in_default c =
+pub returns-in_err-len : goal.returns-in_err-len
+returns-in_err-len c =
     let a = c.args in
     let f = a.file.now in
-    head_past f a.start c.if-start-eq0.false c.if-file-start.false
-    (omega (arith, not_got f a.start 4 (sym c.in_default.is ∙ c.read_u32.ensures.same)))
+    let p = err_from_is_err_and c.from_residual.result c.from_residual.ensures.1 in
+    let none = c.in_err-len.ensures.ok_part in
+    rw (p.1, p.2, refused_as c.in_err-len.ensures.value none)
+    (head_past f a.start c.if-start-eq0.false c.if-file-start.false (omega (arith, not_got f a.start 4 (rw none at c.read.ensures.same))))
 
-pub returns-in_default-skip : goal.returns-in_default-skip
-returns-in_default-skip c =
-    let len : ℕ = c.in-Read.len in
+-- the length that was read
+length_read : (c : In_ok-len) → Got c.args.file.now c.args.start 4 c.in_ok-len.len c.in_ok-len.body
+length_read c = got c.args.file.now c.args.start 4 (rw c.in_ok-len.ensures.ok_part at c.read.ensures.same)
+
+pub returns-in_err-last : goal.returns-in_err-last
+returns-in_err-last c =
     let a = c.args in
     let f = a.file.now in
-    let g = got f a.start 4 (sym c.in-Read.is ∙ c.read_u32.ensures.same) in
-    head_past f a.start c.if-start-eq0.false c.if-file-start.false
-    (omega (arith, stayed f (c.in-Read.body.pos + c.in-Read.len) (sym c.in_default-skip.is ∙ c.skip.ensures), g.value, g.behind))
+    let p = err_from_is_err_and c.from_residual-in_err-last.result c.from_residual-in_err-last.ensures.1 in
+    let none = c.in_err-last.ensures.ok_part in
+    let g = length_read (goal.at.returns-in_err-last c).In_ok-len in
+    let cut = stayed f (c.in_ok-len.body.pos + c.in_ok-len.len) (rw none at c.skip.ensures) in
+    rw (p.1, p.2, refused_as c.in_err-last.ensures.value none)
+    (head_past f a.start c.if-start-eq0.false c.if-file-start.false (omega (arith, cut, g.value, g.behind)))
+
+-- the section's end was reached, and it is in the file
+end_reached : (c : In_ok-last) → (c.in_ok-last.last.pos ≡ cpi_end c.args.file.now c.args.start) × (cpi_end c.args.file.now c.args.start ≤ length c.args.file.now)
+end_reached c =
+    let f = c.args.file.now in
+    let g = length_read (goal.at.In_ok-last c).In_ok-len in
+    let moved = went f (c.in_ok-len.body.pos + c.in_ok-len.len) (rw c.in_ok-last.ensures.ok_part at c.skip.ensures) in
+    (omega (arith, g.value, g.behind, moved.1), omega (arith, g.value, g.behind, moved.0))
 
 pub returns-then-len-lt2 : goal.returns-then-len-lt2
 returns-then-len-lt2 c =
-    let F : List ℕ = c.args.file.now in
-    let S : ℕ = c.args.start in
-    let some : S ≡ 0 → ⊥ = c.if-start-eq0.false in
-    let near : S < length F = c.if-file-start.false in
-    let len : ℕ = c.in-Read.len in
-    let length-read : Got F S 4 len c.in-Read.body = got F S 4 (sym c.in-Read.is ∙ c.read_u32.ensures.same) in
-    let value : len ≡ cpi_length F S = length-read.value in
-    let last : ℕ = c.in-At.last.pos in
-    let moved : (c.in-Read.body.pos + len ≤ length F) × (last ≡ c.in-Read.body.pos + len) = went F (c.in-Read.body.pos + len) (sym c.in-At.is ∙ c.skip.ensures) in
-    let stop : last ≡ cpi_end F S = omega (arith, length-read.value, length-read.behind, moved.1) in
-    let inside : cpi_end F S ≤ length F = omega (arith, stop, moved) in head_two F S some near inside (omega (arith, value))
+    let a = c.args in
+    let value = (length_read (goal.at.returns-then-len-lt2 c).In_ok-len).value in
+    let inside = (end_reached (goal.at.returns-then-len-lt2 c).In_ok-last).1 in
+    head_two a.file.now a.start c.if-start-eq0.false c.if-file-start.false inside (omega (arith, value))
 
 pub u16_at-requires : goal.u16_at-requires
 u16_at-requires c =
-    let F : List ℕ = c.args.file.now in
-    let S : ℕ = c.args.start in
-    let len : ℕ = c.in-Read.len in
-    let length-read : Got F S 4 len c.in-Read.body = got F S 4 (sym c.in-Read.is ∙ c.read_u32.ensures.same) in
-    let value : len ≡ cpi_length F S = length-read.value in
-    let last : ℕ = c.in-At.last.pos in
-    let moved : (c.in-Read.body.pos + len ≤ length F) × (last ≡ c.in-Read.body.pos + len) = went F (c.in-Read.body.pos + len) (sym c.in-At.is ∙ c.skip.ensures) in
-    let stop : last ≡ cpi_end F S = omega (arith, length-read.value, length-read.behind, moved.1) in
-    let inside : cpi_end F S ≤ length F = omega (arith, stop, moved) in omega (arith, value, inside)
+    let value = (length_read (goal.at.u16_at-requires c).In_ok-len).value in
+    omega (arith, value, (end_reached (goal.at.u16_at-requires c).In_ok-last).1)
 
 pub returns-then-u16_at-ne1 : goal.returns-then-u16_at-ne1
 returns-then-u16_at-ne1 c =
-    let F : List ℕ = c.args.file.now in
-    let S : ℕ = c.args.start in
-    let some : S ≡ 0 → ⊥ = c.if-start-eq0.false in
-    let near : S < length F = c.if-file-start.false in
-    let len : ℕ = c.in-Read.len in
-    let length-read : Got F S 4 len c.in-Read.body = got F S 4 (sym c.in-Read.is ∙ c.read_u32.ensures.same) in
-    let value : len ≡ cpi_length F S = length-read.value in
-    let last : ℕ = c.in-At.last.pos in
-    let moved : (c.in-Read.body.pos + len ≤ length F) × (last ≡ c.in-Read.body.pos + len) = went F (c.in-Read.body.pos + len) (sym c.in-At.is ∙ c.skip.ensures) in
-    let stop : last ≡ cpi_end F S = omega (arith, length-read.value, length-read.behind, moved.1) in
-    let inside : cpi_end F S ≤ length F = omega (arith, stop, moved) in
-    let two : 2 ≤ cpi_length F S = omega (arith, value) in
-    head_type F S some near inside two (λ e. c.if-u16_at-ne1.true (rw c.u16_at.ensures.same e))
+    let a = c.args in
+    let value = (length_read (goal.at.returns-then-u16_at-ne1 c).In_ok-len).value in
+    let inside = (end_reached (goal.at.returns-then-u16_at-ne1 c).In_ok-last).1 in
+    head_type a.file.now a.start c.if-start-eq0.false c.if-file-start.false inside (omega (arith, value)) (λ e. c.if-u16_at-ne1.true (rw c.u16_at.ensures.same e))
+
+-- the type is 1
+type_one : (c : Else-u16_at-ne1) → cpi_type c.args.file.now c.args.start ≡ 1
+type_one c = rw (← c.u16_at.ensures.same) c.if-u16_at-ne1.false
 
 pub returns-then-len-lt4 : goal.returns-then-len-lt4
 returns-then-len-lt4 c =
-    let F : List ℕ = c.args.file.now in
-    let S : ℕ = c.args.start in
-    let some : S ≡ 0 → ⊥ = c.if-start-eq0.false in
-    let near : S < length F = c.if-file-start.false in
-    let len : ℕ = c.in-Read.len in
-    let length-read : Got F S 4 len c.in-Read.body = got F S 4 (sym c.in-Read.is ∙ c.read_u32.ensures.same) in
-    let value : len ≡ cpi_length F S = length-read.value in
-    let last : ℕ = c.in-At.last.pos in
-    let moved : (c.in-Read.body.pos + len ≤ length F) × (last ≡ c.in-Read.body.pos + len) = went F (c.in-Read.body.pos + len) (sym c.in-At.is ∙ c.skip.ensures) in
-    let stop : last ≡ cpi_end F S = omega (arith, length-read.value, length-read.behind, moved.1) in
-    let inside : cpi_end F S ≤ length F = omega (arith, stop, moved) in
-    let type-one : cpi_type F S ≡ 1 = rw (← c.u16_at.ensures.same) c.if-u16_at-ne1.false in
-    let two : 2 ≤ cpi_length F S = omega (arith, value) in
-    head_four F S some near inside two type-one (omega (arith, value))
+    let a = c.args in
+    let value = (length_read (goal.at.returns-then-len-lt4 c).In_ok-len).value in
+    let inside = (end_reached (goal.at.returns-then-len-lt4 c).In_ok-last).1 in
+    let one = type_one (goal.at.returns-then-len-lt4 c).Else-u16_at-ne1 in
+    head_four a.file.now a.start c.if-start-eq0.false c.if-file-start.false inside (omega (arith, value)) one (omega (arith, value))
 
 pub u8_at-count-requires : goal.u8_at-count-requires
 u8_at-count-requires c =
-    let F : List ℕ = c.args.file.now in
-    let S : ℕ = c.args.start in
-    let len : ℕ = c.in-Read.len in
-    let length-read : Got F S 4 len c.in-Read.body = got F S 4 (sym c.in-Read.is ∙ c.read_u32.ensures.same) in
-    let value : len ≡ cpi_length F S = length-read.value in
-    let last : ℕ = c.in-At.last.pos in
-    let moved : (c.in-Read.body.pos + len ≤ length F) × (last ≡ c.in-Read.body.pos + len) = went F (c.in-Read.body.pos + len) (sym c.in-At.is ∙ c.skip.ensures) in
-    let stop : last ≡ cpi_end F S = omega (arith, length-read.value, length-read.behind, moved.1) in
-    let inside : cpi_end F S ≤ length F = omega (arith, stop, moved) in omega (arith, value, inside)
+    let value = (length_read (goal.at.u8_at-count-requires c).In_ok-len).value in
+    omega (arith, value, (end_reached (goal.at.u8_at-count-requires c).In_ok-last).1)
 
-pub returns-in_default-skip-2 : goal.returns-in_default-skip-2
-returns-in_default-skip-2 c =
-    let F : List ℕ = c.args.file.now in
-    let S : ℕ = c.args.start in
-    let some : S ≡ 0 → ⊥ = c.if-start-eq0.false in
-    let near : S < length F = c.if-file-start.false in
-    let len : ℕ = c.in-Read.len in
-    let length-read : Got F S 4 len c.in-Read.body = got F S 4 (sym c.in-Read.is ∙ c.read_u32.ensures.same) in
-    let value : len ≡ cpi_length F S = length-read.value in
-    let last : ℕ = c.in-At.last.pos in
-    let moved : (c.in-Read.body.pos + len ≤ length F) × (last ≡ c.in-Read.body.pos + len) = went F (c.in-Read.body.pos + len) (sym c.in-At.is ∙ c.skip.ensures) in
-    let stop : last ≡ cpi_end F S = omega (arith, length-read.value, length-read.behind, moved.1) in
-    let inside : cpi_end F S ≤ length F = omega (arith, stop, moved) in
-    let type-one : cpi_type F S ≡ 1 = rw (← c.u16_at.ensures.same) c.if-u16_at-ne1.false in
-    let four : 4 ≤ cpi_length F S = omega (arith, value) in
-    head_headers F S some near inside type-one four
-    (omega (arith, stayed F (S + 8 + 12 * c.u8_at-count.result) (sym c.in_default-skip-2.is ∙ c.skip-2.ensures), c.u8_at-count.ensures.same))
+pub returns-in_err-ok_or : goal.returns-in_err-ok_or
+returns-in_err-ok_or c =
+    let a = c.args in
+    let f = a.file.now in
+    let p = err_from_is_err_and c.from_residual-in_err-ok_or.result c.from_residual-in_err-ok_or.ensures.1 in
+    let none = c.in_err-ok_or.ensures.ok_part in
+    let value = (length_read (goal.at.returns-in_err-ok_or c).In_ok-len).value in
+    let inside = (end_reached (goal.at.returns-in_err-ok_or c).In_ok-last).1 in
+    let one = type_one (goal.at.returns-in_err-ok_or c).Else-u16_at-ne1 in
+    let cut = stayed f (a.start + 8 + 12 * c.u8_at-count.result) (rw none at c.skip-2.ensures) in
+    rw (p.1, p.2, refused_as c.in_err-ok_or.ensures.value none)
+    (head_headers f a.start c.if-start-eq0.false c.if-file-start.false inside one (omega (arith, value)) (omega (arith, cut, c.u8_at-count.ensures.same)))
 
 pub returns : goal.returns
 returns c =
-    let F : List ℕ = c.args.file.now in
-    let S : ℕ = c.args.start in
-    let some : S ≡ 0 → ⊥ = c.if-start-eq0.false in
-    let near : S < length F = c.if-file-start.false in
-    let len : ℕ = c.in-Read.len in
-    let length-read : Got F S 4 len c.in-Read.body = got F S 4 (sym c.in-Read.is ∙ c.read_u32.ensures.same) in
-    let value : len ≡ cpi_length F S = length-read.value in
-    let last : ℕ = c.in-At.last.pos in
-    let moved : (c.in-Read.body.pos + len ≤ length F) × (last ≡ c.in-Read.body.pos + len) = went F (c.in-Read.body.pos + len) (sym c.in-At.is ∙ c.skip.ensures) in
-    let stop : last ≡ cpi_end F S = omega (arith, length-read.value, length-read.behind, moved.1) in
-    let inside : cpi_end F S ≤ length F = omega (arith, stop, moved) in
-    let type-one : cpi_type F S ≡ 1 = rw (← c.u16_at.ensures.same) c.if-u16_at-ne1.false in
-    let four : 4 ≤ cpi_length F S = omega (arith, value) in
-    let m = went F (S + 8 + 12 * c.u8_at-count.result) (sym c.in-At-skip.is ∙ c.skip-2.ensures) in
-    rw (c.u8_at-count.ensures.same, stop) (head_maps F S some near inside type-one four (omega (arith, m.0, c.u8_at-count.ensures.same)))
+    let a = c.args in
+    let f = a.file.now in
+    let value = (length_read (goal.at.returns c).In_ok-len).value in
+    let end = end_reached (goal.at.returns c).In_ok-last in
+    let one = type_one (goal.at.returns c).Else-u16_at-ne1 in
+    let there = went f (a.start + 8 + 12 * c.u8_at-count.result) (rw c.in_ok-ok_or.ensures.ok_part at c.skip-2.ensures) in
+    rw (c.u8_at-count.ensures.same, end.0)
+    (head_maps f a.start c.if-start-eq0.false c.if-file-start.false end.1 one (omega (arith, value)) (rw c.u8_at-count.ensures.same at there.0))

@@ -12,5 +12,5 @@ u32_at-requires-2 c =
 pub returns : goal.returns
 returns c =
     let a = c.args in
-    body_is a.file.now a.start a.q c.u48_at.result (a.start + 6 + c.u32_at.result) c.u32_at-2.result c.map_header-header.result c.u48_at.ensures.same c.map_header-header.ensures
+    body_is a.file.now a.start a.q c.be_at.result (a.start + 6 + c.u32_at.result) c.u32_at-2.result c.map_header-header.result c.be_at.ensures.same c.map_header-header.ensures
     (ap (λ (x : ℕ). a.start + 6 + x) c.u32_at.ensures.same) c.u32_at-2.ensures.same

@@ -13,4 +13,4 @@ entry_packet-packet-requires c =
 pub returns : goal.returns
 returns c =
     let a = c.args in
-    entry_joined a.word a.w.time a.w.packet c.entry_time-time.result c.entry_packet-packet.result c.fine_row-fine.result c.fine_row-fine.ensures c.entry_time-time.ensures c.entry_packet-packet.ensures
+    entry_joined a.word a.kind a.w.time a.w.packet c.entry_time-time.result c.entry_packet-packet.result c.fine_row-fine.result c.fine_row-fine.ensures c.entry_time-time.ensures c.entry_packet-packet.ensures

@@ -4,7 +4,7 @@ use native.Mathlib.Omega.{arith}
 use Rattle.ep_entries.proofs.Walks.{steps_on, walking_less}
 use Rattle.ep_entries.proofs.Joined.{Filled, filled_first, filled_stretch, filled_step, filled_done}
 use Rattle.ep_entries.proofs.entries.put_entries.Goals as goal
-use Rattle.ep_entries.proofs.entries.put_entries.Goals.{then-k-end, else-k-end}
+use Rattle.ep_entries.proofs.entries.put_entries.Goals.{then-k-w, else-k-w}
 
 pub loop-w-init : goal.loop-w-init
 loop-w-init c =
@@ -18,16 +18,14 @@ put_stretch-requires c =
       fits = omega (arith, c.loop-w-test.true, c.requires.fits, c.loop-w.invariant.same);
     }
 
-pub at_row-w-requires : goal.at_row-w-requires
-at_row-w-requires c =
-    let w = c.loop-w.w in
+pub step-w-requires : goal.step-w-requires
+step-w-requires c =
     let steps = c.loop-w.invariant.walk.steps in
-    (steps.room, (steps_on c.args.file.now w.next w steps (omega arith) (omega (arith, c.loop-w-test.true, c.requires.rows.few))).0)
+    (steps.room, (steps_on c.args.file.now c.args.m.num_fine c.loop-w.w steps c.loop-w-test.true).0)
 
 pub loop-w-smaller : goal.loop-w-smaller
 loop-w-smaller c =
-    let w = c.loop-w.w in
-    walking_less c.args.file.now w.next w c.loop-w.invariant.walk.steps (omega arith) (omega (arith, c.loop-w-test.true, c.requires.rows.few)) c.at_row-w.ensures
+    walking_less c.args.file.now c.args.m.num_fine c.loop-w.w c.loop-w.invariant.walk.steps c.loop-w-test.true c.step-w.ensures
 
 pub loop-w-preserved : goal.loop-w-preserved
 loop-w-preserved c =
@@ -35,14 +33,14 @@ loop-w-preserved c =
     let f = a.file.now in
     let t₀ = a.table.now in
     let l = c.loop-w in
-    let e = l.w.next in
-    let met : Filled f a.m t₀ a.at c.if-k-end.table l.w c.if-k-end.k × (e ≤ c.if-k-end.k) =
-    elim c.if-k-end.branch [
-      | then-k-end w ↦ (rw (w.table-is, w.k-is) (filled_stretch f a.m t₀ a.at l.table l.w l.k l.invariant e (omega arith) (omega arith) (omega arith) w.put_stretch.auto.table w.put_stretch.ensures), omega arith)
-      | else-k-end w ↦ (rw (w.table-is, w.k-is) l.invariant, omega arith)
+    let e = l.w.end in
+    let met : Filled f a.m t₀ a.at c.if-k-w.table l.w c.if-k-w.k × (e ≤ c.if-k-w.k) =
+    elim c.if-k-w.branch [
+      | then-k-w w ↦ (rw (w.table-is, w.k-is) (filled_stretch f a.m t₀ a.at l.table l.w l.k l.invariant e (omega arith) (omega arith) (omega (arith, c.loop-w-test.true)) w.put_stretch.auto.table w.put_stretch.ensures), omega arith)
+      | else-k-w w ↦ (rw (w.table-is, w.k-is) l.invariant, omega arith)
     ]
     in
-    filled_step f a.m t₀ a.at c.if-k-end.table l.w c.if-k-end.k met.0 c.requires.rows.few met.1 c.at_row-w.ensures
+    filled_step f a.m t₀ a.at c.if-k-w.table l.w c.if-k-w.k met.0 met.1 c.loop-w-test.true c.step-w.ensures
 
 pub put_stretch-requires-2 : goal.put_stretch-requires-2
 put_stretch-requires-2 c =

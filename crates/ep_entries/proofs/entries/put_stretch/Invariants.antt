@@ -1,5 +1,5 @@
 -- Each turn stores the entry of fine row k; what is left of the stretch goes behind it.
-use Prim.Native.Nat.{◌+◌, ◌*◌, ◌-◌, ◌≤◌}
+use Prim.Native.Nat.{◌+◌, ◌*◌, ◌≤◌}
 use mathlib.Core.Path.{◌≡◌}
 use lib.ListN.{length}
 use lib.Seq.{sets}
@@ -9,6 +9,3 @@ use Rattle.ep_entries.proofs.entries.put_stretch.Given as goal
 
 abbrev pub invariant-loop-k : goal.invariant-loop-k
 invariant-loop-k l = (l.from ≤ l.k) × (l.k ≤ l.end) × (length l.table ≡ length l.initial.table) × (sets l.table (l.at + entry_size * l.k) (stretch_bytes l.file l.m.kind l.w.time l.w.packet l.m.fine l.k l.end) ≡ sets l.initial.table (l.at + entry_size * l.from) (stretch_bytes l.file l.m.kind l.w.time l.w.packet l.m.fine l.from l.end))
-
-abbrev pub decreases-loop-k : goal.decreases-loop-k
-decreases-loop-k l = l.end - l.k

@@ -5,5 +5,5 @@ use Rattle.ep_entries.proofs.walk.at_row.Goals as goal
 pub returns : goal.returns
 returns c =
     let f = c.args.file.now in
-    let r = coarse_read f c.args.p c.u64_at.result c.coarse_row-row.result c.u64_at.ensures.same c.coarse_row-row.ensures in
-    walk_is f c.args.p c.args.n c.next_first-next.result c.coarse_row-row.result r c.next_first-next.ensures
+    let r = coarse_read f c.args.p c.be_at.result c.coarse_row-row.result c.be_at.ensures.same c.coarse_row-row.ensures in
+    walk_is f c.args.p c.args.n c.args.last c.next_first-end.result c.coarse_row-row.result r c.next_first-end.ensures

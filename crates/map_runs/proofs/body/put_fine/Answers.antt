@@ -31,13 +31,6 @@ put_fine_row-requires c =
     let fits = met_narrow c.args.file.now c.args.m l.k met.result met.ensures in
     (fits.angle_fits, fits.end_fits, omega (arith, c.requires.room, l.invariant.long, c.loop-k-test.true))
 
-pub overflow_add-k : goal.overflow_add-k
-overflow_add-k c =
-    record { fits = omega (arith, c.requires.rows.few, c.loop-k-test.true) }
-
-pub loop-k-smaller : goal.loop-k-smaller
-loop-k-smaller c = omega (arith, c.loop-k-test.true)
-
 pub loop-k-preserved : goal.loop-k-preserved
 loop-k-preserved c =
     let a = c.args in

@@ -1,5 +1,4 @@
 -- Each turn meets an entry that is in the run of the first.
-use native.Mathlib.Omega.{arith}
 use Rattle.map_runs.proofs.Turns.{along_first, along_turn, along_stop, along_done}
 use Rattle.map_runs.proofs.walked.run_end.Goals as goal
 
@@ -17,9 +16,6 @@ returns-then-not-same_key c =
     let a = c.args in
     let l = c.loop-k in
     along_stop a.file.now a.m a.from a.first c.requires.2 l.walk l.k l.invariant c.loop-k-test.true c.meet-met.result c.meet-met.ensures c.same_key.ensures c.if-not-same_key.true
-
-pub loop-k-smaller : goal.loop-k-smaller
-loop-k-smaller c = omega (arith, c.loop-k-test.true)
 
 pub loop-k-preserved : goal.loop-k-preserved
 loop-k-preserved c =

@@ -1,22 +1,29 @@
 -- The plan's refusal, or the place behind its last section.
-use Prim.Native.Nat.{ℕ, ◌+◌}
-use mathlib.Core.List.{List}
+use Prim.Native.Nat.{◌+◌}
+use mathlib.Core.Path.{◌≡◌}
 use native.Mathlib.Omega.{arith}
+use Rattle.std.proofs.Common.{rules, Err}
 use Rattle.rewrite.specs.Rewrite.{Ready}
 use Rattle.rewrite.proofs.Refusals.{refusal_told, ready_told, marks_short, length_refuses, length_tells}
 use Rattle.rewrite.proofs.rewrite.rewritten_length.Goals as goal
+use Rattle.rewrite.proofs.rewrite.rewritten_length.Goals.{In_ok-of}
 
-pub overflow_add-bytes : goal.overflow_add-bytes
-overflow_add-bytes c =
-    let F : List ℕ = c.args.file.now in
-    let ready : Ready F c.in-Places.atcs c.in-Places.stcs c.in-Places.maps c.in-Places.programs c.in-Places.cpi c.in-Places.marks (c.in-Places.marks + 6) = ready_told F c.plan.ensures _ c.in-Places.is (omega arith) in
-    record { fits = omega (arith, ready.placed.marks_at, marks_short F (λ i. (c.type_inv.file i).fits) ready.rewritable) }
+-- the plan is the file's
+ready : (c : In_ok-of) → Ready c.args.file.now c.in_ok-of.field-0 (c.in_ok-of.field-0.marks + 6)
+ready c = ready_told c.args.file.now (c.in_ok-of.field-0.marks + 6) c.in_ok-of.ensures (omega arith)
 
-pub returns-in-Refused : goal.returns-in-Refused
-returns-in-Refused c =
-    length_refuses c.args.file.now (refusal_told c.args.file.now c.plan.ensures c.in-Refused.is)
+pub returns-in_err-of : goal.returns-in_err-of
+returns-in_err-of c =
+    let f = c.args.file.now in
+    let passed_on : c.from_residual.result ≡ Err c.in_err-of.field-0.0 = search rules in
+    rw passed_on (length_refuses f (refusal_told f c.in_err-of.ensures))
 
-pub returns-in-Places : goal.returns-in-Places
-returns-in-Places c =
-    let F : List ℕ = c.args.file.now in
-    let ready : Ready F c.in-Places.atcs c.in-Places.stcs c.in-Places.maps c.in-Places.programs c.in-Places.cpi c.in-Places.marks (c.in-Places.marks + 6) = ready_told F c.plan.ensures _ c.in-Places.is (omega arith) in length_tells F ready.rewritable ready.placed.marks_at
+pub overflow_add-result : goal.overflow_add-result
+overflow_add-result c =
+    let r = ready (goal.at.overflow_add-result c).In_ok-of in
+    record { fits = omega (arith, r.placed.marks_at, marks_short c.args.file.now (λ i. (c.type_inv.file i).fits) r.rewritable) }
+
+pub returns : goal.returns
+returns c =
+    let r = ready (goal.at.returns c).In_ok-of in
+    length_tells c.args.file.now r.rewritable r.placed.marks_at

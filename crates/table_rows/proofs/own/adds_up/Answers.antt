@@ -1,26 +1,19 @@
 -- Each test that fails says no; behind them the counts decide.
-use Rattle.format.specs.Tables.{stated}
+use mathlib.Core.Path.{sym, ◌∙◌}
+use borrow.Author.Tests.{leb-true}
+use Rattle.format.specs.Tables.{row_room}
 use Rattle.table_rows.specs.OwnRows.{head_cells}
-use Rattle.queries.proofs.Asking.{room}
 use Rattle.table_rows.proofs.OwnRows.{no_heads, no_rows, counted}
 use Rattle.table_rows.proofs.own.adds_up.Goals as goal
-
-pub returns-then-not-is_stated : goal.returns-then-not-is_stated
-returns-then-not-is_stated c =
-    let a = c.args in
-    no_heads a.heads.now a.rows.now a.head_rows a.row_rows a.cell a.cells c.is_stated.ensures c.if-not-is_stated.true-raw
-
-pub returns-then-not-is_stated-2 : goal.returns-then-not-is_stated-2
-returns-then-not-is_stated-2 c =
-    let a = c.args in
-    no_rows a.heads.now a.rows.now a.head_rows a.row_rows a.cell a.cells c.is_stated.ensures c.if-not-is_stated.false-raw c.is_stated-2.ensures c.if-not-is_stated-2.true-raw
+use Rattle.table_rows.proofs.own.adds_up.Goals.{then-is_stated, else-is_stated}
 
 pub count_rows-requires : goal.count_rows-requires
-count_rows-requires c =
-    let a = c.args in
-    (room head_cells (stated a.heads.now a.head_rows) c.is_stated.ensures c.if-not-is_stated.false-raw, c.requires.0)
+count_rows-requires c = elim c.if-is_stated.branch [ then-is_stated w ↦ (leb-true c.args.heads.rows (row_room head_cells c.args.heads.bytes.now) (sym c.is_stated.ensures ∙ w.if-is_stated.true), c.requires.0) | else-is_stated w ↦ cc ]
 
-pub returns : goal.returns
-returns c =
-    let a = c.args in
-    counted a.heads.now a.rows.now a.head_rows a.row_rows a.cell a.cells c.is_stated.ensures c.if-not-is_stated.false-raw c.is_stated-2.ensures c.if-not-is_stated-2.false-raw c.count_rows.ensures
+pub returns-then-is_stated-2 : goal.returns-then-is_stated-2
+returns-then-is_stated-2 c =
+    elim c.if-is_stated.branch [ then-is_stated w ↦ rw c.from.ensures (counted _ _ _ _ _ _ (sym c.is_stated.ensures ∙ w.if-is_stated.true) (sym w.is_stated-then-is_stated.ensures ∙ sym w.value-is ∙ c.if-is_stated-2.true) c.count_rows.ensures) | else-is_stated w ↦ cc ]
+
+pub returns-else-is_stated-2 : goal.returns-else-is_stated-2
+returns-else-is_stated-2 c =
+    elim c.if-is_stated.branch [ then-is_stated w ↦ rw c.if-is_stated-2.false (no_rows _ _ _ _ _ _ (sym c.is_stated.ensures ∙ w.if-is_stated.true) (sym w.is_stated-then-is_stated.ensures ∙ sym w.value-is ∙ c.if-is_stated-2.false)) | else-is_stated w ↦ rw c.if-is_stated-2.false (no_heads _ _ _ _ _ _ (sym c.is_stated.ensures ∙ w.if-is_stated.false)) ]

@@ -1,7 +1,0 @@
--- The answer's numbers.
-use mathlib.Core.Path.{ap, ◌∙◌}
-use Rattle.format.specs.Questions.{answer_numbers}
-use Rattle.clpi.proofs.sequences.clpi_duration_45k.Goals as goal
-
-pub returns : goal.returns
-returns c = c.answer_of_45.ensures ∙ ap answer_numbers c.duration_45k.ensures

@@ -1,2 +1,0 @@
--- The times at the two ends of a map.
-pub mod Ends

@@ -1,0 +1,2 @@
+-- The rows of the STCs.
+pub mod Rows

@@ -1,2 +1,0 @@
--- The law behind the one match.
-pub mod Laws

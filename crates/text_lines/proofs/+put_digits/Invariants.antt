@@ -1,5 +1,0 @@
--- The count of digits falls with each call.
-use Rattle.text_lines.proofs.+put_digits.Given as goal
-
-abbrev pub decreases-put_digits : goal.decreases-put_digits
-decreases-put_digits l = l.k
