@@ -10,7 +10,7 @@ ghost use Rattle.cpi_fill.specs.Fill.{OneMap, Fill};
 use cells::put_row;
 use entry_rows::SIZE;
 use ep_entries::body::map_body;
-use ep_entries::entries::put_entries;
+use ep_entries::entries::{TableForm, put_entries};
 use ep_rows::map_header;
 use numbers::{be_at, u16_at};
 
@@ -31,7 +31,7 @@ fn put_map_entries(file: &[u8], start: usize, q: usize, table: &mut [u8], at: us
     ensures table_after { table.new ≡ sets table.old at (table_bytes (entries_of file.now start q)) }
 {
     let m = map_body(file, start, q);
-    put_entries(file, m, table, at);
+    put_entries::<TableForm>(file, m, table, at);
     m.num_fine
 }
 

@@ -5,10 +5,9 @@ use mathlib.Core.List.{List}
 use native.Mathlib.Omega.{arith}
 use lib.ListN.{length}
 use lib.Seq.{sets, length-sets}
-use Rattle.format.specs.Bytes.{bytes_of, packed, flat}
-use Rattle.format.specs.ClipRecord.{angle, i_end_of}
-use Rattle.format.specs.EntryPoints.{coarse_widths, fine_widths, fine_at, fine_time, coarse_time, coarse_for, join_time}
-use Rattle.format.specs.Rewriting.{coarse_row, coarse_rows, runs, coarse_bytes, fine_row, fine_bytes, coarse_by, fine_by}
+use Rattle.format.specs.Bytes.{packed, flat}
+use Rattle.format.specs.EntryPoints.{coarse_widths, fine_at, fine_time, coarse_time, coarse_for, join_time}
+use Rattle.format.specs.Rewriting.{coarse_row, coarse_rows, runs, coarse_bytes, coarse_by}
 use Rattle.format.proofs.Fields.{time_cells}
 use Rattle.format.proofs.Loops.{put_more}
 use Rattle.format.proofs.Numbers.{bytes_length}
@@ -18,7 +17,7 @@ use Rattle.entry_rows.specs.Reads.{row_of}
 use Rattle.ep_entries.specs.Walks.{IsWalk}
 use Rattle.ep_entries.specs.declared.body.MapBody.{MapBody}
 use Rattle.ep_entries.specs.declared.walk.Walk.{Walk}
-use Rattle.ep_entries.proofs.Joined.{left_all, left_turn, left_done}
+use Rattle.ep_entries.proofs.Joined.{left_all, left_done}
 use Rattle.runs.specs.Runs.{end_from, coarse_from}
 use Rattle.runs.proofs.Runs.{coarse_all}
 use Rattle.encode_map.proofs.Bodies.{Narrow}
@@ -26,7 +25,7 @@ use Rattle.map_runs.specs.Entries.{IsMet, IsEnd}
 use Rattle.map_runs.specs.declared.walked.Met.{Met}
 use Rattle.map_runs.specs.declared.walked.RunEnd.{RunEnd}
 use Rattle.map_runs.proofs.Entries.{next_run}
-use Rattle.map_runs.proofs.Turns.{met_time, met_packet, later}
+use Rattle.map_runs.proofs.Turns.{met_time, met_packet}
 
 -- angle, I-end and time of an entry that was read are as narrow as the rows that are stored want them
 pub met_narrow : (f : List ℕ) (m : MapBody) (k : ℕ) (r : Met) → IsMet f m k r → Narrow (row_of r.entry)
@@ -92,44 +91,3 @@ module _ (f : List ℕ) (m : MapBody) (o₀ : List ℕ) (at : ℕ) where
   coarse_done o walk to k i h =
       let place = rw (left_done f m k h) at i.place in
       (omega arith, rw (left_done f m k h) at i.rest)
-
-  -- ---- fine rows
-
-  -- the angle that was met is the entry's
-  met_angle : (k : ℕ) (r : Met) → IsMet f m k r → r.entry.angle ≡ angle (entry_in f m k)
-  met_angle k r i = ap angle i.entry_is
-
-  -- so is the I-end
-  met_end : (k : ℕ) (r : Met) → IsMet f m k r → r.entry.i_end ≡ i_end_of (entry_in f m k)
-  met_end k r i = ap i_end_of i.entry_is
-
-  -- the fine rows of k entries are stored
-  pub record Fine (o : List ℕ) (walk : Walk) (k : ℕ) : Type 0 where
-    pub within : k ≤ m.num_fine
-    pub walk_is : IsWalk f m.num_fine (coarse_in f m) k walk
-    pub long : length o ≡ length o₀
-    pub rest : sets o (at + 4 * k) (flat fine_bytes (entries_left f m k)) ≡ sets o₀ at (flat fine_bytes (entries_in f m))
-
-  -- before the first turn
-  pub fine_first : (walk : Walk) → IsWalk f m.num_fine (coarse_in f m) 0 walk → Fine o₀ walk 0
-  fine_first walk w = let z : at + 4 * 0 ≡ at = omega arith in record { within = omega arith; walk_is = w; long = refl; rest = rw (z, left_all f m) }
-
-  -- the row of entry k is stored
-  pub fine_turn : (o : List ℕ) (walk : Walk) (k : ℕ) (met : Met) {o' : List ℕ} → Fine o walk k → k < m.num_fine → IsMet f m k met
-      → o' ≡ sets o (at + 4 * k) (bytes_of 4 (packed fine_widths (fine_by met.entry.angle met.entry.i_end met.entry.time met.entry.packet))) → Fine o' met.walk (k + 1)
-  fine_turn o walk k met {o' = o'} i h known put =
-      let x = entry_in f m k in
-      let rest = flat fine_bytes (entries_left f m (k + 1)) in
-      let put' : o' ≡ sets o (at + 4 * k) (fine_bytes x) =
-      put ∙ rw (met_angle k met known, met_end k met known, met_time f m k met known, met_packet f m k met known) in
-      let e : at + 4 * (k + 1) ≡ at + 4 * k + 4 = omega arith in
-      record {
-        within = omega arith;
-        walk_is = later f m k (k + 1) met.walk (omega arith) known.walk_is;
-        long = ap length put' ∙ length-sets o (at + 4 * k) (fine_bytes x) ∙ i.long;
-        rest = rw e (put_more o (at + 4 * k) 4 (fine_bytes x) rest (bytes_length 4 (packed fine_widths (fine_row x))) put' (rw (left_turn f m k h) at i.rest));
-      }
-
-  -- all are stored
-  pub fine_done : (o : List ℕ) (walk : Walk) (k : ℕ) → Fine o walk k → m.num_fine ≤ k → o ≡ sets o₀ at (flat fine_bytes (entries_in f m))
-  fine_done o walk k i h = rw (left_done f m k h) at i.rest

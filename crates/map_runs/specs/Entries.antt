@@ -31,11 +31,6 @@ pub record CoarseRoom (f : List ℕ) (m : MapBody) (size at : ℕ) : Type 0 wher
   pub rows : RowsIn f m
   pub room : at + 8 * runs (entries_in f m) ≤ size
 
--- it has room for the fine rows
-pub record FineRoom (f : List ℕ) (m : MapBody) (size at : ℕ) : Type 0 where
-  pub rows : RowsIn f m
-  pub room : at + 4 * m.num_fine ≤ size
-
 -- it has room for the body
 pub record BodyRoom (f : List ℕ) (m : MapBody) (size at : ℕ) : Type 0 where
   pub rows : RowsIn f m

@@ -1,13 +1,18 @@
 // The body of a map made anew: fine address, coarse rows, fine rows.
 ghost use Rattle.std.specs.Prelude.{◌≡◌, ◌+◌, ◌*◌, length};
 ghost use Rattle.std.proofs.lemmas.List.Edits.{sets};
-ghost use Rattle.format.specs.Bytes.{flat};
-ghost use Rattle.format.specs.Rewriting.{coarse_rows, runs, coarse_bytes, fine_bytes, body_bytes};
+ghost use Rattle.std.proofs.Common.{rules};
+ghost use Rattle.format.specs.Bytes.{flat, packed};
+ghost use Rattle.format.specs.EntryPoints.{fine_widths};
+ghost use Rattle.format.proofs.Numbers.{bytes_length};
+ghost use Rattle.format.specs.Rewriting.{coarse_rows, runs, coarse_bytes, fine_row, fine_bytes, body_bytes};
 ghost use Rattle.ep_entries.specs.Body.{entries_in};
-ghost use Rattle.map_runs.specs.Entries.{CoarseRoom, FineRoom, BodyRoom};
+ghost use Rattle.ep_entries.specs.Entries.{entry_by};
+ghost use Rattle.map_runs.specs.Entries.{CoarseRoom, BodyRoom};
 
 use crate::walked::{meet, run_end};
 use ep_entries::body::MapBody;
+use ep_entries::entries::{EntryForm, join, put_entries};
 use ep_entries::walk::Walk;
 use map_rows::{put_coarse_row, put_fine_row};
 use numbers::put_u32;
@@ -33,19 +38,23 @@ fn put_coarse(file: &[u8], m: MapBody, out: &mut [u8], at: usize) -> usize
     to
 }
 
-// The fine rows of the map's entries, from `at`: the low bits of each entry's own time and packet. Answers the place behind them.
-fn put_fine(file: &[u8], m: MapBody, out: &mut [u8], at: usize) -> usize
-    requires { FineRoom file.now m (length out.old) at }
-    ensures value { result ≡ at + 4 * m.num_fine }
-    ensures out_after { out.new ≡ sets out.old at (flat fine_bytes (entries_in file.now m)) }
-{
-    let mut walk = Walk::start(file, m);
-    for k in 0..m.num_fine {
-        let met = meet(file, m, k, walk);
-        put_fine_row(met.entry, out, at + 4 * k);
-        walk = met.walk;
+// Entries as fine rows: the low bits of each entry's own time and packet.
+struct FineForm;
+
+impl EntryForm for FineForm {
+    const SIZE: usize = 4;
+
+    ghost SIZE = { 4 };
+
+    ghost bytes = { fine_bytes };
+
+    fn put(word: u32, w: Walk, kind: u32, out: &mut [u8], at: usize) {
+        put_fine_row(join(word, w, kind), out, at);
     }
-    at + 4 * m.num_fine
+
+    ghost long = { λ kind time packet fine. bytes_length 4 (packed fine_widths (fine_row (entry_by kind time packet fine))) };
+
+    ghost small = { Prim.search rules };
 }
 
 // The map's body, from `at`. The fine address is known once the coarse rows stand. Answers how many runs there are.
@@ -56,6 +65,6 @@ pub fn put_body(file: &[u8], m: MapBody, out: &mut [u8], at: usize) -> usize
 {
     let fine = put_coarse(file, m, out, at + 4);
     put_u32(out, at, (fine - at) as u32);
-    put_fine(file, m, out, fine);
+    put_entries::<FineForm>(file, m, out, fine);
     (fine - at - 4) / 8
 }

@@ -2,61 +2,70 @@
 use Prim.Native.Nat.{◌≤◌}
 use native.Mathlib.Omega.{arith}
 use Rattle.ep_entries.proofs.Walks.{steps_on, walking_less}
-use Rattle.ep_entries.proofs.Joined.{Filled, filled_first, filled_stretch, filled_step, filled_done}
+use lib.ListN.{length}
+use Rattle.ep_entries.proofs.Joined.{room_for, Filled, filled_first, filled_stretch, filled_step, filled_done}
 use Rattle.ep_entries.proofs.entries.put_entries.Goals as goal
 use Rattle.ep_entries.proofs.entries.put_entries.Goals.{then-k-w, else-k-w}
 
 pub loop-w-init : goal.loop-w-init
-loop-w-init c =
-    filled_first c.args.file.now c.args.m c.args.table.now c.args.at c.start-w.result c.start-w.ensures
+loop-w-init g c =
+    filled_first g.F.EntryForm.bytes g.F.EntryForm.SIZE c.args.file.now c.args.m c.args.out.now c.args.at c.start-w.result c.start-w.ensures
 
 pub put_stretch-requires : goal.put_stretch-requires
-put_stretch-requires c =
+put_stretch-requires g c =
     record {
       turns = omega arith;
+      few = omega (arith, c.loop-w-test.true, c.requires.rows.few);
       fine_in = omega (arith, c.loop-w-test.true, c.requires.rows.fine_in);
-      fits = omega (arith, c.loop-w-test.true, c.requires.fits, c.loop-w.invariant.same);
+      fits = rw c.loop-w.invariant.same (room_for g.F.EntryForm.SIZE c.args.at c.loop-w.w.end c.args.m.num_fine (length c.args.out.now) (omega (arith, c.loop-w-test.true)) c.requires.fits);
     }
 
 pub step-w-requires : goal.step-w-requires
-step-w-requires c =
+step-w-requires g c =
     let steps = c.loop-w.invariant.walk.steps in
     (steps.room, (steps_on c.args.file.now c.args.m.num_fine c.loop-w.w steps c.loop-w-test.true).0)
 
 pub loop-w-smaller : goal.loop-w-smaller
-loop-w-smaller c =
+loop-w-smaller g c =
     walking_less c.args.file.now c.args.m.num_fine c.loop-w.w c.loop-w.invariant.walk.steps c.loop-w-test.true c.step-w.ensures
 
 pub loop-w-preserved : goal.loop-w-preserved
-loop-w-preserved c =
+loop-w-preserved g c =
     let a = c.args in
     let f = a.file.now in
-    let t₀ = a.table.now in
+    let t₀ = a.out.now in
+    let bytes = g.F.EntryForm.bytes in
+    let size = g.F.EntryForm.SIZE in
+    let long = g.met.F.EntryForm.long in
     let l = c.loop-w in
     let e = l.w.end in
-    let met : Filled f a.m t₀ a.at c.if-k-w.table l.w c.if-k-w.k × (e ≤ c.if-k-w.k) =
+    let met : Filled bytes size f a.m t₀ a.at c.if-k-w.out l.w c.if-k-w.k × (e ≤ c.if-k-w.k) =
     elim c.if-k-w.branch [
-      | then-k-w w ↦ (rw (w.table-is, w.k-is) (filled_stretch f a.m t₀ a.at l.table l.w l.k l.invariant e (omega arith) (omega arith) (omega (arith, c.loop-w-test.true)) w.put_stretch.auto.table w.put_stretch.ensures), omega arith)
-      | else-k-w w ↦ (rw (w.table-is, w.k-is) l.invariant, omega arith)
+      | then-k-w w ↦ (rw (w.out-is, w.k-is) (filled_stretch bytes size f a.m t₀ a.at l.out l.w l.k l.invariant long e (omega arith) (omega arith) (omega (arith, c.loop-w-test.true)) w.put_stretch.auto.out w.put_stretch.ensures), omega arith)
+      | else-k-w w ↦ (rw (w.out-is, w.k-is) l.invariant, omega arith)
     ]
     in
-    filled_step f a.m t₀ a.at c.if-k-w.table l.w c.if-k-w.k met.0 met.1 c.loop-w-test.true c.step-w.ensures
+    filled_step bytes size f a.m t₀ a.at c.if-k-w.out l.w c.if-k-w.k met.0 met.1 c.loop-w-test.true c.step-w.ensures
 
 pub put_stretch-requires-2 : goal.put_stretch-requires-2
-put_stretch-requires-2 c =
+put_stretch-requires-2 g c =
     record {
       turns = omega (arith, c.loop-w.invariant.within);
+      few = c.requires.rows.few;
       fine_in = omega (arith, c.loop-w.invariant.within, c.requires.rows.fine_in);
-      fits = omega (arith, c.loop-w.invariant.within, c.requires.fits, c.loop-w.invariant.same);
+      fits = rw c.loop-w.invariant.same c.requires.fits;
     }
 
 pub returns : goal.returns
-returns c =
+returns g c =
     let a = c.args in
     let f = a.file.now in
-    let t₀ = a.table.now in
+    let t₀ = a.out.now in
+    let bytes = g.F.EntryForm.bytes in
+    let size = g.F.EntryForm.SIZE in
+    let long = g.met.F.EntryForm.long in
     let l = c.loop-w in
     let n = a.m.num_fine in
     let p = c.put_stretch-2 in
-    filled_done f a.m t₀ a.at p.new.table l.w
-    (filled_stretch f a.m t₀ a.at l.table l.w l.k l.invariant n l.invariant.within c.loop-w-test.false (omega arith) p.auto.table p.ensures)
+    filled_done bytes size f a.m t₀ a.at p.new.out l.w
+    (filled_stretch bytes size f a.m t₀ a.at l.out l.w l.k l.invariant long n l.invariant.within c.loop-w-test.false (omega arith) p.auto.out p.ensures)

@@ -3,7 +3,7 @@ use Rattle.ep_entries.proofs.Joined.{Filled}
 use Rattle.ep_entries.proofs.entries.put_entries.Given as goal
 
 abbrev pub invariant-loop-w : goal.invariant-loop-w
-invariant-loop-w l = Filled l.file l.m l.initial.table l.at l.table l.w l.k
+invariant-loop-w g l = Filled g.F.EntryForm.bytes g.F.EntryForm.SIZE l.file l.m l.initial.out l.at l.out l.w l.k
 
 abbrev pub decreases-loop-w : goal.decreases-loop-w
-decreases-loop-w l = l.w.left
+decreases-loop-w g l = l.w.left

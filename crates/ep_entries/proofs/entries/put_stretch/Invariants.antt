@@ -3,9 +3,9 @@ use Prim.Native.Nat.{◌+◌, ◌*◌, ◌≤◌}
 use mathlib.Core.Path.{◌≡◌}
 use lib.ListN.{length}
 use lib.Seq.{sets}
-use Rattle.format.specs.ClipRecord.{entry_size}
 use Rattle.ep_entries.specs.Entries.{stretch_bytes}
 use Rattle.ep_entries.proofs.entries.put_stretch.Given as goal
 
 abbrev pub invariant-loop-k : goal.invariant-loop-k
-invariant-loop-k l = (l.from ≤ l.k) × (l.k ≤ l.end) × (length l.table ≡ length l.initial.table) × (sets l.table (l.at + entry_size * l.k) (stretch_bytes l.file l.m.kind l.w.time l.w.packet l.m.fine l.k l.end) ≡ sets l.initial.table (l.at + entry_size * l.from) (stretch_bytes l.file l.m.kind l.w.time l.w.packet l.m.fine l.from l.end))
+invariant-loop-k g l =
+    let form = g.F.EntryForm in (l.from ≤ l.k) × (l.k ≤ l.end) × (length l.out ≡ length l.initial.out) × (sets l.out (l.at + form.SIZE * l.k) (stretch_bytes form.bytes l.file l.m.kind l.w.time l.w.packet l.m.fine l.k l.end) ≡ sets l.initial.out (l.at + form.SIZE * l.from) (stretch_bytes form.bytes l.file l.m.kind l.w.time l.w.packet l.m.fine l.from l.end))

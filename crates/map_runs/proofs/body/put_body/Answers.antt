@@ -18,9 +18,9 @@ pub put_u32-requires : goal.put_u32-requires
 put_u32-requires c =
     omega (arith, c.requires.room, body_size c.args.file.now c.args.m, c.put_coarse-fine.auto)
 
-pub put_fine-requires : goal.put_fine-requires
-put_fine-requires c =
-    record { rows = c.requires.rows; room = omega (arith, c.requires.room, body_size c.args.file.now c.args.m, c.put_coarse-fine.ensures.value, c.put_coarse-fine.auto, c.put_u32.auto) }
+pub put_entries-requires : goal.put_entries-requires
+put_entries-requires c =
+    record { rows = c.requires.rows; fits = omega (arith, c.requires.room, body_size c.args.file.now c.args.m, c.put_coarse-fine.ensures.value, c.put_coarse-fine.auto, c.put_u32.auto) }
 
 pub returns : goal.returns
 returns c =
@@ -28,5 +28,5 @@ returns c =
     let coarse = c.put_coarse-fine in record {
       value = omega (arith, coarse.ensures.value);
       out_after = body_stored (entries_in a.file.now a.m) a.out.now a.at coarse.result _ coarse.ensures.value refl
-          coarse.ensures.out_after c.put_u32.ensures c.put_fine.ensures.out_after;
+          coarse.ensures.out_after c.put_u32.ensures c.put_entries.ensures;
     }
