@@ -1,5 +1,5 @@
 -- The entries of a map, met one by one: a turn, and the end of the loop that joins coarse and fine rows.
-use Prim.Native.Nat.{ℕ, zero, suc, ◌+◌, ◌*◌, ◌-◌, ◌^◌, ◌<◌, ◌≤◌}
+use Prim.Native.Nat.{ℕ, zero, suc, ◌+◌, ◌*◌, ◌-◌, ◌<◌, ◌≤◌}
 use mathlib.Core.Path.{◌≡◌, refl, sym, ap, ap₂, ◌∙◌}
 use mathlib.Core.List.{List, [], ◌∷◌, ◌++◌, append_assoc}
 use native.Mathlib.Numerals.{add-one}
@@ -9,17 +9,12 @@ use lib.Seq.{sets}
 use native.Mathlib.Nat.{mul-le-mul_left}
 use Rattle.format.specs.Bytes.{flat, be_at, unpacked, rows_at}
 use Rattle.format.specs.ClipRecord.{Row}
-use Rattle.format.specs.EntryPoints.{fine_widths, fine_at, next_fine, join_time, join_packet}
-use Rattle.format.specs.Tables.{row_bytes_of}
+use Rattle.format.specs.EntryPoints.{fine_widths, fine_at, next_fine}
 use Rattle.format.proofs.Loops.{one_left, none_left, put_more}
 use Rattle.format.proofs.Rows as Rows
 use Rattle.format.proofs.Rows.{rows_all, rows_length, flat_length}
-use Rattle.ep_rows.specs.Rows.{fine_of}
-use Rattle.ep_rows.specs.declared.FineRow.{FineRow}
 use Rattle.ep_entries.specs.Body.{coarse_in, entries_in, entries_left, entry_in}
-use Rattle.entry_rows.specs.Reads.{row_of}
-use Rattle.entry_rows.specs.declared.EntryRow.{EntryRow}
-use Rattle.ep_entries.specs.Entries.{joined, entry_by, stretch_bytes}
+use Rattle.ep_entries.specs.Entries.{entry_by, stretch_bytes}
 use Rattle.ep_entries.specs.Walks.{walk_at, IsWalk}
 use Rattle.ep_entries.proofs.Walks.{walk_step, walk_stop, walk_later}
 use Rattle.ep_entries.specs.declared.body.MapBody.{MapBody}
@@ -143,19 +138,3 @@ module _ (bytes : Row → List ℕ) (size : ℕ) (long : (kind time packet : ℕ
   -- with no row left the stretch is stored
   pub stretch_done : (t : List ℕ) (at : ℕ) {whole : List ℕ} → end ≤ k → sets t at (stretch_bytes bytes f type time packet fine k end) ≡ whole → t ≡ whole
   stretch_done t at h i = rw (none_left end k h) at i
-
--- ---- one entry
-
--- the fields of a fine row are as narrow as the joins want them
-pub fine_time_below : (word : ℕ) (r : FineRow) → r ≡ fine_of (unpacked fine_widths word) → r.time < 2 ^ 11
-fine_time_below word r e = rw e (omega arith)
-
--- a fine row's packet field is of 17 bits
-pub fine_packet_below : (word : ℕ) (r : FineRow) → r ≡ fine_of (unpacked fine_widths word) → r.packet < 2 ^ 17
-fine_packet_below word r e = rw e (omega arith)
-
--- its fields with time and packet joined are the entry
-pub entry_joined : (word kind coarse-time coarse_packet_lem time packet : ℕ) (r : FineRow) → r ≡ fine_of (unpacked fine_widths word)
-    → time ≡ join_time coarse-time r.time → packet ≡ join_packet coarse_packet_lem r.packet
-    → record { angle = r.angle; i_end = r.i_end; time = time; packet = packet; entry_type = kind } ≡ joined kind coarse-time coarse_packet_lem (unpacked fine_widths word)
-entry_joined word kind ct cp time packet r e te pe = rw (te, pe, e)

@@ -2,23 +2,9 @@
 use Prim.Native.Nat.{◌≤◌}
 use native.Mathlib.Omega.{arith}
 use Rattle.ep_entries.proofs.Walks.{steps_on, walking_less}
-use lib.ListN.{length}
-use Rattle.ep_entries.proofs.Joined.{room_for, Filled, filled_first, filled_stretch, filled_step, filled_done}
+use Rattle.ep_entries.proofs.Joined.{Filled, filled_stretch, filled_step, filled_done}
 use Rattle.ep_entries.proofs.entries.put_entries.Goals as goal
 use Rattle.ep_entries.proofs.entries.put_entries.Goals.{then-k-w, else-k-w}
-
-pub loop-w-init : goal.loop-w-init
-loop-w-init g c =
-    filled_first g.F.EntryForm.bytes g.F.EntryForm.SIZE c.args.file.now c.args.m c.args.out.now c.args.at c.start-w.result c.start-w.ensures
-
-pub put_stretch-requires : goal.put_stretch-requires
-put_stretch-requires g c =
-    record {
-      turns = omega arith;
-      few = omega (arith, c.loop-w-test.true, c.requires.rows.few);
-      fine_in = omega (arith, c.loop-w-test.true, c.requires.rows.fine_in);
-      fits = rw c.loop-w.invariant.same (room_for g.F.EntryForm.SIZE c.args.at c.loop-w.w.end c.args.m.num_fine (length c.args.out.now) (omega (arith, c.loop-w-test.true)) c.requires.fits);
-    }
 
 pub step-w-requires : goal.step-w-requires
 step-w-requires g c =
@@ -46,15 +32,6 @@ loop-w-preserved g c =
     ]
     in
     filled_step bytes size f a.m t₀ a.at c.if-k-w.out l.w c.if-k-w.k met.0 met.1 c.loop-w-test.true c.step-w.ensures
-
-pub put_stretch-requires-2 : goal.put_stretch-requires-2
-put_stretch-requires-2 g c =
-    record {
-      turns = omega (arith, c.loop-w.invariant.within);
-      few = c.requires.rows.few;
-      fine_in = omega (arith, c.loop-w.invariant.within, c.requires.rows.fine_in);
-      fits = rw c.loop-w.invariant.same c.requires.fits;
-    }
 
 pub returns : goal.returns
 returns g c =

@@ -1,8 +1,7 @@
 -- Each turn stores the entry of fine row k; what is left of the stretch goes behind it.
-use Prim.Native.Nat.{◌+◌, ◌*◌}
 use mathlib.Core.Path.{◌∙◌}
 use native.Mathlib.Omega.{arith}
-use Rattle.ep_entries.proofs.Joined.{stretch_turn, stretch_done}
+use Rattle.ep_entries.proofs.Joined.{stretch_turn}
 use Rattle.ep_entries.proofs.entries.put_stretch.Goals as goal
 
 pub loop-k-preserved : goal.loop-k-preserved
@@ -17,10 +16,3 @@ loop-k-preserved g c =
       put.auto.out ∙ l.invariant.2,
       stretch_turn form.bytes form.SIZE g.met.F.EntryForm.long a.file.now a.m.kind a.w.time a.w.packet a.m.fine a.end l.k l.out a.at word.result (omega arith) word.ensures.same (rw c.SIZE.ensures at put.ensures) l.invariant.3,
     )
-
-pub returns : goal.returns
-returns g c =
-    let form = g.F.EntryForm in
-    let a = c.args in
-    let l = c.loop-k in
-    stretch_done form.bytes form.SIZE g.met.F.EntryForm.long a.file.now a.m.kind a.w.time a.w.packet a.m.fine a.end l.k l.out (a.at + form.SIZE * l.k) c.loop-k-test.false l.invariant.3

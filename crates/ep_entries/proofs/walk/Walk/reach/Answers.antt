@@ -1,11 +1,7 @@
 -- Each turn steps to the next coarse row, which is there; a row less is left.
 use native.Mathlib.Omega.{arith}
-use Rattle.ep_entries.proofs.Walks.{walking_first, walking_on, walking_less, walking_done, steps_on}
+use Rattle.ep_entries.proofs.Walks.{walking_on, walking_less, steps_on}
 use Rattle.ep_entries.proofs.walk.Walk.reach.Goals as goal
-
-pub loop-w-init : goal.loop-w-init
-loop-w-init c =
-    walking_first c.args.file.now c.args.m.num_fine c.args.k c.args.self c.requires.0
 
 pub step-w-requires : goal.step-w-requires
 step-w-requires c =
@@ -19,7 +15,3 @@ loop-w-smaller c =
 pub loop-w-preserved : goal.loop-w-preserved
 loop-w-preserved c =
     walking_on c.args.file.now c.args.m.num_fine c.args.k c.args.self c.loop-w.w c.loop-w.invariant c.loop-w-test.true (omega (arith, c.loop-w-test.true)) c.step-w.ensures
-
-pub returns : goal.returns
-returns c =
-    walking_done c.args.file.now c.args.m.num_fine c.args.k c.args.self c.loop-w.w c.loop-w.invariant c.loop-w-test.false
