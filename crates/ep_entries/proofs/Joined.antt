@@ -1,16 +1,15 @@
 -- The entries of a map, met one by one: a turn, and the end of the loop that joins coarse and fine rows.
 use Prim.Native.Nat.{ℕ, zero, suc, ◌+◌, ◌*◌, ◌-◌, ◌<◌, ◌≤◌}
-use mathlib.Core.Path.{◌≡◌, refl, sym, ap, ap₂, ◌∙◌}
+use mathlib.Core.Path.{◌≡◌, sym, ap, ap₂, ◌∙◌}
 use mathlib.Core.List.{List, [], ◌∷◌, ◌++◌, append_assoc}
 use native.Mathlib.Numerals.{add-one}
 use native.Mathlib.Omega.{arith}
 use lib.ListN.{length}
 use lib.Seq.{sets}
-use native.Mathlib.Nat.{mul-le-mul_left}
 use Rattle.format.specs.Bytes.{flat, be_at, unpacked, rows_at}
 use Rattle.format.specs.ClipRecord.{Row}
 use Rattle.format.specs.EntryPoints.{fine_widths, fine_at, next_fine}
-use Rattle.format.proofs.Loops.{one_left, none_left, put_more}
+use Rattle.format.proofs.Loops.{one_left, put_more}
 use Rattle.format.proofs.Rows as Rows
 use Rattle.format.proofs.Rows.{rows_all, rows_length, flat_length}
 use Rattle.ep_entries.specs.Body.{coarse_in, entries_in, entries_left, entry_in}
@@ -82,12 +81,6 @@ module _ (bytes : Row → List ℕ) (size : ℕ) (f : List ℕ) (m : MapBody) (t
     pub same : length t ≡ length t₀
     pub rest : sets t (at + size * k) (flat bytes (entries_left f m k)) ≡ sets t₀ at (flat bytes (entries_in f m))
 
-  -- before the first turn none is stored
-  pub filled_first : (w : Walk) → IsWalk f m.num_fine (coarse_in f m) 0 w → Filled t₀ w 0
-  filled_first w i =
-      let z : at + size * 0 ≡ at = omega arith in
-      record { within = omega arith; walk = i; same = refl; rest = rw (z, left_all f m) }
-
   module _ (t : List ℕ) (w : Walk) (k : ℕ) (g : Filled t w k) where
     -- a stretch up to fine row `end`, before which the next coarse row is not reached, is stored
     pub filled_stretch : ((kind time packet : ℕ) (fine : Row) → length (bytes (entry_by kind time packet fine)) ≡ size)
@@ -115,10 +108,6 @@ module _ (bytes : Row → List ℕ) (size : ℕ) (f : List ℕ) (m : MapBody) (t
 
 -- ---- one stretch
 
--- the first rows of a stretch that has room have it too
-pub room_for : (size at k end room : ℕ) → k ≤ end → at + size * end ≤ room → at + size * k ≤ room
-room_for size at k end room h fits = omega (arith, fits, mul-le-mul_left size h)
-
 module _ (bytes : Row → List ℕ) (size : ℕ) (long : (kind time packet : ℕ) (fine : Row) → length (bytes (entry_by kind time packet fine)) ≡ size)
     (f : List ℕ) (type time packet fine end k : ℕ) where
   -- a turn stores the entry of fine row k
@@ -134,7 +123,3 @@ module _ (bytes : Row → List ℕ) (size : ℕ) (long : (kind time packet : ℕ
       let a : at + size * (k + 1) ≡ at + size * k + size = omega arith in
       let b : fine + 4 * (k + 1) ≡ fine + 4 * k + 4 = omega arith in
       rw (a, b) done
-
-  -- with no row left the stretch is stored
-  pub stretch_done : (t : List ℕ) (at : ℕ) {whole : List ℕ} → end ≤ k → sets t at (stretch_bytes bytes f type time packet fine k end) ≡ whole → t ≡ whole
-  stretch_done t at h i = rw (none_left end k h) at i

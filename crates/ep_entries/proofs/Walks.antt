@@ -10,7 +10,7 @@ use Rattle.format.specs.ClipRecord.{Row}
 use Rattle.format.specs.EntryPoints.{coarse_widths, coarse_at, next_coarse, first_fine_of, coarse_time, coarse_packet, step_on, coarse_for}
 use Rattle.ep_rows.specs.Rows.{coarse_of}
 use Rattle.ep_rows.specs.declared.CoarseRow.{CoarseRow}
-use Rattle.ep_entries.specs.Walks.{next_first, walk_at, Steps, IsWalk, Reached}
+use Rattle.ep_entries.specs.Walks.{next_first, walk_at, Steps, IsWalk}
 use Rattle.ep_entries.specs.declared.walk.Walk.{Walk}
 
 -- with rows left, the next one's first fine row
@@ -131,10 +131,6 @@ pub record Walking (f : List ℕ) (last k : ℕ) (from w : Walk) : Type 0 where
   pub steps : Steps f last w
   pub still : (coarse : List Row) → IsWalk f last coarse k from → IsWalk f last coarse k w
 
--- before the first turn the walk is the one that the loop starts from
-pub walking_first : (f : List ℕ) (last k : ℕ) (w : Walk) → Steps f last w → Walking f last k w w
-walking_first f last k w s = record { steps = s; still = λ coarse i. i }
-
 -- a step to a row that is reached keeps what holds
 pub walking_on : (f : List ℕ) (last k : ℕ) (from w : Walk) {w' : Walk} → Walking f last k from w → w.end ≤ k → w.end < last
     → w' ≡ walk_at f w.behind w.left last → Walking f last k from w'
@@ -146,7 +142,3 @@ pub walking_less : (f : List ℕ) (last : ℕ) (w : Walk) {w' : Walk} → Steps 
     → w' ≡ walk_at f w.behind w.left last → w'.left < w.left
 unfolding walk_at
 walking_less f last w s h e = let on = steps_on f last w s h in rw e (omega arith)
-
--- where the next row is not reached yet the walk is right for fine row k, and the loop is done
-pub walking_done : (f : List ℕ) (last k : ℕ) (from w : Walk) → Walking f last k from w → k < w.end → Reached f last k from w
-walking_done f last k from w g h = record { reached = g.still; beyond = h }

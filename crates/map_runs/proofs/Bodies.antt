@@ -84,10 +84,3 @@ module _ (f : List ℕ) (m : MapBody) (o₀ : List ℕ) (at : ℕ) where
           place = let place = rw next.rows at i.place in omega arith;
           rest = put_more o to 8 (coarse_bytes (coarse_row k x)) rest (bytes_length 8 (packed coarse_widths (coarse_row k x))) put' (rw next.rows at i.rest);
         }
-
-  -- all are stored
-  pub coarse_done : (o : List ℕ) (walk : Walk) (to k : ℕ) → Coarse o walk to k → m.num_fine ≤ k
-      → (to ≡ at + 8 * runs (entries_in f m)) × (o ≡ sets o₀ at (flat coarse_bytes (coarse_rows (entries_in f m))))
-  coarse_done o walk to k i h =
-      let place = rw (left_done f m k h) at i.place in
-      (omega arith, rw (left_done f m k h) at i.rest)

@@ -22,11 +22,8 @@ pub put_entries-requires : goal.put_entries-requires
 put_entries-requires c =
     record { rows = c.requires.rows; fits = omega (arith, c.requires.room, body_size c.args.file.now c.args.m, c.put_coarse-fine.ensures.value, c.put_coarse-fine.auto, c.put_u32.auto) }
 
-pub returns : goal.returns
-returns c =
+pub returns-clause-out_after : goal.returns-clause-out_after
+returns-clause-out_after c =
     let a = c.args in
-    let coarse = c.put_coarse-fine in record {
-      value = omega (arith, coarse.ensures.value);
-      out_after = body_stored (entries_in a.file.now a.m) a.out.now a.at coarse.result _ coarse.ensures.value refl
-          coarse.ensures.out_after c.put_u32.ensures c.put_entries.ensures;
-    }
+    let coarse = c.put_coarse-fine in
+    body_stored (entries_in a.file.now a.m) a.out.now a.at coarse.result _ coarse.ensures.value refl coarse.ensures.out_after c.put_u32.ensures c.put_entries.ensures

@@ -3,28 +3,13 @@ use Prim.Native.Nat.{◌+◌, ◌≤◌}
 use native.Mathlib.Omega.{arith}
 use lib.ListN.{length}
 use Rattle.map_runs.proofs.Turns.{end_past}
-use Rattle.map_runs.proofs.Bodies.{met_below, coarse_first, coarse_room, coarse_turn, coarse_done}
+use Rattle.map_runs.proofs.Bodies.{met_below, coarse_first, coarse_room, coarse_turn}
 use Rattle.map_runs.proofs.body.put_coarse.Goals as goal
-
-pub start-walk-requires : goal.start-walk-requires
-start-walk-requires c = c.requires.rows.coarse_in_lem
 
 pub loop-k-init : goal.loop-k-init
 loop-k-init c =
     let a = c.args in
     coarse_first a.file.now a.m a.out.now a.at c.start-walk.result c.start-walk.ensures
-
-pub meet-first-requires : goal.meet-first-requires
-meet-first-requires c =
-    record { rows = c.requires.rows; there = c.loop-k-test.true; walk_is = c.loop-k.invariant.walk_is }
-
-pub run_end-end-requires : goal.run_end-end-requires
-run_end-end-requires c =
-    (c.requires.rows, c.loop-k-test.true, c.meet-first.ensures)
-
-pub overflow_cast-k : goal.overflow_cast-k
-overflow_cast-k c =
-    record { fits = omega (arith, c.requires.rows.few, c.loop-k-test.true) }
 
 pub put_coarse_row-requires : goal.put_coarse_row-requires
 put_coarse_row-requires c =
@@ -32,14 +17,6 @@ put_coarse_row-requires c =
     let l = c.loop-k in
     coarse_room a.file.now a.m a.out.now a.at l.out l.walk l.to l.k l.invariant c.loop-k-test.true c.requires.room in
     (omega (arith, c.requires.rows.few, c.loop-k-test.true), met_below c.args.file.now c.args.m c.loop-k.k c.meet-first.result c.meet-first.ensures, room)
-
-pub overflow_add-to : goal.overflow_add-to
-overflow_add-to c =
-    let room : c.loop-k.to + 8 ≤ length c.loop-k.out = let a = c.args in
-    let l = c.loop-k in
-    coarse_room a.file.now a.m a.out.now a.at l.out l.walk l.to l.k l.invariant c.loop-k-test.true c.requires.room in
-    let inside : c.loop-k.to + 8 ≤ length c.args.out.now = omega (arith, room, c.loop-k.invariant.long) in
-    omega (arith, inside)
 
 pub loop-k-smaller : goal.loop-k-smaller
 loop-k-smaller c =
@@ -52,13 +29,3 @@ loop-k-preserved c =
     let l = c.loop-k in
     coarse_turn a.file.now a.m a.out.now a.at l.out l.walk l.to l.k l.invariant c.loop-k-test.true c.meet-first.result c.run_end-end.result
     c.meet-first.ensures c.run_end-end.ensures c.put_coarse_row.ensures
-
-pub shape_of-out : goal.shape_of-out
-shape_of-out c = c.loop-k.invariant.long
-
-pub returns : goal.returns
-returns c =
-    let a = c.args in
-    let l = c.loop-k in
-    let r = coarse_done a.file.now a.m a.out.now a.at l.out l.walk l.to l.k l.invariant c.loop-k-test.false in
-    record { value = r.0; out_after = r.1 }

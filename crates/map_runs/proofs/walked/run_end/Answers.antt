@@ -7,10 +7,6 @@ loop-k-init c =
     let a = c.args in
     along_first a.file.now a.m a.from a.first c.requires.2 c.requires.1
 
-pub meet-met-requires : goal.meet-met-requires
-meet-met-requires c =
-    record { rows = c.requires.0; there = c.loop-k-test.true; walk_is = c.loop-k.invariant.walk_is }
-
 pub returns-then-not-same_key : goal.returns-then-not-same_key
 returns-then-not-same_key c =
     let a = c.args in
