@@ -23,10 +23,6 @@ overflow_add-len c =
 pub loop-k-init : goal.loop-k-init
 loop-k-init c = measured_first c.args.file.now c.args.start c.args.count c.requires
 
-pub overflow_add-start : goal.overflow_add-start
-overflow_add-start c =
-    let bound : c.args.start + 8 + 12 * c.args.count ≤ 536870912 = omega (arith, (there c.args.file.now c.args.start c.args.count c.requires (omega (arith, c.if-count-eq0.false))).headers, c.requires.small) in omega (arith, bound)
-
 pub overflow_mul-k : goal.overflow_mul-k
 overflow_mul-k c =
     let bound : c.args.start + 8 + 12 * c.args.count ≤ 536870912 = omega (arith, (there c.args.file.now c.args.start c.args.count c.requires (omega (arith, c.if-count-eq0.false))).headers, c.requires.small) in omega (arith, bound, c.loop-k-test.true)
@@ -40,43 +36,11 @@ map_body-m-requires c =
     let l = c.loop-k in
     left_map c.args.file.now c.args.start c.args.count l.k c.loop-k-test.true c.requires l.invariant.left
 
-pub count_runs-runs-requires : goal.count_runs-runs-requires
-count_runs-runs-requires c =
-    let rows : RowsIn c.args.file.now c.map_body-m.result =
-    let a = c.args in
-    let l = c.loop-k in
-    rows_in_lem a.file.now a.start (a.start + 8 + 12 * l.k) c.map_body-m.result c.map_body-m.ensures
-    (left_map a.file.now a.start a.count l.k c.loop-k-test.true c.requires l.invariant.left) in
-    rows
-
 pub returns-then-runs-gt-MOST_RUNS : goal.returns-then-runs-gt-MOST_RUNS
 returns-then-runs-gt-MOST_RUNS c =
     let a = c.args in
     let l = c.loop-k in
     measured_refused a.file.now a.start a.count l.len l.k l.invariant c.loop-k-test.true c.map_body-m.result c.map_body-m.ensures c.count_runs-runs.ensures c.if-runs-gt-MOST_RUNS.true
-
-pub overflow_mul-len-in-loop-k : goal.overflow_mul-len-in-loop-k
-overflow_mul-len-in-loop-k c = omega (arith, c.if-runs-gt-MOST_RUNS.false)
-
-pub overflow_add-len-in-loop-k : goal.overflow_add-len-in-loop-k
-overflow_add-len-in-loop-k c = omega (arith, c.if-runs-gt-MOST_RUNS.false)
-
-pub overflow_mul-len-in-loop-k-2 : goal.overflow_mul-len-in-loop-k-2
-overflow_mul-len-in-loop-k-2 c =
-    let rows : RowsIn c.args.file.now c.map_body-m.result =
-    let a = c.args in
-    let l = c.loop-k in
-    rows_in_lem a.file.now a.start (a.start + 8 + 12 * l.k) c.map_body-m.result c.map_body-m.ensures
-    (left_map a.file.now a.start a.count l.k c.loop-k-test.true c.requires l.invariant.left) in omega (arith, rows.few)
-
-pub overflow_add-len-in-loop-k-2 : goal.overflow_add-len-in-loop-k-2
-overflow_add-len-in-loop-k-2 c =
-    let rows : RowsIn c.args.file.now c.map_body-m.result =
-    let a = c.args in
-    let l = c.loop-k in
-    rows_in_lem a.file.now a.start (a.start + 8 + 12 * l.k) c.map_body-m.result c.map_body-m.ensures
-    (left_map a.file.now a.start a.count l.k c.loop-k-test.true c.requires l.invariant.left) in
-    omega (arith, rows.few, c.if-runs-gt-MOST_RUNS.false)
 
 pub overflow_add-len-in-loop-k-3 : goal.overflow_add-len-in-loop-k-3
 overflow_add-len-in-loop-k-3 c =

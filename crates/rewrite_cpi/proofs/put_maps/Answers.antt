@@ -3,15 +3,6 @@ use native.Mathlib.Omega.{arith}
 use Rattle.rewrite_cpi.proofs.Sections.{putting_first, putting_room, putting_turn, putting_done}
 use Rattle.rewrite_cpi.proofs.put_maps.Goals as goal
 
-pub overflow_add-body : goal.overflow_add-body
-overflow_add-body c = omega (arith, c.requires.room)
-
-pub overflow_mul-body : goal.overflow_mul-body
-overflow_mul-body c = omega (arith, c.requires.few)
-
-pub overflow_add-body-2 : goal.overflow_add-body-2
-overflow_add-body-2 c = omega (arith, c.requires.room)
-
 pub loop-k-init : goal.loop-k-init
 loop-k-init c =
     let a = c.args in
@@ -28,9 +19,6 @@ loop-k-preserved c =
     let a = c.args in
     let l = c.loop-k in
     putting_turn a.file.now a.from.file a.count a.out.now a.from.out c.requires l.out l.body l.k l.invariant c.loop-k-test.true c.put_map-body.ensures.value c.put_map-body.ensures.out_after
-
-pub shape_of-out : goal.shape_of-out
-shape_of-out c = c.loop-k.invariant.long
 
 pub returns : goal.returns
 returns c =
