@@ -44,10 +44,3 @@ loop-preserved c =
     let next = ap (λ (r : Places). r.file) c.measure_program-to.ensures in
     let place = ap (λ (r : Places). r.out) c.measure_program-to.ensures in
     (along_turn c.loop.invariant.0 c.loop-test.true next (omega (arith, next, within)), added bytes (c.args.from.out + length (new_items bytes c.args.from.file c.args.n)) c.loop.to.out c.loop.to.file c.args.n c.loop.counter c.loop.invariant.1 c.loop-test.true next place)
-
-pub returns : goal.returns
-returns c =
-    let l = c.loop in
-    let a = c.args in
-    let f = a.file.now in
-    rows_added (new_program f) (next_program f) as_is (a.from.out + length (new_items f a.from.file a.n)) l.to.out l.to.file a.n l.counter l.invariant.1 c.loop-test.false

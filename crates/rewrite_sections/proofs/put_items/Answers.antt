@@ -47,14 +47,3 @@ loop-preserved c =
       along_turn l.invariant.0 c.loop-test.true next (omega (arith, next, within)),
       row_put (new_program f) (next_program f) as_is l.to.file c.args.n l.counter l.invariant.1 c.loop-test.true put.out_after place next,
     )
-
-pub shape_of-out : goal.shape_of-out
-shape_of-out c = c.loop.invariant.1.long
-
-pub returns : goal.returns
-returns c =
-    let l = c.loop in
-    let a = c.args in
-    let f = a.file.now in
-    let done = storing_done l.invariant.1 (ap (flat as_is) (rest_done (new_program f) (next_program f) l.to.file a.n l.counter c.loop-test.false)) in
-    record { value = done.0; out_after = done.1 }
