@@ -7,12 +7,13 @@ use native.Mathlib.Omega.{arith}
 use borrow.Author.Tests.{leb-true}
 use lib.ListN.{length, length-append}
 use lib.Seq.{sets, length-sets}
-use Rattle.format.specs.Bytes.{pick, be_at, bytes_of, field_bytes, packed}
+use Rattle.format.specs.Bytes.{IsBytes, pick, be_at, bytes_of, field_bytes, packed}
 use Rattle.format.specs.ClipRecord.{Row}
 use Rattle.format.specs.EntryPoints.{header_widths, map_type_at, map_at, next_map, entries_of, has_maps, map_count, maps_from, entries_from}
 use Rattle.format.specs.Refusals.{every_map}
 use Rattle.format.specs.Rewriting.{runs, body_bytes, bodies, header_bytes, headers, cpi_bytes_by}
 use Rattle.format.proofs.Cpi.{header_length, headers_length}
+use Rattle.format.proofs.Counts.{byte_few}
 use Rattle.format.proofs.Lists.{All}
 use Rattle.format.proofs.Read.{own_length}
 use Rattle.format.proofs.Rows.{rows_all}
@@ -21,7 +22,7 @@ use Rattle.format.proofs.Stores.{part_then}
 use Rattle.ep_rows.proofs.Headers.{counts_small}
 use Rattle.ep_entries.specs.Body.{MapAt, body_of, entries_in}
 use Rattle.ep_entries.specs.declared.body.MapBody.{MapBody}
-use Rattle.ep_entries.proofs.Bodies.{rows_in_lem, own_count, there, Left, left_first, left_map, left_next}
+use Rattle.ep_entries.proofs.Bodies.{rows_in_lem, own_count, Left, left_first, left_map, left_next}
 use Rattle.encode_cpi.specs.Cpi.{few_runs}
 use Rattle.encode_cpi.proofs.Maps.{FewEntries, bodies_most}
 use Rattle.encode_cpi.proofs.Lengths.{top_bytes, top_length, cpi_parts, cpi_size}
@@ -210,26 +211,21 @@ module _ (f : List ℕ) (c count len : ℕ) (o₀ : List ℕ) (at : ℕ) (room :
   cpi_none z p = (omega (arith, none_long z), p ∙ ap (sets o₀ at) (sym (none_bytes (maps_from f c) (entries_from f c) (omega (arith, all_count)))))
 
   module _ (some : count ≡ 0 → ⊥) where
-    -- the byte is there
-    pub byte_in : c + 8 ≤ length f
-    byte_in = omega (arith, (there f c count room.section (omega arith)).headers)
-
-    -- it says how many
-    pub byte_is : {n : ℕ} → n ≡ be_at f (c + 7) 1 → n ≡ count
-    byte_is e = e ∙ sym (count_by f c (λ z. some (room.section.counted ∙ z))) ∙ sym room.section.counted
+    -- their number is a byte
+    pub few : IsBytes f → count ≤ 255
+    few bytes = rw (room.section.counted ∙ count_by f c (λ z. some (room.section.counted ∙ z))) (byte_few f bytes (c + 7))
 
     -- how long the section is
     pub cpi_long : len ≡ 8 + 12 * count + length bodies_of
     cpi_long = room.long ∙ cpi_size (maps_from f c) (entries_from f c) (omega (arith, all_count)) ∙ rw all_count
 
-    module _ (few : count ≤ 255) where
-      -- there is room for the maps
-      pub maps_room : {size : ℕ} → size ≡ length o₀ → MapsRoom f c count size at
-      maps_room e = record { section = room.section; few = few; runs_few = room.runs_few; room = omega (arith, room.room, cpi_long, e) }
+    -- there is room for the maps
+    pub maps_room : {size : ℕ} → IsBytes f → size ≡ length o₀ → MapsRoom f c count size at
+    maps_room bytes e = record { section = room.section; few = few bytes; runs_few = room.runs_few; room = omega (arith, room.room, cpi_long, e) }
 
-      -- the length fits 32 bits
-      pub cpi_small : len < 2 ^ 32
-      cpi_small = omega (arith, cpi_long, bodies_small f c count o₀ at (maps_room refl))
+    -- the length fits 32 bits
+    pub cpi_small : IsBytes f → len < 2 ^ 32
+    cpi_small bytes = omega (arith, cpi_long, bodies_small f c count o₀ at (maps_room bytes refl))
 
     -- the top was stored, and then headers and bodies behind it
     pub cpi_put : {end : ℕ} {o o' : List ℕ} → o ≡ sets o₀ at (field_bytes (4 ∷ 2 ∷ 1 ∷ 1 ∷ []) ((len - 4) ∷ 1 ∷ 0 ∷ count ∷ []))
@@ -241,7 +237,3 @@ module _ (f : List ℕ) (c count len : ℕ) (o₀ : List ℕ) (at : ℕ) (room :
         let top' : o ≡ sets o₀ at (top_bytes count size) = top ∙ rw word in
         let parts = rw all_count at (cpi_parts (maps_from f c) (entries_from f c) (omega (arith, all_count))) in
         (omega (arith, e, cpi_long), part_then o₀ at 8 (top_bytes count size) (headers_of ++ bodies_of) (top_length count size) refl top' p ∙ ap (sets o₀ at) (sym parts))
-
--- the same of a number that was read
-pub room_by : (f : List ℕ) (c count len size at : ℕ) {n : ℕ} → n ≡ count → CpiRoom f c count len size at → CpiRoom f c n len size at
-room_by f c count len size at e room = rw e room

@@ -15,7 +15,7 @@ use ep_rows::MapHeader;
 use map_rows::put_header;
 use map_runs::body::put_body;
 use map_runs::walked::count_runs;
-use numbers::{put_u32, u8_at, u16_at};
+use numbers::{put_u32, u16_at};
 use refusals::Refusal;
 use rewrite_program::Places;
 
@@ -78,7 +78,7 @@ fn put_maps(file: &[u8], count: usize, from: Places, out: &mut [u8]) -> usize
     body
 }
 
-// The new section of the one with `count` maps, `len` bytes long, at its place: without maps a length of 0 alone. With maps their number is read once more, since it is a byte. Answers the place behind the section.
+// The new section of the one with `count` maps, `len` bytes long, at its place: without maps a length of 0 alone. Answers the place behind the section.
 pub fn put_cpi(file: &[u8], from: Places, count: usize, len: usize, out: &mut [u8]) -> usize
     requires { CpiRoom file.now from.file count len (length out.old) from.out }
     ensures value { result ≡ from.out + len }
@@ -88,7 +88,6 @@ pub fn put_cpi(file: &[u8], from: Places, count: usize, len: usize, out: &mut [u
         put_u32(out, from.out, 0);
         return from.out + 4;
     }
-    let n = u8_at(file, from.file + 7);
-    put_top((len - 4) as u32, n, out, from.out);
-    put_maps(file, n as usize, from, out)
+    put_top((len - 4) as u32, count as u32, out, from.out);
+    put_maps(file, count, from, out)
 }

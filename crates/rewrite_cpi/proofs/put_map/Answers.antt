@@ -1,13 +1,11 @@
 -- The body's runs go into the header.
-use Prim.Native.Nat.{ℕ, ◌+◌, ◌*◌, ◌-◌, ◌^◌, ◌<◌, ◌≤◌}
+use Prim.Native.Nat.{ℕ, ◌+◌, ◌*◌, ◌-◌}
 use mathlib.Core.Path.{◌≡◌}
-use native.Mathlib.Omega.{arith}
 use lib.ListN.{length}
 use Rattle.format.specs.Rewriting.{body_bytes}
 use Rattle.format.specs.EntryPoints.{entries_of}
 use Rattle.ep_entries.specs.declared.body.MapBody.{MapBody}
-use Rattle.rewrite_cpi.proofs.Lengths.{own_runs}
-use Rattle.rewrite_cpi.proofs.Sections.{body_room, kind_fits, count_fits, place_is, map_put}
+use Rattle.rewrite_cpi.proofs.Sections.{place_is, map_put}
 use Rattle.rewrite_cpi.proofs.put_map.Goals as goal
 
 pub returns : goal.returns

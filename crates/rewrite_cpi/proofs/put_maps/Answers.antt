@@ -1,5 +1,4 @@
 -- Each turn stores a map's body and header; what is left goes behind them.
-use native.Mathlib.Omega.{arith}
 use Rattle.rewrite_cpi.proofs.Sections.{putting_first, putting_room, putting_turn, putting_done}
 use Rattle.rewrite_cpi.proofs.put_maps.Goals as goal
 
