@@ -11,16 +11,14 @@ use cells::cell_at;
 use encode_map::put_map;
 use entry_rows::SIZE;
 use entry_runs::count_runs;
+use map_rows::MAP;
 use numbers::{put_u8, put_u16, put_u32};
 use refusals::Refusal;
 use runs::Entries;
 use table_rows::Table;
 
-// The bytes of a map in its table; its header has as many in the file.
-const MAP: usize = 12;
-
 // The most coarse rows that a map can count.
-const MOST_RUNS: usize = 65535;
+pub const MOST_RUNS: usize = 65535;
 
 // The length of the section of these maps and entries, in the walk that tests whether every entry fits. An entry that does not is refused also behind a map with more runs than it can count.
 pub fn cpi_length(maps: Table, entries: Table) -> Result<usize, Refusal>

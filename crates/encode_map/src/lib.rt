@@ -12,12 +12,9 @@ ghost use Rattle.encode_map.specs.Bodies.{own_by, CoarseRoom, RowsRoom, BodyRoom
 use cells::cell_at;
 use entry_rows::{EntryRow, SIZE};
 use ep_rows::MapHeader;
-use map_rows::{put_coarse_row, put_fine_row, put_header};
+use map_rows::{MAP, put_coarse_row, put_fine_row, put_header};
 use numbers::put_u32;
 use runs::{Entries, same_run};
-
-// The bytes of a map in its table; its header has as many in the file.
-const MAP: usize = 12;
 
 // The coarse row of entry k right below `to`; none where the entry is in the run of the entry before it. Answers the place of the row, or `to`.
 fn put_coarse(k: usize, before: EntryRow, entry: EntryRow, out: &mut [u8], to: usize) -> usize
