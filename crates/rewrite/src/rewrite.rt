@@ -52,7 +52,13 @@ fn put_sections(file: &[u8], plan: Plan, out: &mut [u8])
     );
     put_sequences(file, sequences, plan.atcs, plan.stcs, out);
     put_programs(file, programs, plan.places.cpi - plan.places.programs, out);
-    put_cpi(file, cpi, plan.maps, plan.places.marks - plan.places.cpi, out);
+    put_cpi(
+        file,
+        cpi,
+        plan.maps,
+        plan.places.marks - plan.places.cpi,
+        out,
+    );
     put_marks(out, plan.places.marks);
 }
 
