@@ -18,7 +18,7 @@ use Rattle.format.proofs.Tests.{both_assoc, picked, not_picked}
 use Rattle.cells.specs.Reads.{CellIs}
 use Rattle.table_rows.proofs.Scans.{left_all, left_done}
 use Rattle.format.proofs.Cell.{row_cell}
-use Rattle.runs.specs.Runs.{entries_at}
+use Rattle.entry_rows.specs.Entries.{entries_at}
 use Rattle.entry_runs.specs.Fitting.{count_fit}
 use Rattle.entry_runs.proofs.Choices.{runs_told, unfit_told}
 use Rattle.encode_map.proofs.Bodies.{body_size, runs_within}

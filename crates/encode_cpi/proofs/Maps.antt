@@ -19,7 +19,7 @@ use Rattle.format.proofs.Tests.{both_true}
 use Rattle.cells.specs.Reads.{CellIs}
 use Rattle.table_rows.proofs.Scans.{rows_left, left_all, left_turn}
 use Rattle.format.proofs.Cell.{row_cell, rows_room}
-use Rattle.runs.specs.Runs.{entries_at}
+use Rattle.entry_rows.specs.Entries.{entries_at}
 use Rattle.encode_cpi.specs.Cpi.{BothThere, Counted, few_runs, map_rows_of, entry_rows_of}
 
 -- ---- one map

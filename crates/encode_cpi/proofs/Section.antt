@@ -20,7 +20,7 @@ use Rattle.format.proofs.Stores.{sets_append, part_then, field_then, field_last}
 use Rattle.format.proofs.Tests.{both_true}
 use Rattle.cells.specs.Reads.{CellIs}
 use Rattle.table_rows.proofs.Scans.{left_all, left_done}
-use Rattle.runs.specs.Runs.{entries_at}
+use Rattle.entry_rows.specs.Entries.{entries_at}
 use Rattle.map_rows.proofs.Puts.{sets_before, put_below}
 use Rattle.encode_map.specs.Bodies.{MapRoom}
 use Rattle.encode_cpi.specs.Cpi.{Writable, MapsRoom, CpiRoom, few_runs, entries_fit, map_rows_of, entry_rows_of}
@@ -185,7 +185,6 @@ module _ (maps : List ℕ) (n : ℕ) (entries : List ℕ) (m : ℕ) (o₀ : List
       kind_fits = (row_fits maps n entries m (j - c) k back.1.walk h).kind_fits;
       runs_fit_lem = omega (arith, leb-true (runs (entries_at entries (entry_size * (j - c)) c)) 65535 (here maps n entries m (j - c) k back.1 h cell few_runs back.1.runs_few).0);
       body_room = record {
-        there = own_there;
         few = count_few maps n entries m (j - c) k back.1.walk h cell;
         fit = record { type = map_type_of (map_row maps n entries m k); fit = (here maps n entries m (j - c) k back.1 h cell entries_fit back.1.entries_fit_lem).0 };
         below = omega (arith, parts, back.1.short, i.place, room.long);

@@ -10,17 +10,15 @@ ghost use Rattle.encode_cpi.specs.Cpi.{BothThere, Counted, map_rows_of, entry_ro
 use cells::cell_at;
 use encode_map::put_map;
 use entry_rows::SIZE;
+use entry_rows::entries::MapEntries;
 use entry_runs::count_runs;
+use map_rows::MAP;
 use numbers::{put_u8, put_u16, put_u32};
 use refusals::Refusal;
-use runs::Entries;
 use table_rows::Table;
 
-// The bytes of a map in its table; its header has as many in the file.
-const MAP: usize = 12;
-
 // The most coarse rows that a map can count.
-const MOST_RUNS: usize = 65535;
+pub const MOST_RUNS: usize = 65535;
 
 // The length of the section of these maps and entries, in the walk that tests whether every entry fits. An entry that does not is refused also behind a map with more runs than it can count.
 pub fn cpi_length(maps: Table, entries: Table) -> Result<usize, Refusal>
@@ -36,8 +34,8 @@ pub fn cpi_length(maps: Table, entries: Table) -> Result<usize, Refusal>
     for k in 0..maps.rows as usize {
         let map_type = cell_at(maps.bytes, MAP * k + 4);
         let count = cell_at(maps.bytes, MAP * k + 8) as usize;
-        let own = Entries {
-            table: entries.bytes,
+        let own = MapEntries {
+            bytes: entries.bytes,
             first: SIZE * row,
             count,
         };
@@ -59,8 +57,8 @@ fn put_maps(maps: Table, entries: Table, out: &mut [u8], at: usize, end: usize)
     for k in (0..maps.rows as usize).rev() {
         let count = cell_at(maps.bytes, MAP * k + 8) as usize;
         row -= count;
-        let own = Entries {
-            table: entries.bytes,
+        let own = MapEntries {
+            bytes: entries.bytes,
             first: SIZE * row,
             count,
         };

@@ -23,11 +23,13 @@ use Rattle.format.proofs.Stores.{part_then}
 use Rattle.format.proofs.Rows.{all_rows, rows_length, left_all, left_turn, left_done, flat_length}
 use Rattle.format.proofs.Tests.{both_true}
 use Rattle.cells.specs.Reads.{CellIs}
-use Rattle.runs.specs.Runs.{entries_at, entries_from, begun}
+use Rattle.entry_rows.specs.Entries.{entries_at}
+use Rattle.runs.specs.Runs.{entries_from, begun}
 use Rattle.entry_rows.specs.declared.EntryRow.{EntryRow}
+use Rattle.entry_rows.specs.Reads.{EntryIs}
 use Rattle.format.proofs.Cell.{row_cell, item_at}
 use Rattle.runs.proofs.Runs.{begun_none, begun_first, begun_later, begun_few}
-use Rattle.encode_map.specs.Bodies.{EntriesFit, EntryIs, own_coarse, own_by}
+use Rattle.encode_map.specs.Bodies.{EntriesFit, own_coarse, own_by}
 use Rattle.map_rows.proofs.Puts.{sets_before, put_below}
 
 -- ---- an entry that fits

@@ -1,25 +1,17 @@
 -- What is wanted of a map's entries and of the output before the map's rows are stored.
 use Rattle.std.specs.Prelude.{ℕ, ◌+◌, ◌*◌, ◌-◌, ◌^◌, ◌<◌, ◌≤◌, ◌≡◌, List, [], true, length}
 use Rattle.format.specs.Bytes.{every}
-use Rattle.format.specs.ClipRecord.{Row, map_type_of, angle, i_end_of, packet, entry_size}
+use Rattle.format.specs.ClipRecord.{Row, map_type_of}
 use Rattle.format.specs.Refusals.{entry_fits}
 use Rattle.format.specs.Rewriting.{same_run, unless_same, coarse_row, runs, body_bytes, same_keys, coarse_by}
 use Rattle.format.specs.Tables.{cells_at, map_cells}
 use Rattle.entry_rows.specs.declared.EntryRow.{EntryRow}
-use Rattle.entry_rows.specs.Reads.{EntryHas, TimeIs}
-use Rattle.runs.specs.Runs.{entries_at}
+use Rattle.entry_rows.specs.Entries.{entries_at}
 
 -- entries of one type, each of which fits
 pub record EntriesFit (es : List Row) : Type 0 where
   pub type : ℕ
   pub fit : every (entry_fits type) es ≡ true
-
--- the entry at byte q by its numbers
-pub record EntryIs (t : List ℕ) (q : ℕ) (e : EntryRow) : Type 0 where
-  pub angle_is : EntryHas angle 32 t q e.angle
-  pub end_is : EntryHas i_end_of 32 t q e.i_end
-  pub time_is : TimeIs t q e.time
-  pub packet_is : EntryHas packet 32 t q e.packet
 
 -- the coarse row of entry k; none where it is in the run of the entry before it
 abbrev pub own_coarse : ℕ → Row → Row → List Row
@@ -38,7 +30,6 @@ pub record CoarseRoom (k : ℕ) (before e : EntryRow) (size to : ℕ) : Type 0 w
 
 -- n entries at byte p, of which the fine rows have room from `fine` and the coarse rows below
 pub record RowsRoom (t : List ℕ) (p n size fine : ℕ) : Type 0 where
-  pub there : p + entry_size * n ≤ length t
   pub few : n ≤ 262143
   pub fit : EntriesFit (entries_at t p n)
   pub below : 8 * runs (entries_at t p n) ≤ fine
@@ -46,7 +37,6 @@ pub record RowsRoom (t : List ℕ) (p n size fine : ℕ) : Type 0 where
 
 -- the same of the body, which ends at `end`
 pub record BodyRoom (t : List ℕ) (p n size end : ℕ) : Type 0 where
-  pub there : p + entry_size * n ≤ length t
   pub few : n ≤ 262143
   pub fit : EntriesFit (entries_at t p n)
   pub below : length (body_bytes (entries_at t p n)) ≤ end

@@ -6,18 +6,16 @@ ghost use Rattle.std.proofs.lemmas.List.Edits.{sets};
 ghost use Rattle.format.specs.Bytes.{flat};
 ghost use Rattle.format.specs.Rewriting.{coarse_rows, runs, coarse_bytes, fine_bytes, body_bytes, header_bytes};
 ghost use Rattle.format.specs.Tables.{cells_at, map_cells};
-ghost use Rattle.runs.specs.Runs.{entries_at};
+ghost use Rattle.entry_rows.specs.Entries.{rows_in};
 ghost use Rattle.encode_map.specs.Bodies.{own_by, CoarseRoom, RowsRoom, BodyRoom, MapRoom};
 
 use cells::cell_at;
-use entry_rows::{EntryRow, SIZE};
+use entry_rows::EntryRow;
+use entry_rows::entries::MapEntries;
 use ep_rows::MapHeader;
-use map_rows::{put_coarse_row, put_fine_row, put_header};
+use map_rows::{MAP, put_coarse_row, put_fine_row, put_header};
 use numbers::put_u32;
-use runs::{Entries, same_run};
-
-// The bytes of a map in its table; its header has as many in the file.
-const MAP: usize = 12;
+use runs::same_run;
 
 // The coarse row of entry k right below `to`; none where the entry is in the run of the entry before it. Answers the place of the row, or `to`.
 fn put_coarse(k: usize, before: EntryRow, entry: EntryRow, out: &mut [u8], to: usize) -> usize
@@ -33,19 +31,19 @@ fn put_coarse(k: usize, before: EntryRow, entry: EntryRow, out: &mut [u8], to: u
 }
 
 // The coarse and the fine rows of a map's entries, the fine rows from `fine` and the coarse rows below them. One walk from the last entry to the first: how many coarse rows there are is known at its end. Answers where the coarse rows start.
-fn put_rows(entries: Entries, out: &mut [u8], fine: usize) -> usize
-    requires { RowsRoom entries.table.now entries.first entries.count (length out.old) fine }
-    ensures n_value { result + 8 * runs (entries_at entries.entry.table.now entries.entry.first entries.entry.count) ≡ fine }
-    ensures out_after { out.new ≡ sets out.old result (flat coarse_bytes (coarse_rows (entries_at entries.entry.table.now entries.entry.first entries.entry.count)) ++ flat fine_bytes (entries_at entries.entry.table.now entries.entry.first entries.entry.count)) }
+fn put_rows(entries: MapEntries, out: &mut [u8], fine: usize) -> usize
+    requires { RowsRoom entries.bytes.now entries.first entries.count (length out.old) fine }
+    ensures n_value { result + 8 * runs (rows_in entries.entry) ≡ fine }
+    ensures out_after { out.new ≡ sets out.old result (flat coarse_bytes (coarse_rows (rows_in entries.entry)) ++ flat fine_bytes (rows_in entries.entry)) }
 {
     let n = entries.count;
     if n == 0 {
         return fine;
     }
     let mut to = fine;
-    let mut entry = EntryRow::at(entries.table, entries.first + SIZE * (n - 1));
+    let mut entry = entries.entry(n - 1);
     for k in (1..n).rev() {
-        let before = EntryRow::at(entries.table, entries.first + SIZE * (k - 1));
+        let before = entries.entry(k - 1);
         put_fine_row(entry, out, fine + 4 * k);
         to = put_coarse(k, before, entry, out, to);
         entry = before;
@@ -56,10 +54,10 @@ fn put_rows(entries: Entries, out: &mut [u8], fine: usize) -> usize
 }
 
 // The body of a map's entries, which ends at `end`. Answers where it starts.
-fn put_body(entries: Entries, out: &mut [u8], end: usize) -> usize
-    requires { BodyRoom entries.table.now entries.first entries.count (length out.old) end }
-    ensures n_value { result + length (body_bytes (entries_at entries.entry.table.now entries.entry.first entries.entry.count)) ≡ end }
-    ensures out_after { out.new ≡ sets out.old result (body_bytes (entries_at entries.entry.table.now entries.entry.first entries.entry.count)) }
+fn put_body(entries: MapEntries, out: &mut [u8], end: usize) -> usize
+    requires { BodyRoom entries.bytes.now entries.first entries.count (length out.old) end }
+    ensures n_value { result + length (body_bytes (rows_in entries.entry)) ≡ end }
+    ensures out_after { out.new ≡ sets out.old result (body_bytes (rows_in entries.entry)) }
 {
     let fine = end - 4 * entries.count;
     let coarse = put_rows(entries, out, fine);
@@ -71,14 +69,14 @@ fn put_body(entries: Entries, out: &mut [u8], end: usize) -> usize
 pub fn put_map(
     maps: &[u8],
     k: usize,
-    entries: Entries,
+    entries: MapEntries,
     out: &mut [u8],
     at: usize,
     end: usize,
 ) -> usize
-    requires { MapRoom maps.now k entries.table.now entries.first entries.count (length out.old) at end }
-    ensures n_value { result + length (body_bytes (entries_at entries.entry.table.now entries.entry.first entries.entry.count)) ≡ end }
-    ensures out_after { out.new ≡ sets (sets out.old result (body_bytes (entries_at entries.entry.table.now entries.entry.first entries.entry.count))) (at + 8 + 12 * k) (header_bytes (cells_at maps.now map_cells (12 * k)) (entries_at entries.entry.table.now entries.entry.first entries.entry.count) (result - (at + 6))) }
+    requires { MapRoom maps.now k entries.bytes.now entries.first entries.count (length out.old) at end }
+    ensures n_value { result + length (body_bytes (rows_in entries.entry)) ≡ end }
+    ensures out_after { out.new ≡ sets (sets out.old result (body_bytes (rows_in entries.entry))) (at + 8 + 12 * k) (header_bytes (cells_at maps.now map_cells (12 * k)) (rows_in entries.entry) (result - (at + 6))) }
 {
     let row = MAP * k;
     let pid = cell_at(maps, row);

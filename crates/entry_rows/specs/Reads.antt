@@ -21,6 +21,14 @@ pub record TimeIs (t : List ℕ) (q r : ℕ) : Type 0 where
 abbrev pub row_of : EntryRow → Row
 row_of e = entry_row e.angle e.i_end e.time e.packet e.entry_type
 
+-- the entry at byte q by its numbers
+pub record EntryIs (t : List ℕ) (q : ℕ) (e : EntryRow) : Type 0 where
+  pub angle_is : EntryHas angle 32 t q e.angle
+  pub end_is : EntryHas i_end_of 32 t q e.i_end
+  pub time_is : TimeIs t q e.time
+  pub packet_is : EntryHas packet 32 t q e.packet
+  pub type_is : EntryHas entry_type_of 32 t q e.entry_type
+
 -- its three words have two numbers in the halves of the first and of the last
 abbrev pub words_angle : Words → ℕ
 words_angle w = w.front % 4294967296

@@ -1,11 +1,13 @@
 // The row of an entry in its table: its size, where each of its numbers stands, and a row stored. Nothing else knows these places.
 #![tactic(auto)]
 
+pub mod entries;
+
 ghost use Rattle.std.specs.Prelude.{◌≡◌, ◌+◌, ◌*◌, ◌%◌, ◌≤◌, length};
 ghost use Rattle.std.proofs.lemmas.List.Edits.{sets};
-ghost use Rattle.format.specs.ClipRecord.{angle, i_end_of, packet, entry_type_of, entry_size};
+ghost use Rattle.format.specs.ClipRecord.{entry_size};
 ghost use Rattle.format.specs.Tables.{row_bytes_of};
-ghost use Rattle.entry_rows.specs.Reads.{EntryHas, TimeIs, WordsAre, row_of};
+ghost use Rattle.entry_rows.specs.Reads.{EntryIs, WordsAre, row_of};
 
 use cells::{cell_at, put_row};
 
@@ -36,11 +38,7 @@ impl EntryRow {
     // Those of the row at byte q. Of what the caller leaves alone nothing is loaded; the time is one load of eight bytes.
     pub fn at(t: &[u8], q: usize) -> EntryRow
         requires { q + entry_size ≤ length t.now }
-        ensures angle_is { EntryHas angle 32 t.now q result.angle }
-        ensures end_is { EntryHas i_end_of 32 t.now q result.i_end }
-        ensures time_is { TimeIs t.now q result.time }
-        ensures packet_is { EntryHas packet 32 t.now q result.packet }
-        ensures type_is { EntryHas entry_type_of 32 t.now q result.entry_type }
+        ensures { EntryIs t.now q result }
     {
         EntryRow {
             angle: cell_at(t, q),

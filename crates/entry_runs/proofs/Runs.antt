@@ -17,7 +17,8 @@ use Rattle.format.proofs.Rows.{rows_length, drop_rows, left_all, left_turn, left
 use Rattle.format.proofs.Tests.{both_true, true_both, left_fails, picked, not_picked}
 use Rattle.entry_rows.specs.declared.Words.{Words}
 use Rattle.entry_rows.specs.Reads.{WordsAre}
-use Rattle.runs.specs.Runs.{entries_at, entries_from, run_end, end_from, coarse_from}
+use Rattle.entry_rows.specs.Entries.{entries_at}
+use Rattle.runs.specs.Runs.{entries_from, run_end, end_from, coarse_from}
 use Rattle.runs.proofs.Runs.{run_ends, after_run, coarse_all}
 use Rattle.entry_runs.specs.Fitting.{fit_until, end_fit, count_fit, goes_on}
 use Rattle.entry_runs.proofs.Choices.{every_parts}

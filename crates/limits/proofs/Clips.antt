@@ -12,6 +12,7 @@ use Rattle.format.specs.Tables.{ClipTables, is_stated, add_up, rows_of, clip_in,
 use Rattle.table_rows.specs.OwnRows.{is_counted}
 use Rattle.row_limits.specs.Kinds.{table_cells, fits_by}
 use Rattle.row_limits.specs.declared.TableKind.{TableKind}
+use Rattle.row_values.specs.declared.RowKind.{RowKind}
 use Rattle.limits.specs.Clips.{entries_fit, heads_fit, groups_fit, tables_fit}
 use Rattle.format.proofs.Tables.{rows_stated}
 use Rattle.format.proofs.Tests.{both_true, both_assoc}
@@ -41,10 +42,10 @@ fields_and_entries l = simp both_assoc
 module _ (l : ClipTables) where
   -- the sequences, the programs, the maps, and all of them
   abbrev pub sequences_of : Bool
-  sequences_of = groups_fit TableKind.Atc TableKind.Stc (rows_of atc_cells l.atcs) (rows_of stc_cells l.stcs)
+  sequences_of = groups_fit (TableKind.Info RowKind.Atc) (TableKind.Info RowKind.Stc) (rows_of atc_cells l.atcs) (rows_of stc_cells l.stcs)
 
   abbrev pub programs_of : Bool
-  programs_of = groups_fit TableKind.Program TableKind.Stream (rows_of program_cells l.programs) (rows_of stream_cells l.streams)
+  programs_of = groups_fit (TableKind.Info RowKind.Program) (TableKind.Info RowKind.Stream) (rows_of program_cells l.programs) (rows_of stream_cells l.streams)
 
   abbrev pub maps_of : Bool
   maps_of = heads_fit TableKind.Map (rows_of map_cells l.maps)

@@ -6,6 +6,7 @@ use Rattle.format.specs.Refusals.{entry_fits, every_map}
 use Rattle.format.specs.Tables.{ClipTables, rows_of, atc_cells, stc_cells, program_cells, stream_cells, map_cells}
 use Rattle.row_limits.specs.Kinds.{fits_by}
 use Rattle.row_limits.specs.declared.TableKind.{TableKind}
+use Rattle.row_values.specs.declared.RowKind.{RowKind}
 
 -- the entries of each map fit, each of its map's type
 abbrev pub entries_fit : List Row → List Row → Bool
@@ -22,5 +23,5 @@ groups_fit head row heads rows = both (heads_fit head heads) (every (fits_by row
 -- all tables but that of the entries: at most 255 maps, and each fits
 unfoldable pub tables_fit : ClipTables → Bool
 tables_fit l =
-    both (groups_fit TableKind.Atc TableKind.Stc (rows_of atc_cells l.atcs) (rows_of stc_cells l.stcs))
-    (both (groups_fit TableKind.Program TableKind.Stream (rows_of program_cells l.programs) (rows_of stream_cells l.streams)) (heads_fit TableKind.Map (rows_of map_cells l.maps)))
+    both (groups_fit (TableKind.Info RowKind.Atc) (TableKind.Info RowKind.Stc) (rows_of atc_cells l.atcs) (rows_of stc_cells l.stcs))
+    (both (groups_fit (TableKind.Info RowKind.Program) (TableKind.Info RowKind.Stream) (rows_of program_cells l.programs) (rows_of stream_cells l.streams)) (heads_fit TableKind.Map (rows_of map_cells l.maps)))

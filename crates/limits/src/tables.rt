@@ -1,14 +1,13 @@
 // Whether the tables of a record but that of the entries fit: at most 255 ATCs, programs and maps, and every row.
-ghost use Rattle.std.specs.Prelude.{◌≡◌, ◌≤◌};
-ghost use Rattle.format.specs.Bytes.{every};
-ghost use Rattle.format.specs.Tables.{table_rows_of, row_room};
+ghost use Rattle.std.specs.Prelude.{◌≡◌};
 ghost use Rattle.queries.specs.Asked.{no_scalars};
-ghost use Rattle.row_limits.specs.Kinds.{table_cells, fits_by};
 ghost use Rattle.limits.specs.Clips.{heads_fit, groups_fit, tables_fit};
+ghost use Rattle.limits.specs.Rows.{rows_of_kind};
 ghost use Rattle.limits.specs.Stated.{stated_tables, TablesThere};
 
-use crate::rows::rows_fit;
+use crate::rows::KindRows;
 use row_limits::TableKind;
+use row_values::RowKind;
 use table_rows::Table;
 
 // The most ATCs, programs or maps.
@@ -25,28 +24,18 @@ pub struct ClipTables<'a> {
     pub entries: Table<'a>,
 }
 
-// Whether every row of a table fits.
-fn table_fits(table: Table, kind: TableKind) -> bool
-    requires { table.rows ≤ row_room (table_cells kind) table.bytes.now }
-    ensures { result ≡ every (fits_by kind) (table_rows_of (table_cells kind) table.entry.bytes.now table.entry.rows) }
-{
-    rows_fit(table.bytes, 0, table.rows as usize, kind)
-}
-
 // Whether rows with a count are few enough, and every one fits.
-fn heads_fit(heads: Table, kind: TableKind) -> bool
-    requires { heads.rows ≤ row_room (table_cells kind) heads.bytes.now }
-    ensures { result ≡ heads_fit kind (table_rows_of (table_cells kind) heads.entry.bytes.now heads.entry.rows) }
+fn heads_fit(heads: KindRows) -> bool
+    ensures { result ≡ heads_fit heads.entry.kind (rows_of_kind heads.entry) }
 {
-    heads.rows <= MOST && table_fits(heads, kind)
+    heads.table.rows <= MOST && heads.fit()
 }
 
 // Whether rows with a count fit, and the rows that they count.
-fn groups_fit(heads: Table, head: TableKind, rows: Table, row: TableKind) -> bool
-    requires { (heads.rows ≤ row_room (table_cells head) heads.bytes.now) × (rows.rows ≤ row_room (table_cells row) rows.bytes.now) }
-    ensures { result ≡ groups_fit head row (table_rows_of (table_cells head) heads.entry.bytes.now heads.entry.rows) (table_rows_of (table_cells row) rows.entry.bytes.now rows.entry.rows) }
+fn groups_fit(heads: KindRows, rows: KindRows) -> bool
+    ensures { result ≡ groups_fit heads.entry.kind rows.entry.kind (rows_of_kind heads.entry) (rows_of_kind rows.entry) }
 {
-    heads_fit(heads, head) && table_fits(rows, row)
+    heads_fit(heads) && rows.fit()
 }
 
 // Whether every table but that of the entries fits, else 30. That the rows are there is tested before; the entries are tested in the walk that counts their runs.
@@ -55,12 +44,25 @@ pub fn cells_fit(tables: ClipTables) -> bool
     requires { TablesThere tables }
     ensures { result ≡ tables_fit (stated_tables no_scalars tables.entry) }
 {
-    groups_fit(tables.atcs, TableKind::Atc, tables.stcs, TableKind::Stc)
-        && groups_fit(
-            tables.programs,
-            TableKind::Program,
-            tables.streams,
-            TableKind::Stream,
-        )
-        && heads_fit(tables.maps, TableKind::Map)
+    let atcs = KindRows {
+        kind: TableKind::Info(RowKind::Atc),
+        table: tables.atcs,
+    };
+    let stcs = KindRows {
+        kind: TableKind::Info(RowKind::Stc),
+        table: tables.stcs,
+    };
+    let programs = KindRows {
+        kind: TableKind::Info(RowKind::Program),
+        table: tables.programs,
+    };
+    let streams = KindRows {
+        kind: TableKind::Info(RowKind::Stream),
+        table: tables.streams,
+    };
+    let maps = KindRows {
+        kind: TableKind::Map,
+        table: tables.maps,
+    };
+    groups_fit(atcs, stcs) && groups_fit(programs, streams) && heads_fit(maps)
 }

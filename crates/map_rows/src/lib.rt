@@ -14,6 +14,9 @@ use ep_rows::{
 };
 use numbers::{put_u16, put_u32, put_u64};
 
+// The bytes of a map's header; its row in the table of maps has as many.
+pub const MAP: usize = 12;
+
 // Stores the six lowest bytes of v from `at`: the one place that stores six.
 fn put_u48(out: &mut [u8], at: usize, v: u64)
     requires { at + 6 ≤ length out.old }

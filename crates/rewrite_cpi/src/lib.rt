@@ -9,21 +9,15 @@ ghost use Rattle.encode_cpi.specs.Cpi.{cpi_length_of};
 ghost use Rattle.ep_entries.specs.Body.{CpiSection};
 ghost use Rattle.rewrite_cpi.specs.Cpi.{MapRoom, MapsRoom, CpiRoom};
 
-use encode_cpi::put_top;
+use encode_cpi::{MOST_RUNS, put_top};
 use ep_entries::body::map_body;
 use ep_rows::MapHeader;
-use map_rows::put_header;
+use map_rows::{MAP, put_header};
 use map_runs::body::put_body;
 use map_runs::walked::count_runs;
 use numbers::{put_u32, u16_at};
 use refusals::Refusal;
 use rewrite_program::Places;
-
-// The bytes of a map's header.
-const MAP: usize = 12;
-
-// The most coarse rows that a map can count, told here too: the edit too_many_runs_by_one changes it for this crate alone.
-const MOST_RUNS: usize = 65535;
 
 // The length of the new section of a file whose section starts at `start` and has `count` maps.
 pub fn cpi_length(file: &[u8], start: usize, count: usize) -> Result<usize, Refusal>

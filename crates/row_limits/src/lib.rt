@@ -11,15 +11,13 @@ ghost use Rattle.row_limits.specs.Kinds.{table_cells, fits_by};
 
 use cells::cell_at;
 use entry_rows::{EntryRow, SIZE};
+use row_values::{RowKind, cells_of};
 use stream_coding::is_video;
 
-// Which table a row is of; an entry with the type of its map. A value and no type: one walk tests rows of any kind.
+// Which table a row is of: one of the sequences and programs, whose rows are also taken by value, that of the maps, or that of the entries; an entry with the type of its map. A value and no type: one walk tests rows of any kind.
 #[derive(Clone, Copy, Debug, PartialEq, Eq)]
 pub enum TableKind {
-    Atc,
-    Stc,
-    Program,
-    Stream,
+    Info(RowKind),
     Map,
     Entry(u32),
 }
@@ -29,10 +27,7 @@ pub fn row_bytes(kind: TableKind) -> usize
     ensures { result ≡ 4 * table_cells kind }
 {
     match kind {
-        TableKind::Atc => 12,
-        TableKind::Stc => 16,
-        TableKind::Program => 12,
-        TableKind::Stream => 20,
+        TableKind::Info(kind) => 4 * cells_of(kind),
         TableKind::Map => 12,
         TableKind::Entry(_) => SIZE,
     }
@@ -120,10 +115,10 @@ pub fn row_fits(t: &[u8], p: usize, kind: TableKind) -> bool
     ensures { result ≡ fits_by kind (cells_at t.now (table_cells kind) p) }
 {
     match kind {
-        TableKind::Atc => atc_fits(t, p),
-        TableKind::Stc => stc_fits(t, p),
-        TableKind::Program => program_fits(t, p),
-        TableKind::Stream => stream_fits(t, p),
+        TableKind::Info(RowKind::Atc) => atc_fits(t, p),
+        TableKind::Info(RowKind::Stc) => stc_fits(t, p),
+        TableKind::Info(RowKind::Program) => program_fits(t, p),
+        TableKind::Info(RowKind::Stream) => stream_fits(t, p),
         TableKind::Map => map_fits(t, p),
         TableKind::Entry(map_type) => entry_fits(map_type, EntryRow::at(t, p)),
     }

@@ -6,14 +6,6 @@ ghost use Rattle.format.specs.Rewriting.{time_key, packet_key, same_keys};
 
 use entry_rows::EntryRow;
 
-// The entries of one map: so many rows of a table, from a byte of it on.
-#[derive(Clone, Copy)]
-pub struct Entries<'a> {
-    pub table: &'a [u8],
-    pub first: usize,
-    pub count: usize,
-}
-
 // Whether two entries have equal keys: a test for each key, which is quicker where both entries change from turn to turn.
 pub fn same_run(a: EntryRow, b: EntryRow) -> bool
     ensures { result ≡ same_keys a.time a.packet b.time b.packet }

@@ -59,8 +59,8 @@ cell_at-count-requires c = omega (arith, row_there (goal.at.cell_at-count-requir
 pub overflow_mul-own : goal.overflow_mul-own
 overflow_mul-own c = omega (arith, entries_there (goal.at.overflow_mul-own c).After-cell_at-count)
 
-pub count_runs-requires : goal.count_runs-requires
-count_runs-requires c = entries_there (goal.at.count_runs-requires c).After-cell_at-count
+pub invariant_of-own : goal.invariant_of-own
+invariant_of-own c = record { inside = entries_there (goal.at.invariant_of-own c).After-cell_at-count }
 
 pub overflow_add-row : goal.overflow_add-row
 overflow_add-row c = omega (arith, entries_there (goal.at.overflow_add-row c).After-cell_at-count)

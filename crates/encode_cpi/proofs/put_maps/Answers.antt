@@ -48,6 +48,13 @@ overflow_mul-own c =
     let p = (goal.at.overflow_mul-own c).In-loop-k in
     omega (arith, own_there a.maps.bytes.now a.maps.rows a.entries.bytes.now a.entries.rows a.out.now a.at a.end c.requires l.out l.body l.row (l.k - 1) (stored p) (less p) c.cell_at-count.ensures)
 
+pub invariant_of-own : goal.invariant_of-own
+invariant_of-own c =
+    let a = c.args in
+    let l = c.loop-k in
+    let p = (goal.at.invariant_of-own c).In-loop-k in
+    record { inside = own_there a.maps.bytes.now a.maps.rows a.entries.bytes.now a.entries.rows a.out.now a.at a.end c.requires l.out l.body l.row (l.k - 1) (stored p) (less p) c.cell_at-count.ensures }
+
 pub put_map-body-requires : goal.put_map-body-requires
 put_map-body-requires c =
     let a = c.args in

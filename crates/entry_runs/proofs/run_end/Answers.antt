@@ -7,33 +7,33 @@ use Rattle.entry_runs.proofs.run_end.Goals.{After-goes_on}
 pub returns-then-not-row_fits : goal.returns-then-not-row_fits
 returns-then-not-row_fits c =
     let a = c.args in
-    first_unfit a.entries.table.now a.entries.first a.entries.count a.map_type a.from c.requires.1 c.row_fits.ensures c.if-not-row_fits.true
+    first_unfit a.entries.bytes.now a.entries.first a.entries.count a.map_type a.from c.requires c.row_fits.ensures c.if-not-row_fits.true
 
 pub loop-k-init : goal.loop-k-init
 loop-k-init c =
     let a = c.args in
-    first_fit a.entries.table.now a.entries.first a.entries.count a.map_type a.from c.requires.1 c.row_fits.ensures c.if-not-row_fits.false
+    first_fit a.entries.bytes.now a.entries.first a.entries.count a.map_type a.from c.requires c.row_fits.ensures c.if-not-row_fits.false
 
 pub goes_on-requires : goal.goes_on-requires
 goes_on-requires c =
     let a = c.args in
-    words_fit a.entries.table.now _ a.map_type c.at-first.ensures c.row_fits.ensures c.if-not-row_fits.false
+    words_fit a.entries.bytes.now _ a.map_type c.words-first.ensures c.row_fits.ensures c.if-not-row_fits.false
 
 -- row k is compared with the first
-compared : (c : After-goes_on) → let a = c.args in Compared a.entries.table.now a.entries.first a.entries.count a.map_type a.from c.loop-k.k c.goes_on.result
+compared : (c : After-goes_on) → let a = c.args in Compared a.entries.bytes.now a.entries.first a.entries.count a.map_type a.from c.loop-k.k c.goes_on.result
 compared c =
     let a = c.args in
-    words_compared a.entries.table.now a.entries.first a.entries.count a.map_type a.from c.loop-k.k c.loop-k.invariant c.loop-k-test.true c.at-first.ensures c.at.ensures c.row_fits.ensures c.if-not-row_fits.false c.goes_on.ensures
+    words_compared a.entries.bytes.now a.entries.first a.entries.count a.map_type a.from c.loop-k.k c.loop-k.invariant c.loop-k-test.true c.words-first.ensures c.words.ensures c.row_fits.ensures c.if-not-row_fits.false c.goes_on.ensures
 
 pub returns-then-not-goes_on : goal.returns-then-not-goes_on
 returns-then-not-goes_on c =
     let a = c.args in
-    along_stopped a.entries.table.now a.entries.first a.entries.count a.map_type a.from c.loop-k.k (compared (goal.at.returns-then-not-goes_on c).After-goes_on) c.if-not-goes_on.true c.stopped.ensures
+    along_stopped a.entries.bytes.now a.entries.first a.entries.count a.map_type a.from c.loop-k.k (compared (goal.at.returns-then-not-goes_on c).After-goes_on) c.if-not-goes_on.true c.stopped.ensures
 
 pub loop-k-preserved : goal.loop-k-preserved
 loop-k-preserved c =
     let a = c.args in
-    along_turn a.entries.table.now a.entries.first a.entries.count a.map_type a.from c.loop-k.k (compared (goal.at.loop-k-preserved c).After-goes_on) c.if-not-goes_on.false
+    along_turn a.entries.bytes.now a.entries.first a.entries.count a.map_type a.from c.loop-k.k (compared (goal.at.loop-k-preserved c).After-goes_on) c.if-not-goes_on.false
 
 pub returns : goal.returns
-returns c = let a = c.args in along_done a.entries.table.now a.entries.first a.entries.count a.map_type a.from c.loop-k.k c.loop-k.invariant c.loop-k-test.false
+returns c = let a = c.args in along_done a.entries.bytes.now a.entries.first a.entries.count a.map_type a.from c.loop-k.k c.loop-k.invariant c.loop-k-test.false

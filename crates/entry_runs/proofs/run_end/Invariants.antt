@@ -3,4 +3,4 @@ use Rattle.entry_runs.proofs.Runs.{Along}
 use Rattle.entry_runs.proofs.run_end.Given as goal
 
 abbrev pub invariant-loop-k : goal.invariant-loop-k
-invariant-loop-k l = Along l.entries.table.now l.entries.first l.entries.count l.map_type l.from l.k
+invariant-loop-k l = Along l.entries.bytes.now l.entries.first l.entries.count l.map_type l.from l.k
