@@ -1,10 +1,9 @@
 // Rows that belong to a row of another table: where they begin, and how many there are.
-ghost use Rattle.std.specs.Prelude.{◌≡◌, ◌≤◌, ◌<◌, Ok, Err};
+ghost use Rattle.std.specs.Prelude.{◌≡◌, ◌<◌, Ok, Err};
 ghost use Rattle.format.specs.Bytes.{pick, total};
-ghost use Rattle.format.specs.ClipRecord.{entry_cells};
 ghost use Rattle.format.specs.Tables.{stated};
 ghost use Rattle.table_rows.specs.AllRows.{rows_in, all_told};
-ghost use Rattle.table_rows.specs.OwnRows.{head_cells, cell_in, is_counted, owned_of, owned_rows};
+ghost use Rattle.table_rows.specs.OwnRows.{head_cells, HasCells, cell_in, is_counted, owned_of, owned_rows};
 
 use crate::Table;
 use crate::rows::Rows;
@@ -37,7 +36,7 @@ pub fn counted<'a, const COUNT: usize, const CELLS: usize>(
     heads: Table<'a>,
     rows: Table,
 ) -> Result<Rows<'a, HEAD>, Refusal>
-    requires { (COUNT < head_cells) × (0 < CELLS) × (CELLS ≤ entry_cells) }
+    requires { HasCells COUNT CELLS }
     ensures { all_told result ≡ pick (is_counted COUNT CELLS (stated heads.entry.bytes.now heads.entry.rows) (stated rows.entry.bytes.now rows.entry.rows)) (Ok (stated heads.entry.bytes.now heads.entry.rows)) (Err Refusal.Rows) }
 {
     let heads = heads.all_rows::<HEAD>()?;
@@ -50,7 +49,7 @@ pub fn counted<'a, const COUNT: usize, const CELLS: usize>(
 
 // Whether the rows are there and the counts of the header rows add up to them.
 pub fn adds_up<const COUNT: usize, const CELLS: usize>(heads: Table, rows: Table) -> bool
-    requires { (COUNT < head_cells) × (0 < CELLS) × (CELLS ≤ entry_cells) }
+    requires { HasCells COUNT CELLS }
     ensures { result ≡ is_counted COUNT CELLS (stated heads.entry.bytes.now heads.entry.rows) (stated rows.entry.bytes.now rows.entry.rows) }
 {
     counted::<COUNT, CELLS>(heads, rows).is_ok()
@@ -62,7 +61,7 @@ pub fn own_rows<const COUNT: usize, const CELLS: usize>(
     rows: Table,
     head: u32,
 ) -> Result<OwnRows, Refusal>
-    requires { (COUNT < head_cells) × (0 < CELLS) × (CELLS ≤ entry_cells) }
+    requires { HasCells COUNT CELLS }
     ensures { owned_of result ≡ owned_rows COUNT CELLS (stated heads.entry.bytes.now heads.entry.rows) (stated rows.entry.bytes.now rows.entry.rows) head }
 {
     let heads = counted::<COUNT, CELLS>(heads, rows)?;
