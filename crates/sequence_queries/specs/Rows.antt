@@ -8,9 +8,9 @@ use Rattle.sequence_queries.specs.declared.Stcs.{Stcs}
 
 -- the rows of the STCs that there are
 abbrev pub stcs_in : Stcs → List Row
-stcs_in s = rows_in s.0
+stcs_in s = rows_in s.rows
 
 -- the table in which they stand, or the refusal
 abbrev pub stcs_told : Result Stcs Refusal → Result Table Refusal
-stcs_told (Ok s) = Ok (stated s.0.bytes.now s.0.count)
+stcs_told (Ok s) = Ok (stated s.rows.bytes.now s.rows.count)
 stcs_told (Err refusal) = Err refusal

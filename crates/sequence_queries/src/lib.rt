@@ -26,7 +26,9 @@ const END: usize = 3;
 
 // The STCs of a table that all are there: a struct of this crate, for its methods.
 #[derive(Clone, Copy)]
-struct Stcs<'a>(Rows<'a, STC>);
+struct Stcs<'a> {
+    rows: Rows<'a, STC>,
+}
 
 impl<'a> Stcs<'a> {
     ghost use Rattle.sequence_queries.specs.Rows.{stcs_in, stcs_told};
@@ -35,23 +37,25 @@ impl<'a> Stcs<'a> {
     fn of(stcs: Table<'a>) -> Result<Stcs<'a>, Refusal>
         ensures { stcs_told result ≡ all_stated stc_cells (stated stcs.entry.bytes.now stcs.entry.rows) }
     {
-        Ok(Stcs(stcs.all_rows::<STC>()?))
+        Ok(Stcs {
+            rows: stcs.all_rows::<STC>()?,
+        })
     }
 
     // The start of an STC.
     fn start(self, stc: u32) -> Ticks45
-        requires { stc < self.0.count }
+        requires { stc < self.rows.count }
         ensures { as45 result ≡ stc_start (get_or (stcs_in self.entry) stc []) }
     {
-        Ticks45(self.0.cell(stc, START))
+        Ticks45(self.rows.cell(stc, START))
     }
 
     // Its end.
     fn end(self, stc: u32) -> Ticks45
-        requires { stc < self.0.count }
+        requires { stc < self.rows.count }
         ensures { as45 result ≡ stc_end (get_or (stcs_in self.entry) stc []) }
     {
-        Ticks45(self.0.cell(stc, END))
+        Ticks45(self.rows.cell(stc, END))
     }
 
     // The latest end, 0 without any.
@@ -59,7 +63,7 @@ impl<'a> Stcs<'a> {
         ensures { as45 result ≡ latest_end (stcs_in self.entry) }
     {
         let mut latest = Ticks45(0);
-        for k in 0..self.0.count {
+        for k in 0..self.rows.count {
             latest = latest.max(self.end(k));
         }
         latest
@@ -70,7 +74,7 @@ impl<'a> Stcs<'a> {
         ensures { as45 result ≡ least_start (as45 first) (stcs_in self.entry) }
     {
         let mut least = first;
-        for k in 0..self.0.count {
+        for k in 0..self.rows.count {
             least = least.min(self.start(k));
         }
         least
@@ -78,7 +82,7 @@ impl<'a> Stcs<'a> {
 
     // The end of an STC less its start, not below 0.
     fn duration(self, stc: u32) -> Ticks45
-        requires { stc < self.0.count }
+        requires { stc < self.rows.count }
         ensures { as45 result ≡ duration_of (get_or (stcs_in self.entry) stc []) }
     {
         self.end(stc).less(self.start(stc))
@@ -86,7 +90,7 @@ impl<'a> Stcs<'a> {
 
     // What is left of an STC at a time: twice its end less the time, a time before twice its start taken as that, not below 0.
     fn left(self, stc: u32, at: Ticks90) -> Ticks90
-        requires { stc < self.0.count }
+        requires { stc < self.rows.count }
         ensures { as90 result ≡ left_of (get_or (stcs_in self.entry) stc []) (as90 at) }
     {
         let start = self.start(stc).doubled();
@@ -95,11 +99,11 @@ impl<'a> Stcs<'a> {
 
     // The minutes of what is left of an STC at a time and of all later ones: added up, then rounded down.
     fn minutes_from(self, stc: u32, at: Ticks90) -> u64
-        requires { stc < self.0.count }
+        requires { stc < self.rows.count }
         ensures { result ≡ minutes_left (get_or (stcs_in self.entry) stc []) (drop (suc stc) (stcs_in self.entry)) (as90 at) }
     {
         let mut left = Minutes::none().plus(self.left(stc, at));
-        for k in stc + 1..self.0.count {
+        for k in stc + 1..self.rows.count {
             left = left.plus(self.duration(k).doubled());
         }
         left.whole
@@ -111,7 +115,7 @@ pub fn presentation_span_90k(stcs: Table) -> Time90
     ensures { time90_of result ≡ ask presentation_span_90k (only_stcs (stated stcs.entry.bytes.now stcs.entry.rows)) }
 {
     let stcs = Stcs::of(stcs)?;
-    if stcs.0.count == 0 {
+    if stcs.rows.count == 0 {
         return Ok(Some(Ticks90(0)));
     }
     let latest = stcs.latest_end().doubled();
@@ -124,7 +128,7 @@ pub fn minutes_remaining(stcs: Table, stc: u32, at: Ticks90) -> Found
     ensures { found_of result ≡ ask (minutes_remaining stc (as90 at)) (only_stcs (stated stcs.entry.bytes.now stcs.entry.rows)) }
 {
     let stcs = Stcs::of(stcs)?;
-    if stc < stcs.0.count {
+    if stc < stcs.rows.count {
         return Ok(Some(stcs.minutes_from(stc, at)));
     }
     Err(Refusal::Rows)
@@ -135,7 +139,7 @@ pub fn duration_45k(stcs: Table, stc: u32) -> Time45
     ensures { time45_of result ≡ ask (duration45k stc) (only_stcs (stated stcs.entry.bytes.now stcs.entry.rows)) }
 {
     let stcs = Stcs::of(stcs)?;
-    if stc >= stcs.0.count {
+    if stc >= stcs.rows.count {
         return Err(Refusal::Rows);
     }
     Ok(stcs.duration(stc))
@@ -153,7 +157,7 @@ pub fn first_stc_sequence(stcs: Table) -> Found
     ensures { found_of result ≡ ask first_stc_sequence (only_stcs (stated stcs.entry.bytes.now stcs.entry.rows)) }
 {
     let stcs = Stcs::of(stcs)?;
-    if stcs.0.count == 0 {
+    if stcs.rows.count == 0 {
         return Ok(None);
     }
     Ok(Some(0))

@@ -16,11 +16,11 @@ loop-k-init c = latest_first (stcs_in c.args.self)
 
 pub loop-k-preserved : goal.loop-k-preserved
 loop-k-preserved c =
-    let within : c.loop-k.k < length (stcs_in c.args.self) = omega (arith, c.loop-k-test.true, rows_stated stc_cells c.args.self.0.bytes.now c.args.self.0.count) in
+    let within : c.loop-k.k < length (stcs_in c.args.self) = omega (arith, c.loop-k-test.true, rows_stated stc_cells c.args.self.rows.bytes.now c.args.self.rows.count) in
     let later : (as45 c.max-latest.result).ticks ≡ max (as45 c.loop-k.latest).ticks (as45 c.end.result).ticks = search rules in
     latest_turn (stcs_in c.args.self) c.loop-k.k (as45 c.loop-k.latest) within c.end.ensures later c.loop-k.invariant
 
 pub returns : goal.returns
 returns c =
-    let all : length (stcs_in c.args.self) ≤ c.loop-k.k = omega (arith, c.loop-k-test.false, rows_stated stc_cells c.args.self.0.bytes.now c.args.self.0.count) in
+    let all : length (stcs_in c.args.self) ≤ c.loop-k.k = omega (arith, c.loop-k-test.false, rows_stated stc_cells c.args.self.rows.bytes.now c.args.self.rows.count) in
     latest_done (stcs_in c.args.self) c.loop-k.k (as45 c.loop-k.latest) all c.loop-k.invariant

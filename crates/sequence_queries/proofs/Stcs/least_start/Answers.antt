@@ -16,11 +16,11 @@ loop-k-init c = refl
 
 pub loop-k-preserved : goal.loop-k-preserved
 loop-k-preserved c =
-    let within : c.loop-k.k < length (stcs_in c.args.self) = omega (arith, c.loop-k-test.true, rows_stated stc_cells c.args.self.0.bytes.now c.args.self.0.count) in
+    let within : c.loop-k.k < length (stcs_in c.args.self) = omega (arith, c.loop-k-test.true, rows_stated stc_cells c.args.self.rows.bytes.now c.args.self.rows.count) in
     let earlier : (as45 c.min-least.result).ticks ≡ min (as45 c.loop-k.least).ticks (as45 c.start.result).ticks = search rules in
     least_turn (stcs_in c.args.self) c.loop-k.k (as45 c.loop-k.least) within c.start.ensures earlier c.loop-k.invariant
 
 pub returns : goal.returns
 returns c =
-    let all : length (stcs_in c.args.self) ≤ c.loop-k.k = omega (arith, c.loop-k-test.false, rows_stated stc_cells c.args.self.0.bytes.now c.args.self.0.count) in
+    let all : length (stcs_in c.args.self) ≤ c.loop-k.k = omega (arith, c.loop-k-test.false, rows_stated stc_cells c.args.self.rows.bytes.now c.args.self.rows.count) in
     least_done (stcs_in c.args.self) c.loop-k.k (as45 c.loop-k.least) all c.loop-k.invariant

@@ -19,11 +19,11 @@ plus-left-requires-in-loop-k c = few_minutes (stcs_in c.args.self) (omega arith)
 
 pub loop-k-preserved : goal.loop-k-preserved
 loop-k-preserved c =
-    let within : c.loop-k.k < length (stcs_in c.args.self) = omega (arith, c.loop-k-test.true, rows_stated stc_cells c.args.self.0.bytes.now c.args.self.0.count) in
+    let within : c.loop-k.k < length (stcs_in c.args.self) = omega (arith, c.loop-k-test.true, rows_stated stc_cells c.args.self.rows.bytes.now c.args.self.rows.count) in
     let duration-fits : (as45 c.duration.result).ticks < 2 ^ 32 = c.duration.type_inv.1.1.0.1 in
     added_turn (stcs_in c.args.self) _ c.loop-k.k within c.duration.ensures duration-fits c.doubled.ensures c.plus-left-in-loop-k.ensures c.loop-k.invariant
 
 pub returns : goal.returns
 returns c =
-    let all : length (stcs_in c.args.self) ≤ c.loop-k.k = omega (arith, c.loop-k-test.false, rows_stated stc_cells c.args.self.0.bytes.now c.args.self.0.count) in
+    let all : length (stcs_in c.args.self) ≤ c.loop-k.k = omega (arith, c.loop-k-test.false, rows_stated stc_cells c.args.self.rows.bytes.now c.args.self.rows.count) in
     added_done (stcs_in c.args.self) c.loop-k.k c.args.stc (as90 c.args.at) all c.loop-k.invariant
