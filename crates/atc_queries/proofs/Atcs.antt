@@ -1,61 +1,61 @@
 -- STCs through their ATCs: by id while a loop goes over the ATCs, by packet while one goes over the STCs of an ATC, and the tests in front.
-use Prim.Native.Nat.{ℕ, suc, ◌+◌, ◌*◌, ◌-◌, ◌<◌, ◌≤◌}
+use Prim.Native.Nat.{ℕ, suc, ◌+◌, ◌*◌, ◌-◌, ◌^◌, ◌<◌, ◌≤◌}
 use mathlib.Core.Path.{◌≡◌, refl, ◌∙◌}
-use mathlib.Core.List.{List, map}
+use mathlib.Core.List.{List, [], map}
 use mathlib.Core.Bool.{Bool, true, false}
 use native.Mathlib.Omega.{arith}
 use lib.Dec.{leb, ltb, lit<}
-use lib.ListN.{length}
+use native.Mathlib.Numerals.{add-one}
+use lib.ListN.{length, get_or, drop}
+use Rattle.std.proofs.Common.{drop-cons}
+use Rattle.std.proofs.lemmas.List.{drop_all}
 use Rattle.format.specs.Bytes.{both, pick}
-use Rattle.format.specs.ClipRecord.{atc_stc_count, offset_id, stc_packet}
+use Rattle.format.specs.ClipRecord.{Row, atc_stc_count, offset_id, stc_packet}
 use Rattle.format.specs.Questions.{stc_sequence_by_id, stc_sequence_for_spn, Answer, refused, none, number, last_where, stc_by_id, stc_by_spn, first_row, own_rows, of_atcs, of_atc, answer, ask}
-use Rattle.format.specs.Tables.{Table, rows_of, cells_at, table_rows_of, clip_in, atc_cells, stc_cells}
+use Rattle.format.specs.Tables.{Table, rows_of, clip_in, atc_cells, stc_cells}
 use Rattle.format.proofs.Loops.{one_left, none_left}
 use Rattle.cells.specs.Reads.{CellIs}
 use Rattle.format.proofs.Cell.{row_cell}
 use Rattle.queries.specs.Asked.{atcs_and_stcs}
 use Rattle.table_rows.specs.OwnRows.{refusal, owns, owned_rows, rows_from}
-use Rattle.table_rows.proofs.Scans.{rows_left, left_all, left_turn, left_done}
 use Rattle.table_rows.proofs.OwnRows.{own_rows_lem, behind_count, behind_tests, tests_fail, tests_pass}
 
 -- ---- by id
 
-module _ (t : List ℕ) (n id : ℕ) where
+module _ (xs : List Row) (id : ℕ) where
   -- what is found from ATC k on, with the STCs before it counted, is what is found of all
   pub record Ids (k first : ℕ) : Type 0 where
     pub small : first ≤ 4294967295 * k
-    pub rest : stc_by_id (rows_left atc_cells t n k) id first ≡ stc_by_id (table_rows_of atc_cells t n) id 0
+    pub rest : stc_by_id (drop k xs) id first ≡ stc_by_id xs id 0
 
   -- before the first turn no STC is counted and all ATCs are left
   pub ids_first : Ids 0 0
-  ids_first = record { small = omega arith; rest = rw (left_all atc_cells t n) }
+  ids_first = record { small = omega arith; rest = refl }
 
-  module _ (k first : ℕ) {count offset : ℕ} {b : Bool} (h : k < n) (c : CellIs t (12 * k + 4) count) (o : CellIs t (12 * k + 8) offset)
-      (is : b ≡ both (leb offset id) (ltb (id - offset) count)) (i : Ids k first) where
-    -- the numbers that were read are the row's
-    is_count : count ≡ atc_stc_count (cells_at t atc_cells (4 * atc_cells * k))
-    is_count = row_cell t atc_cells (4 * atc_cells * k) 1 (lit< tt) (omega arith) c.same
-
-    is_offset : offset ≡ offset_id (cells_at t atc_cells (4 * atc_cells * k))
-    is_offset = row_cell t atc_cells (4 * atc_cells * k) 2 (lit< tt) (omega arith) o.same
-
+  -- what was read of row k
+  module _ (k first : ℕ) {row : Row} {b : Bool} (h : k < length xs) (read : row ≡ get_or xs k [])
+      (is : b ≡ both (leb (offset_id row) id) (ltb (id - offset_id row) (atc_stc_count row))) (i : Ids k first) where
     -- an ATC without the id is passed, and its STCs are counted
-    pub ids_turn : b ≡ false → Ids (k + 1) (first + count)
+    pub ids_turn : atc_stc_count row < 2 ^ 32 → b ≡ false → Ids (k + 1) (first + atc_stc_count row)
     unfolding stc_by_id
-    ids_turn f = record {
-      small = omega (arith, i.small, c.below);
-      rest = rw (left_turn atc_cells t n k h, ← is_count, ← is_offset, ← is, f) at i.rest;
+    ids_turn c f = record {
+      small = omega (arith, i.small, c);
+      rest = rw add-one (rw (drop-cons xs k [], ← read, ← is, f) at i.rest);
     }
 
     -- the first ATC that has the id answers: the STCs before it, and the id less its offset
-    pub id_found : b ≡ true → number (first + (id - offset)) ≡ stc_by_id (table_rows_of atc_cells t n) id 0
+    pub id_found : b ≡ true → number (first + (id - offset_id row)) ≡ stc_by_id xs id 0
     unfolding stc_by_id
-    id_found f = rw (left_turn atc_cells t n k h, ← is_count, ← is_offset, ← is, f) at i.rest
+    id_found f = rw (drop-cons xs k [], ← read, ← is, f) at i.rest
 
   -- after the last ATC there is none
-  pub id_none : (k first : ℕ) → n ≤ k → Ids k first → none ≡ stc_by_id (table_rows_of atc_cells t n) id 0
+  pub id_none : (k first : ℕ) → length xs ≤ k → Ids k first → none ≡ stc_by_id xs id 0
   unfolding stc_by_id
-  id_none k first h i = rw (left_done atc_cells t n k h) at i.rest
+  id_none k first h i = rw (drop_all k xs h) at i.rest
+
+-- rows as they were told answer
+pub of_told : {t u : Table} (id : ℕ) {r : Answer} → u ≡ t → r ≡ stc_by_id (rows_of atc_cells u) id 0 → r ≡ stc_by_id (rows_of atc_cells t) id 0
+of_told id same h = rw (← same) h
 
 -- the answer behind the tests
 pub id_asked : (atcs stcs : Table) (id : ℕ) → behind_count 1 stc_cells atcs stcs (stc_by_id (rows_of atc_cells atcs) id 0) ≡ ask (stc_sequence_by_id id) (atcs_and_stcs atcs stcs)

@@ -4,18 +4,22 @@
 ghost use Rattle.std.specs.Prelude.{◌≡◌, ◌+◌, ◌*◌, ◌-◌, ◌≤◌, length, leb, ltb, Ok};
 ghost use Rattle.format.specs.Bytes.{both};
 ghost use Rattle.format.specs.Questions.{ask, stc_sequence_by_id, stc_sequence_for_spn, stc_by_id, stc_by_spn};
-ghost use Rattle.format.specs.Tables.{table_rows_of, row_room, atc_cells, stc_cells, stated};
+ghost use Rattle.format.specs.Tables.{stc_cells, stated};
 ghost use Rattle.queries.specs.Answers.{found_of};
 ghost use Rattle.queries.specs.Asked.{atcs_and_stcs};
+ghost use Rattle.table_rows.specs.AllRows.{rows_in};
 ghost use Rattle.table_rows.specs.OwnRows.{owned_of, owned_rows, rows_from};
 
 use cells::cell_at;
 use queries::Found;
 use refusals::Refusal;
 use table_rows::Table;
-use table_rows::own::{OwnRows, adds_up, own_rows};
+use table_rows::own::{OwnRows, counted, own_rows};
+use table_rows::rows::Rows;
 
-// The cell of an ATC's row (packet, STC count, offset id) that has the count.
+// The cells of an ATC's row (packet, STC count, offset id), and the one that has the count.
+const ATC: usize = 3;
+
 const COUNT: usize = 1;
 
 // The cells of an STC's row.
@@ -25,7 +29,7 @@ const STC: usize = 4;
 pub fn stcs_of_atc(atcs: Table, stcs: Table, atc: u32) -> Result<OwnRows, Refusal>
     ensures { owned_of result ≡ owned_rows 1 stc_cells (stated atcs.entry.bytes.now atcs.entry.rows) (stated stcs.entry.bytes.now stcs.entry.rows) atc }
 {
-    own_rows(atcs, stcs, atc, COUNT, STC)
+    own_rows::<COUNT, STC>(atcs, stcs, atc)
 }
 
 // Whether an id, less the offset id, is not negative and below the count.
@@ -36,15 +40,12 @@ fn has_id(id: u32, offset: u32, count: u32) -> bool
 }
 
 // The STC with an id: of the first ATC that has it.
-fn find_id(atcs: Table, id: u32) -> Option<u64>
-    requires { atcs.rows ≤ row_room atc_cells atcs.bytes.now }
-    ensures { found_of (Ok result) ≡ stc_by_id (table_rows_of atc_cells atcs.entry.bytes.now atcs.entry.rows) id 0 }
+fn find_id(atcs: Rows<ATC>, id: u32) -> Option<u64>
+    ensures { found_of (Ok result) ≡ stc_by_id (rows_in atcs.entry) id 0 }
 {
     let mut first: u64 = 0;
-    for k in 0..atcs.rows {
-        let at = 12 * (k as usize);
-        let count = cell_at(atcs.bytes, at + 4);
-        let offset = cell_at(atcs.bytes, at + 8);
+    for k in 0..atcs.count {
+        let [_, count, offset] = atcs.row(k);
         if has_id(id, offset, count) {
             return Some(first + u64::from(id - offset));
         }
@@ -57,9 +58,7 @@ fn find_id(atcs: Table, id: u32) -> Option<u64>
 pub fn stc_sequence_by_id(atcs: Table, stcs: Table, id: u8) -> Found
     ensures { found_of result ≡ ask (stc_sequence_by_id id) (atcs_and_stcs (stated atcs.entry.bytes.now atcs.entry.rows) (stated stcs.entry.bytes.now stcs.entry.rows)) }
 {
-    if !adds_up(atcs, stcs, COUNT, STC) {
-        return Err(Refusal::Rows);
-    }
+    let atcs = counted::<COUNT, STC>(atcs, stcs)?;
     Ok(find_id(atcs, u32::from(id)))
 }
 

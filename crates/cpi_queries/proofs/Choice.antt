@@ -5,25 +5,25 @@ use mathlib.Core.List.{List, [], map}
 use mathlib.Core.Bool.{Bool, true, false}
 use native.Mathlib.Numerals.{add-one}
 use native.Mathlib.Omega.{arith}
-use lib.Dec.{eqb, lit<}
-use lib.ListN.{length}
-use borrow.Author.Tests.{ne_eqb, lt-ltb, leb-true, le-leb}
+use lib.Dec.{eqb}
+use lib.ListN.{length, get_or, drop}
+use Rattle.std.proofs.Common.{drop-cons}
+use Rattle.std.proofs.lemmas.List.{drop_all}
+use borrow.Author.Tests.{ne_eqb, lt-ltb, le-leb}
 use Rattle.format.specs.Bytes.{both}
-use Rattle.format.specs.ClipRecord.{Row, map_pid, map_type_of, entry_count, entry_cells}
+use Rattle.format.specs.ClipRecord.{Row, map_pid, entry_count, entry_cells}
 use Rattle.format.specs.Questions.{ep_map_by_kind, next_video_ep_map, primary_video_ep_map, Answer, refused, none, number, Best, nothing, best, better, best_of, first_where, row_or, or_else, is_video_map, kinds, primary_map, of_map, of_primary_map, unless22, answer, ask}
 use Rattle.format.specs.Questions as of
 use Rattle.format.specs.Tables.{Table, is_stated, add_up, is_row, rows_of, row_room, cells_at, table_rows_of, clip_in, map_cells}
 use Rattle.format.proofs.Lookups.{NoneOrRow, primary_row, primary_none, primary_empty, primary_rows}
 use Rattle.format.proofs.Rows.{rows_length}
 use Rattle.format.proofs.Tests.{both_true}
-use Rattle.cells.specs.Reads.{CellIs}
-use Rattle.format.proofs.Cell.{row_cell}
 use Rattle.nearest.specs.declared.Side.{Side}
 use Rattle.queries.specs.Asked.{only_maps, maps_and_entries}
 use Rattle.row_search.specs.FirstRow.{ask_row}
-use Rattle.table_rows.proofs.Scans.{rows_left, left_all, left_turn, left_done}
-use Rattle.row_search.proofs.FirstRow.{row_answers, through, next_through}
-use Rattle.queries.proofs.Asking.{through_test}
+use Rattle.table_rows.specs.OwnRows.{cell_in}
+use Rattle.row_search.proofs.FirstRow.{row_answers, by_number, next_by_number}
+use Rattle.queries.proofs.Asking.{through_test, unstated}
 use Rattle.nearest.specs.Nearest.{seek_in}
 use Rattle.ep_map_queries.specs.InMap.{seek_question, primary_seek_question}
 use Rattle.cpi_queries.specs.PrimaryMap.{less_pid, least_pid, video_or_least}
@@ -32,45 +32,41 @@ use Rattle.ep_map_queries.proofs.Answers.{seek_asks}
 -- ---- by type
 
 -- the searches of the type's low four bits
-pub kind_asked : (t : Table) (kind : ℕ) → ask_row map_cells 1 0 (λ y. eqb (y % 16) (kind % 16)) t ≡ ask (ep_map_by_kind kind) (only_maps t)
+pub kind_asked : (t : Table) (kind : ℕ) → ask_row map_cells 0 (λ r. eqb (cell_in 1 r % 16) (kind % 16)) t ≡ ask (ep_map_by_kind kind) (only_maps t)
 unfolding answer clip_in
 kind_asked t kind =
-    row_answers (ep_map_by_kind kind) (only_maps t) of.maps map_cells 1 0 (λ y. eqb (y % 16) (kind % 16)) t refl refl
-    (through (λ y. y % 16) (λ y. eqb y (kind % 16)) map_type_of 0 (rows_of map_cells t))
+    row_answers (ep_map_by_kind kind) (only_maps t) of.maps map_cells 0 (λ r. eqb (cell_in 1 r % 16) (kind % 16)) t refl refl
+    (by_number (λ r. cell_in 1 r % 16) (λ y. eqb y (kind % 16)) 0 (rows_of map_cells t))
 
 -- the search of a video type from a row on is the question for the next video map
-pub video_asked : (t : Table) (from : ℕ) → ask_row map_cells 1 from (λ y. is_video_map (y % 16)) t ≡ ask (next_video_ep_map from) (only_maps t)
+pub video_asked : (t : Table) (from : ℕ) → ask_row map_cells from (λ r. is_video_map (cell_in 1 r % 16)) t ≡ ask (next_video_ep_map from) (only_maps t)
 unfolding answer clip_in
 video_asked t from =
-    row_answers (next_video_ep_map from) (only_maps t) of.maps map_cells 1 from (λ y. is_video_map (y % 16)) t refl refl
-    (next_through (λ y. y % 16) is_video_map map_type_of from (rows_of map_cells t))
+    row_answers (next_video_ep_map from) (only_maps t) of.maps map_cells from (λ r. is_video_map (cell_in 1 r % 16)) t refl refl
+    (next_by_number (λ r. cell_in 1 r % 16) is_video_map from (rows_of map_cells t))
 
 -- ---- the least PID
 
-module _ (t : List ℕ) (n : ℕ) where
+module _ (xs : List Row) where
   -- the best of all PIDs, and that of a best so far and of the PIDs left from row k on
-  abbrev all : Best
-  all = best_of (λ y. true) less_pid 0 (map map_pid (table_rows_of map_cells t n)) nothing
-
   abbrev pub Pids : ℕ → Best → Type 0
-  Pids k b = best_of (λ y. true) less_pid k (map map_pid (rows_left map_cells t n k)) b ≡ all
-
-  -- the PID of row k stands in its first cell
-  pid_at_lem : (k : ℕ) {at x : ℕ} → at ≡ 12 * k → CellIs t at x → x ≡ map_pid (cells_at t map_cells (4 * map_cells * k))
-  pid_at_lem k e c = row_cell t map_cells (4 * map_cells * k) 0 (lit< tt) (omega (arith, e)) c.same
-
-  -- before the first row
-  pub pids_first : Pids 0 nothing
-  pids_first = rw (left_all map_cells t n)
+  Pids k b = best_of (λ y. true) less_pid k (map map_pid (drop k xs)) b ≡ best_of (λ y. true) less_pid 0 (map map_pid xs) nothing
 
   -- a row with a lesser PID takes over, so among equals the earliest stays
-  pub pids_turn : (k : ℕ) (b : Best) {x : ℕ} {r : Best} → k < n → CellIs t (12 * k) x → r ≡ better less_pid k x b → Pids k b → Pids (k + 1) r
-  pids_turn k b h c chose i =
-      rw (chose, pid_at_lem k refl c, add-one) (rw (left_turn map_cells t n k h, add-one) at i)
+  pub pids_turn : (k : ℕ) (b : Best) {x : ℕ} {r : Best} → k < length xs → x ≡ map_pid (get_or xs k []) → r ≡ better less_pid k x b → Pids k b → Pids (k + 1) r
+  pids_turn k b h is chose i = rw (chose, is, add-one) (rw (drop-cons xs k []) at i)
 
   -- behind the last row the least so far is that of all
-  pub pid_is : (k : ℕ) {a b : Best} → a ≡ b → n ≤ k → Pids k a → row_or none b ≡ least_pid (map map_pid (table_rows_of map_cells t n))
-  pid_is k e h i = let done = rw (left_done map_cells t n k h) at i in ap (row_or none) (sym e ∙ done)
+  pub pid_is : (k : ℕ) {a b : Best} → a ≡ b → length xs ≤ k → Pids k a → row_or none b ≡ least_pid (map map_pid xs)
+  pid_is k e h i = let done = rw (drop_all k xs h) at i in ap (row_or none) (sym e ∙ done)
+
+-- rows that are not there are refused
+pub least_refused : (t : Table) → is_stated map_cells t ≡ false → refused 22 ≡ video_or_least t
+least_refused t h = rw (← unstated (next_video_ep_map 0) (only_maps t) of.maps refl h)
+
+-- where no map is a video map the least PID answers, of the rows as they were told
+pub least_told : {t u : Table} {a r : Answer} → none ≡ a → u ≡ t → r ≡ least_pid (map map_pid (rows_of map_cells u)) → r ≡ or_else a (least_pid (map map_pid (rows_of map_cells t)))
+least_told e same h = rw (← e, ← same) h
 
 -- ---- the choice
 
@@ -96,18 +92,6 @@ choice t = go (is_stated map_cells t)
         ≡ unless22 (both b true) (or_else (first_where (λ y. eqb y 8) 0 (kinds (rows_of map_cells t))) (or_else (first_where is_video_map 0 (kinds (rows_of map_cells t))) (least_pid (map map_pid (rows_of map_cells t)))))
     go true = refl
     go false = refl
-
--- what answers none behind the test of 22 has passed it
-none_through : (b : Bool) (x : Answer) → none ≡ unless22 b x → b ≡ true
-none_through true x h = refl
-none_through false x h = let z : ◌≡◌ {A = ℕ} 0 1 = cc in absurd (omega arith)
-
--- an answer of none has passed the test of 22, so the stated maps are in their table
-pub maps_there : (t : Table) → none ≡ ask (ep_map_by_kind 8) (only_maps t) → t.rows ≤ row_room map_cells t.bytes
-unfolding ask
-maps_there t h =
-    let b = both_true (none_through (both (is_stated map_cells t) true) (answer (ep_map_by_kind 8) (clip_in (only_maps t))) h) in
-    leb-true t.rows (row_room map_cells t.bytes) b.0
 
 -- ---- the packet in the primary map
 

@@ -1,40 +1,49 @@
 // The maps by their types, and the primary map: by its type, else by its PID.
 #![tactic(auto)]
 
-ghost use Rattle.std.specs.Prelude.{◌≡◌, ◌≤◌, Ok, map};
+ghost use Rattle.std.specs.Prelude.{◌≡◌, Ok, map};
 ghost use Rattle.format.specs.ClipRecord.{map_pid};
 ghost use Rattle.format.specs.Questions.{ask, better, primary_video_ep_map, ep_map_by_kind, next_video_ep_map, primary_seek_spn, primary_next_seek_spn};
-ghost use Rattle.format.specs.Tables.{table_rows_of, row_room, map_cells, stated};
+ghost use Rattle.format.specs.Tables.{stated};
 ghost use Rattle.queries.specs.Answers.{found_of};
 ghost use Rattle.queries.specs.Asked.{only_maps, maps_and_entries};
 ghost use Rattle.ticks.specs.Times.{as_pts};
+ghost use Rattle.table_rows.specs.AllRows.{rows_in};
 ghost use Rattle.ep_map_queries.specs.InMap.{primary_seek_question};
 ghost use Rattle.cpi_queries.specs.PrimaryMap.{less_pid, as_best, least_pid, video_or_least};
 
-use cells::cell_at;
 use ep_map_queries::entries::seek;
 use nearest::Side;
 use queries::Found;
 use refusals::Refusal;
 use row_search::{first_row, has_kind, has_video_kind};
 use table_rows::Table;
+use table_rows::rows::Rows;
 use ticks::Pts90;
 
 // The cells of a map's row: PID, type, entry count.
 const MAP: usize = 3;
 
+// Those that have the PID and the type.
+const PID: usize = 0;
+
+const TYPE: usize = 1;
+
 // The first map of a type, by its low four bits.
 pub fn ep_map_by_kind(maps: Table, kind: u8) -> Found
     ensures { found_of result ≡ ask (ep_map_by_kind kind) (only_maps (stated maps.entry.bytes.now maps.entry.rows)) }
 {
-    first_row(maps, MAP, 1, 0, |x| has_kind(x, u32::from(kind % 16)))
+    let maps = maps.all_rows::<MAP>()?;
+    let kind = u32::from(kind % 16);
+    Ok(first_row(maps, 0, |row| has_kind(maps.cell(row, TYPE), kind)))
 }
 
 // The first video map from a row on, by the low four bits of the type.
 pub fn next_video_ep_map(maps: Table, from: u32) -> Found
     ensures { found_of result ≡ ask (next_video_ep_map «from») (only_maps (stated maps.entry.bytes.now maps.entry.rows)) }
 {
-    first_row(maps, MAP, 1, from, has_video_kind)
+    let maps = maps.all_rows::<MAP>()?;
+    Ok(first_row(maps, from, |row| has_video_kind(maps.cell(row, TYPE))))
 }
 
 // The row of a map, and its PID.
@@ -55,13 +64,12 @@ fn lesser(so_far: Option<PidRow>, row: u32, pid: u32) -> Option<PidRow>
 }
 
 // The map with the least PID, the earliest among equals; none without maps. A `for`: the definition goes row by row too, and `min_by_key` tells what it picks by a fold of its own.
-fn least_pid(maps: Table) -> Option<u64>
-    requires { maps.rows ≤ row_room map_cells maps.bytes.now }
-    ensures { found_of (Ok result) ≡ least_pid (map map_pid (table_rows_of map_cells maps.entry.bytes.now maps.entry.rows)) }
+fn least_pid(maps: Rows<MAP>) -> Option<u64>
+    ensures { found_of (Ok result) ≡ least_pid (map map_pid (rows_in maps.entry)) }
 {
     let mut least = None;
-    for row in 0..maps.rows {
-        least = lesser(least, row, cell_at(maps.bytes, 4 * MAP * (row as usize)));
+    for row in 0..maps.count {
+        least = lesser(least, row, maps.cell(row, PID));
     }
     let least = least?;
     Some(u64::from(least.row))
@@ -69,12 +77,11 @@ fn least_pid(maps: Table) -> Option<u64>
 
 // The first video map, else the one with the least PID.
 fn video_or_least(maps: Table) -> Found
-    requires { maps.rows ≤ row_room map_cells maps.bytes.now }
     ensures { found_of result ≡ video_or_least (stated maps.entry.bytes.now maps.entry.rows) }
 {
     match next_video_ep_map(maps, 0)? {
         Some(row) => Ok(Some(row)),
-        None => Ok(least_pid(maps)),
+        None => Ok(least_pid(maps.all_rows::<MAP>()?)),
     }
 }
 

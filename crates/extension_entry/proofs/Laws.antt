@@ -1,19 +1,18 @@
 -- The data of a row: the tests that refuse it, and what the place that is answered says.
-use Prim.Native.Nat.{ℕ, ◌+◌, ◌*◌, ◌<◌, ◌≤◌}
+use Prim.Native.Nat.{ℕ, ◌+◌, ◌<◌, ◌≤◌}
 use mathlib.Core.Path.{◌≡◌, refl, sym}
 use mathlib.Core.Logic.{◌⊎◌, inl, inr, ⊎_elim}
 use mathlib.Core.List.{List, []}
 use mathlib.Core.Bool.{Bool, true, false}
 use native.Mathlib.Omega.{arith}
 use lib.ListN.{length, take, drop}
-use lib.Dec.{ltb, lit<}
+use lib.Dec.{ltb}
 use borrow.Author.Tests.{le-leb, lt-leb, lt-ltb, le-ltb}
 use Rattle.format.specs.Bytes.{unless}
+use Rattle.format.specs.ClipRecord.{Row}
 use Rattle.format.specs.Extensions.{data_in, data_start, data_length}
 use Rattle.format.specs.Tables.{Table, is_stated, extension_cells}
 use Rattle.format.specs.Refusals.{extension_row, data_refusal, data_asked}
-use Rattle.format.proofs.Cell.{cell_of}
-use Rattle.cells.specs.Reads.{CellIs}
 use Rattle.std.proofs.Common.{Ok, Err}
 use Rattle.refusals.specs.declared.Refusal.{Refusal}
 use Rattle.refusals.specs.Numbers.{number_of}
@@ -31,43 +30,39 @@ module _ (f : List ℕ) (t : Table) (k : ℕ) where
   unfolding data_refusal
   not_stated h = refused (rw h)
 
-  module _ (stated : is_stated extension_cells t ≡ true) where
+  -- the rows as they were told
+  module _ {u : Table} (told : (is_stated extension_cells t ≡ true) × (u ≡ t)) where
     -- the row is not one of them
-    pub no_row : t.rows ≤ k → PartIs f t k (Err Refusal.Rows)
+    pub no_row : u.rows ≤ k → PartIs f t k (Err Refusal.Rows)
     unfolding data_refusal
-    no_row h = refused (rw (stated, le-ltb k t.rows h))
+    no_row h = refused (rw (told.0, le-ltb k t.rows (rw told.1 at h)))
 
-    module _ {start len : ℕ} (row : k < t.rows) (s : CellIs t.bytes (16 * k + 8) start) (l : CellIs t.bytes (16 * k + 12) len) where
-      -- the two cells say where the data stands
-      start_is : start ≡ data_start (extension_row t k)
-      start_is = cell_of 4 t.bytes t.rows k 2 row (lit< tt) (omega arith) s.same
-
-      -- and how long it is
-      len_is : len ≡ data_length (extension_row t k)
-      len_is = cell_of 4 t.bytes t.rows k 3 row (lit< tt) (omega arith) l.same
+    module _ {row : Row} (in_table : k < u.rows) (read : row ≡ extension_row u k) where
+      -- the row that was read is the table's
+      row_is : row ≡ extension_row t k
+      row_is = rw told.1 at read
 
       -- its data passes the end
-      pub outside : length f < start + len → PartIs f t k (Err Refusal.Rows)
+      pub outside : length f < data_start row + data_length row → PartIs f t k (Err Refusal.Rows)
       unfolding data_refusal
       outside h =
           refused
           (rw (
-            stated,
-            lt-ltb k t.rows row,
-            lt-leb (data_start (extension_row t k) + data_length (extension_row t k)) (length f) (rw (start_is, len_is) at h),
+            told.0,
+            lt-ltb k t.rows (rw told.1 at in_table),
+            lt-leb (data_start (extension_row t k) + data_length (extension_row t k)) (length f) (rw row_is at h),
           ))
 
       -- its data lies inside
-      pub within : start + len ≤ length f → PartIs f t k (Ok (record { start = start; len = len }))
+      pub within : data_start row + data_length row ≤ length f → PartIs f t k (Ok (record { start = data_start row; len = data_length row }))
       unfolding data_refusal part_of
       within h = record {
         same =
             rw (
-              stated,
-              lt-ltb k t.rows row,
-              le-leb (data_start (extension_row t k) + data_length (extension_row t k)) (length f) (rw (start_is, len_is) at h),
-              start_is,
-              len_is,
+              told.0,
+              lt-ltb k t.rows (rw told.1 at in_table),
+              le-leb (data_start (extension_row t k) + data_length (extension_row t k)) (length f) (rw row_is at h),
+              row_is,
             );
         inside = h;
       }

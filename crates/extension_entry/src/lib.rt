@@ -6,14 +6,11 @@ ghost use Rattle.format.specs.Refusals.{data_refusal, data_asked};
 ghost use Rattle.format.specs.Tables.{stated};
 ghost use Rattle.extension_entry.specs.Part.{PartIs};
 
-use cells::cell_at;
 use refusals::Refusal;
 use table_rows::Table;
 
-// The cells of a row of table 7 (two ids, where the data begins, its length), and its bytes.
+// The cells of a row of table 7: two ids, where the data begins, its length.
 const EXTENSION: usize = 4;
-
-const ROW: usize = 16;
 
 // Where the data of a row stands in the file.
 #[derive(Clone, Copy)]
@@ -26,13 +23,12 @@ pub struct Part {
 pub fn data_place(file: &[u8], extensions: Table, row: u32) -> Result<Part, Refusal>
     ensures { PartIs file.now (stated extensions.entry.bytes.now extensions.entry.rows) row result }
 {
-    extensions.check(EXTENSION)?;
-    if row >= extensions.rows {
+    let extensions = extensions.all_rows::<EXTENSION>()?;
+    if row >= extensions.count {
         return Err(Refusal::Rows);
     }
-    let at = ROW * (row as usize);
-    let start = cell_at(extensions.bytes, at + 8) as usize;
-    let len = cell_at(extensions.bytes, at + 12) as usize;
+    let [_, _, start, len] = extensions.row(row);
+    let (start, len) = (start as usize, len as usize);
     if start + len > file.len() {
         return Err(Refusal::Rows);
     }

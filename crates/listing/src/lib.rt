@@ -4,18 +4,21 @@
 ghost use Rattle.std.specs.Prelude.{[], ◌∷◌, ◌+◌, ◌*◌, ◌^◌, ◌≤◌, ◌<◌, length};
 ghost use Rattle.format.specs.Bytes.{flat, total};
 ghost use Rattle.format.specs.ClipRecord.{entry_count, time, entry_cells, entry_size};
-ghost use Rattle.format.specs.Tables.{table_rows_of, cells_at, row_room, map_cells};
+ghost use Rattle.format.specs.Tables.{table_rows_of, cells_at, map_cells};
 ghost use Rattle.format.specs.Listing.{line, refused_word, ep_line, map_line, map_lines};
 ghost use Rattle.text_lines.specs.Stored.{PutsIn};
 ghost use Rattle.listing.specs.Text.{Shows, Listable, maps_from, entries_from, TimesFit, record_text, refusal_room};
 
 use cells::cell_at;
-use entry_rows::{EntryRow, SIZE};
+use entry_rows::{CELLS, EntryRow, SIZE};
 use table_rows::Table;
+use table_rows::rows::Rows;
 use text_lines::Text;
 
-// The bytes of a map's row.
-const MAP: usize = 12;
+// The cells of a map's row, and its bytes.
+const MAP: usize = 3;
+
+const MAP_SIZE: usize = 12;
 
 // The numbers of a record that its text shows beside its maps and entries.
 #[derive(Clone, Copy)]
@@ -63,13 +66,13 @@ fn put_map(text: &mut Text, maps: &[u8], row: usize)
 }
 
 // Adds each map's line with those of its own entries behind it.
-fn put_maps(text: &mut Text, maps: Table, entries: Table)
-    requires { (maps.rows ≤ row_room map_cells maps.bytes.now) × (entries.rows ≤ row_room entry_cells entries.bytes.now) × (total entry_count (maps_from maps.bytes.now 0 maps.rows) ≤ entries.rows) × (text.old.len + (37 * maps.rows + 25 * entries.rows) ≤ length text.old.out.now) × TimesFit entries.bytes.now 0 entries.rows }
-    ensures { PutsIn (37 * maps.entry.rows + 25 * entries.entry.rows) text.old (map_lines (maps_from maps.entry.bytes.now 0 maps.entry.rows) (entries_from entries.entry.bytes.now 0 entries.entry.rows)) text.new }
+fn put_maps(text: &mut Text, maps: Rows<MAP>, entries: Rows<CELLS>)
+    requires { (total entry_count (maps_from maps.bytes.now 0 maps.count) ≤ entries.count) × (text.old.len + (37 * maps.count + 25 * entries.count) ≤ length text.old.out.now) × TimesFit entries.bytes.now 0 entries.count }
+    ensures { PutsIn (37 * maps.entry.count + 25 * entries.entry.count) text.old (map_lines (maps_from maps.entry.bytes.now 0 maps.entry.count) (entries_from entries.entry.bytes.now 0 entries.entry.count)) text.new }
 {
     let mut k = 0;
-    for i in 0..maps.rows {
-        let row = MAP * i as usize;
+    for i in 0..maps.count {
+        let row = MAP_SIZE * i as usize;
         let count = cell_at(maps.bytes, row + 8);
         put_map(text, maps.bytes, row);
         put_entries(text, entries.bytes, SIZE * k, count);
@@ -93,6 +96,14 @@ pub fn put_record(numbers: Numbers, maps: Table, entries: Table, out: &mut [u8])
     text.put_line(b"clip", &[stream_type, application_type, rate, packets]);
     text.put_line(b"seq", &[numbers.atcs, numbers.stcs]);
     text.put_line(b"prog", &[numbers.programs, numbers.streams]);
+    let maps = Rows {
+        bytes: maps.bytes,
+        count: maps.rows,
+    };
+    let entries = Rows {
+        bytes: entries.bytes,
+        count: entries.rows,
+    };
     put_maps(&mut text, maps, entries);
     text.put_line(b"mark", &[numbers.marks]);
     text.len

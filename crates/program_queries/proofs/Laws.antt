@@ -23,27 +23,36 @@ use Rattle.queries.specs.Answers.{found_of}
 use Rattle.queries.specs.Asked.{only_programs, only_streams}
 use Rattle.row_search.specs.FirstRow.{ask_row}
 use Rattle.queries.proofs.Asking.{through_test}
-use Rattle.row_search.proofs.FirstRow.{row_answers, of_row_lem}
+use Rattle.table_rows.specs.OwnRows.{cell_in}
+use Rattle.row_search.proofs.FirstRow.{row_answers, by_number, next_by_number, of_row_lem}
 
 -- a program by its PID
-pub program_asked : (t : Table) (pid : ℕ) → ask_row program_cells 1 0 (λ y. eqb y pid) t ≡ ask (program_by_pmt_pid pid) (only_programs t)
+pub program_asked : (t : Table) (pid : ℕ) → ask_row program_cells 0 (λ r. eqb (cell_in 1 r) pid) t ≡ ask (program_by_pmt_pid pid) (only_programs t)
 unfolding answer clip_in
-program_asked t pid = row_answers (program_by_pmt_pid pid) (only_programs t) of.programs program_cells 1 0 (λ y. eqb y pid) t refl refl refl
+program_asked t pid =
+    row_answers (program_by_pmt_pid pid) (only_programs t) of.programs program_cells 0 (λ r. eqb (cell_in 1 r) pid) t refl refl
+    (by_number (cell_in 1) (λ y. eqb y pid) 0 (rows_of program_cells t))
 
 -- a stream by its PID
-pub stream_asked : (t : Table) (pid : ℕ) → ask_row stream_cells 0 0 (λ y. eqb y pid) t ≡ ask (stream_by_pid pid) (only_streams t)
+pub stream_asked : (t : Table) (pid : ℕ) → ask_row stream_cells 0 (λ r. eqb (cell_in 0 r) pid) t ≡ ask (stream_by_pid pid) (only_streams t)
 unfolding answer clip_in
-stream_asked t pid = row_answers (stream_by_pid pid) (only_streams t) of.streams stream_cells 0 0 (λ y. eqb y pid) t refl refl refl
+stream_asked t pid =
+    row_answers (stream_by_pid pid) (only_streams t) of.streams stream_cells 0 (λ r. eqb (cell_in 0 r) pid) t refl refl
+    (by_number (cell_in 0) (λ y. eqb y pid) 0 (rows_of stream_cells t))
 
 -- the next video stream, and the next audio stream
-pub video_asked : (t : Table) (from : ℕ) → ask_row stream_cells 1 from is_video t ≡ ask (next_video_stream from) (only_streams t)
+pub video_asked : (t : Table) (from : ℕ) → ask_row stream_cells from (λ r. is_video (cell_in 1 r)) t ≡ ask (next_video_stream from) (only_streams t)
 unfolding answer clip_in
-video_asked t from = row_answers (next_video_stream from) (only_streams t) of.streams stream_cells 1 from is_video t refl refl refl
+video_asked t from =
+    row_answers (next_video_stream from) (only_streams t) of.streams stream_cells from (λ r. is_video (cell_in 1 r)) t refl refl
+    (next_by_number (cell_in 1) is_video from (rows_of stream_cells t))
 
 -- the first row from one on whose coding type is audio is the next audio stream
-pub audio_asked : (t : Table) (from : ℕ) → ask_row stream_cells 1 from is_audio t ≡ ask (next_audio_stream from) (only_streams t)
+pub audio_asked : (t : Table) (from : ℕ) → ask_row stream_cells from (λ r. is_audio (cell_in 1 r)) t ≡ ask (next_audio_stream from) (only_streams t)
 unfolding answer clip_in
-audio_asked t from = row_answers (next_audio_stream from) (only_streams t) of.streams stream_cells 1 from is_audio t refl refl refl
+audio_asked t from =
+    row_answers (next_audio_stream from) (only_streams t) of.streams stream_cells from (λ r. is_audio (cell_in 1 r)) t refl refl
+    (next_by_number (cell_in 1) is_audio from (rows_of stream_cells t))
 
 -- ---- the PID of the first video stream
 

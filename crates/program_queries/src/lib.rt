@@ -21,39 +21,57 @@ const PROGRAM: usize = 3;
 
 const STREAM: usize = 5;
 
+// The cells of a program's row that have the PID and the count.
+const PMT_PID: usize = 1;
+
+const COUNT: usize = 2;
+
+// The cells of a stream's row that have the PID and the coding type.
+const PID: usize = 0;
+
+const CODING: usize = 1;
+
 // The streams of a program, by the first and their number.
 pub fn streams_of_program(programs: Table, streams: Table, program: u32) -> Result<OwnRows, Refusal>
     ensures { owned_of result ≡ owned_rows 2 stream_cells (stated programs.entry.bytes.now programs.entry.rows) (stated streams.entry.bytes.now streams.entry.rows) program }
 {
-    own_rows(programs, streams, program, 2, STREAM)
+    own_rows::<COUNT, STREAM>(programs, streams, program)
 }
 
 // The row of the first program whose map table has this PID.
 pub fn program_by_pmt_pid(programs: Table, pid: u16) -> Found
     ensures { found_of result ≡ ask (program_by_pmt_pid pid) (only_programs (stated programs.entry.bytes.now programs.entry.rows)) }
 {
-    first_row(programs, PROGRAM, 1, 0, |x| x == u32::from(pid))
+    let programs = programs.all_rows::<PROGRAM>()?;
+    Ok(first_row(
+        programs,
+        0,
+        |row| programs.cell(row, PMT_PID) == u32::from(pid),
+    ))
 }
 
 // The row of the first stream with this PID.
 pub fn stream_by_pid(streams: Table, pid: u16) -> Found
     ensures { found_of result ≡ ask (stream_by_pid pid) (only_streams (stated streams.entry.bytes.now streams.entry.rows)) }
 {
-    first_row(streams, STREAM, 0, 0, |x| x == u32::from(pid))
+    let streams = streams.all_rows::<STREAM>()?;
+    Ok(first_row(streams, 0, |row| streams.cell(row, PID) == u32::from(pid)))
 }
 
 // The first video stream from a row on.
 pub fn next_video_stream(streams: Table, from: u32) -> Found
     ensures { found_of result ≡ ask (next_video_stream «from») (only_streams (stated streams.entry.bytes.now streams.entry.rows)) }
 {
-    first_row(streams, STREAM, 1, from, is_video)
+    let streams = streams.all_rows::<STREAM>()?;
+    Ok(first_row(streams, from, |row| is_video(streams.cell(row, CODING))))
 }
 
 // The first audio stream from a row on.
 pub fn next_audio_stream(streams: Table, from: u32) -> Found
     ensures { found_of result ≡ ask (next_audio_stream «from») (only_streams (stated streams.entry.bytes.now streams.entry.rows)) }
 {
-    first_row(streams, STREAM, 1, from, is_audio)
+    let streams = streams.all_rows::<STREAM>()?;
+    Ok(first_row(streams, from, |row| is_audio(streams.cell(row, CODING))))
 }
 
 // The PID of the first stream that is video.

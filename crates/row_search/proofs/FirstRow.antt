@@ -3,68 +3,61 @@ use Prim.Native.Nat.{ℕ, suc, ◌+◌, ◌*◌, ◌<◌, ◌≤◌}
 use mathlib.Core.Path.{◌≡◌, refl, sym, ap, ◌∙◌}
 use mathlib.Core.List.{List, [], ◌∷◌, map}
 use mathlib.Core.Bool.{Bool, true, false}
-use native.Mathlib.Nat.{mul_assoc}
-use native.Mathlib.Omega.{arith}
-use lib.ListN.{drop}
+use native.Mathlib.Numerals.{add-one}
+use lib.ListN.{length, get_or, drop}
+use Rattle.std.proofs.Common.{drop-cons}
+use Rattle.std.proofs.lemmas.List.{drop_all}
 use Rattle.format.specs.Bytes.{both, pick}
 use Rattle.format.specs.ClipRecord.{Row}
 use Rattle.format.specs.Questions.{Question, Part, parts_of, part_stated, Answer, refused, none, number, first_where, next_where, unless22, of_row, answer, ask}
-use Rattle.format.specs.Tables.{Table, ClipTables, is_stated, rows_of, cells_at, table_rows_of, clip_in, stated}
-use Rattle.format.proofs.Cell.{row_cell, cell_of}
+use Rattle.format.specs.Tables.{Table, ClipTables, is_stated, rows_of, clip_in}
+use Rattle.format.proofs.Cell.{cell_of}
 use Rattle.cells.specs.Reads.{CellIs}
 use Rattle.table_rows.specs.OwnRows.{cell_in}
-use Rattle.row_search.specs.FirstRow.{ask_row}
-use Rattle.table_rows.proofs.Scans.{drop_map, First, first_turn, first_found, first_none}
+use Rattle.row_search.specs.FirstRow.{first_passing, ask_row}
+use Rattle.table_rows.proofs.Scans.{drop_map}
 
-module _ (t : List ℕ) (n cells cell from : ℕ) (test : ℕ → Bool) where
+-- ---- while a loop goes over the rows
+
+module _ (xs : List Row) (from : ℕ) (test : Row → Bool) where
   -- what is found from row k on is what is found of all
   abbrev pub Searched : ℕ → Type 0
-  Searched k = First cells t n (cell_in cell) test from k
+  Searched k = first_passing test k (drop k xs) ≡ first_passing test from (drop from xs)
 
-  -- the test is on the row's number
-  value : (k : ℕ) {v : ℕ} {p : Bool} → cell < cells → CellIs t (4 * (cells * k + cell)) v → p ≡ test v → p ≡ test (cell_in cell (cells_at t cells (4 * cells * k)))
-  value k j c is =
-      let place : 4 * (cells * k + cell) ≡ 4 * cells * k + 4 * cell = rw (mul_assoc 4 cells k) (omega arith) in
-      is ∙ ap test (row_cell t cells (4 * cells * k) cell j place c.same)
+  module _ (k : ℕ) {p : Bool} (h : k < length xs) (is : p ≡ test (get_or xs k [])) (i : Searched k) where
+    -- row k does not pass
+    pub row_fails : p ≡ false → Searched (k + 1)
+    row_fails f = let fails : test (get_or xs k []) ≡ false = sym is ∙ f in rw add-one (rw (drop-cons xs k [], fails) at i)
 
+    -- it does
+    pub row_is : p ≡ true → number k ≡ first_passing test from (drop from xs)
+    row_is f = let passes : test (get_or xs k []) ≡ true = sym is ∙ f in rw (drop-cons xs k [], passes) at i
+
+  -- none is left
+  pub no_row : (k : ℕ) → length xs ≤ k → Searched k → none ≡ first_passing test from (drop from xs)
+  no_row k h i = rw (drop_all k xs h) at i
+
+module _ (cells from : ℕ) (test : Row → Bool) (t : Table) where
   -- rows that are not there
-  pub not_stated : is_stated cells (stated t n) ≡ false → refused 22 ≡ ask_row cells cell from test (stated t n)
+  pub not_stated : is_stated cells t ≡ false → refused 22 ≡ ask_row cells from test t
   unfolding ask_row
   not_stated h = rw h
 
-  module _ (there : is_stated cells (stated t n) ≡ true) where
-    -- rows that are
-    asked_row : next_where test from (map (cell_in cell) (table_rows_of cells t n)) ≡ ask_row cells cell from test (stated t n)
-    unfolding ask_row
-    asked_row = rw there
-
-    -- no row is left
-    pub no_row : (k : ℕ) → n ≤ k → Searched k → none ≡ ask_row cells cell from test (stated t n)
-    no_row k h i = first_none cells t n (cell_in cell) test from k h i ∙ asked_row
-
-    -- row k passes
-    pub row_is : (k : ℕ) {v : ℕ} {p : Bool} → cell < cells → k < n → CellIs t (4 * (cells * k + cell)) v → p ≡ test v → p ≡ true → Searched k
-        → number k ≡ ask_row cells cell from test (stated t n)
-    row_is k j h c is₂ f i = first_found cells t n (cell_in cell) test from k h i (sym (value k j c is₂) ∙ f) ∙ asked_row
-
-  -- row k does not
-  pub row_fails : (k : ℕ) {v : ℕ} {p : Bool} → cell < cells → k < n → CellIs t (4 * (cells * k + cell)) v → p ≡ test v → p ≡ false → Searched k → Searched (k + 1)
-  row_fails k j h c is f i = first_turn cells t n (cell_in cell) test from k h i (sym (value k j c is) ∙ f)
+  -- rows that are, as they were told
+  pub asked_row : {u : Table} → (is_stated cells t ≡ true) × (u ≡ t) → first_passing test from (drop from (rows_of cells u)) ≡ ask_row cells from test t
+  unfolding ask_row
+  asked_row h = rw (h.0, h.1)
 
 -- ---- a question that such a search answers
 
--- numbers that are worked out of a cell are tested through that cell
-pub through : (g : ℕ → ℕ) (test : ℕ → Bool) (column : Row → ℕ) (k : ℕ) (rows : List Row)
-    → first_where (λ y. test (g y)) k (map column rows) ≡ first_where test k (map (λ r. g (column r)) rows)
-through g test column k [] = refl
-through g test column k (r ∷ rows) = ap (pick (test (g (column r))) (number k)) (through g test column (suc k) rows)
+-- rows tested by a number that is worked out of one of their cells are the numbers tested
+pub by_number : (column : Row → ℕ) (test : ℕ → Bool) (k : ℕ) (rows : List Row) → first_passing (λ r. test (column r)) k rows ≡ first_where test k (map column rows)
+by_number column test k [] = refl
+by_number column test k (r ∷ rows) = ap (pick (test (column r)) (number k)) (by_number column test (suc k) rows)
 
 -- and from any row on
-pub next_through : (g : ℕ → ℕ) (test : ℕ → Bool) (column : Row → ℕ) (from : ℕ) (rows : List Row)
-    → next_where (λ y. test (g y)) from (map column rows) ≡ next_where test from (map (λ r. g (column r)) rows)
-next_through g test column from rows =
-    ap (first_where (λ y. test (g y)) from) (drop_map column from rows) ∙ through g test column from (drop from rows)
-    ∙ ap (first_where test from) (sym (drop_map (λ r. g (column r)) from rows))
+pub next_by_number : (column : Row → ℕ) (test : ℕ → Bool) (from : ℕ) (rows : List Row) → first_passing (λ r. test (column r)) from (drop from rows) ≡ next_where test from (map column rows)
+next_by_number column test from rows = by_number column test from (drop from rows) ∙ ap (first_where test from) (sym (drop_map column from rows))
 
 -- one test and no more
 by_test : (b : Bool) (x : Answer) → unless22 b x ≡ unless22 (both b true) x
@@ -72,10 +65,10 @@ by_test true x = refl
 by_test false x = refl
 
 -- the search answers a question about one table whose answer it is
-pub row_answers : (q : Question) (l : ClipTables) (p : Part) (cells cell from : ℕ) (test : ℕ → Bool) (t : Table) → parts_of q ≡ p ∷ [] → part_stated l p ≡ is_stated cells t
-    → next_where test from (map (cell_in cell) (rows_of cells t)) ≡ answer q (clip_in l) → ask_row cells cell from test t ≡ ask q l
+pub row_answers : (q : Question) (l : ClipTables) (p : Part) (cells from : ℕ) (test : Row → Bool) (t : Table) → parts_of q ≡ p ∷ [] → part_stated l p ≡ is_stated cells t
+    → first_passing test from (drop from (rows_of cells t)) ≡ answer q (clip_in l) → ask_row cells from test t ≡ ask q l
 unfolding ask ask_row
-row_answers q l p cells cell from test t one is answers = rw (one, is, answers) (by_test (is_stated cells t) (answer q (clip_in l)))
+row_answers q l p cells from test t one is answers = rw (one, is, answers) (by_test (is_stated cells t) (answer q (clip_in l)))
 
 -- ---- a number of the row that was found
 

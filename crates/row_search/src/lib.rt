@@ -1,16 +1,15 @@
-// The first row of a table that passes a test of one of its numbers.
+// The first row of a table whose cells pass a test.
 #![tactic(auto)]
 
-ghost use Rattle.std.specs.Prelude.{◌≡◌, ℕ, Bool, ◌≤◌, ◌<◌, ◌%◌, eqb};
+ghost use Rattle.std.specs.Prelude.{◌≡◌, ℕ, Bool, ◌<◌, ◌%◌, eqb, drop, Ok};
+ghost use Rattle.format.specs.ClipRecord.{Row};
 ghost use Rattle.format.specs.Questions.{is_video_map};
-ghost use Rattle.format.specs.Tables.{stated};
 ghost use Rattle.queries.specs.Answers.{found_of};
-ghost use Rattle.row_search.specs.FirstRow.{Computes, ask_row};
+ghost use Rattle.table_rows.specs.AllRows.{rows_in};
+ghost use Rattle.row_search.specs.FirstRow.{Computes, first_passing};
 
-use cells::cell_at;
-use queries::Found;
 use stream_coding::is_video_map;
-use table_rows::Table;
+use table_rows::rows::Rows;
 
 // Whether the low four bits of a map's type are the ones given.
 pub fn has_kind(map_type: u32, kind: u32) -> bool
@@ -26,23 +25,19 @@ pub fn has_video_kind(map_type: u32) -> bool
     is_video_map(map_type % 16)
 }
 
-// The first row from one on, of rows with so many cells, of which one cell passes: by each test that the closure computes.
-pub fn first_row<F: Fn(u32) -> bool>(
-    table: Table,
-    cells: usize,
-    cell: usize,
+// The first row from one on that passes: by each test of a row's cells that the closure, told the row's number, computes.
+pub fn first_row<const CELLS: usize, F: Fn(u32) -> bool>(
+    rows: Rows<CELLS>,
     from: u32,
     passes: F,
-) -> Found
-    requires width { (cell < cells) × (cells ≤ 5) }
-    requires calls { F.IsAlwaysCallable passes }
-    ensures { (test : ℕ → Bool) → Computes (F.post passes) test → found_of result ≡ ask_row «cells» «cell» «from» test (stated table.entry.bytes.now table.entry.rows) }
+) -> Option<u64>
+    requires { (row : ℕ) → row < rows.count → F.pre passes row }
+    ensures { (test : Row → Bool) → Computes (F.post passes) test (rows_in rows.entry) → found_of (Ok result) ≡ first_passing test «from» (drop «from» (rows_in rows.entry)) }
 {
-    table.check(cells)?;
-    for k in from..table.rows {
-        if passes(cell_at(table.bytes, 4 * (cells * (k as usize) + cell))) {
-            return Ok(Some(u64::from(k)));
+    for row in from..rows.count {
+        if passes(row) {
+            return Some(u64::from(row));
         }
     }
-    Ok(None)
+    None
 }

@@ -7,9 +7,9 @@ use native.Mathlib.Numerals.{add-one}
 use native.Mathlib.Omega.{arith}
 use lib.ListN.{length, get_or, drop}
 use borrow.Author.Tests.{lt-ltb, le-ltb}
-use Rattle.std.proofs.Common.{Result, Ok, Err, drop-cons}
+use Rattle.std.proofs.Common.{Ok, Err, drop-cons}
 use Rattle.std.proofs.lemmas.List.{drop_all}
-use Rattle.format.specs.Bytes.{pick, both}
+use Rattle.format.specs.Bytes.{both}
 use Rattle.format.specs.ClipRecord.{Row, stc_start, stc_end}
 use Rattle.format.specs.Ticks.{Ticks45, Ticks90, doubled, less90}
 use Rattle.format.specs.Questions.{Question, first_stc_sequence, presentation_span_90k, duration45k, duration90k, Answer, refused, none, number, ticks45, ticks90, seconds, no_rate, stcs, parts_of, latest_end, least_start, presentation_span, left_of, durations_of, duration_of, minutes_left, of_stc, any_row, unless22, answer, ask}
@@ -19,7 +19,10 @@ use Rattle.ticks.specs.Times.{as90, in_ticks, IsSum}
 use Rattle.ticks.specs.declared.Minutes.{Minutes}
 use Rattle.queries.specs.Asked.{only_stcs}
 use Rattle.queries.proofs.Asking.{answered, unstated}
-use Rattle.sequence_queries.specs.Rows.{stated_rows}
+use Rattle.refusals.specs.declared.Refusal.{Refusal}
+use Rattle.refusals.specs.Numbers.{number_of}
+use Rattle.table_rows.specs.AllRows.{all_stated}
+use Rattle.table_rows.proofs.AllRows.{told, not_told}
 
 module _ (xs : List Row) where
   -- the latest of the ends seen and those left is that of all
@@ -111,29 +114,16 @@ module _ (xs : List Row) where
 
 -- ---- the tests in front
 
--- what is told by a test
-abbrev told_if : Bool → Table → Result Table ℕ
-told_if b t = pick b (Ok t) (Err 22)
-
--- where the rows are told they are the table's; where a refusal is, its number is 22
-told : (b : Bool) (t u : Table) → Ok u ≡ told_if b t → (b ≡ true) × (u ≡ t)
-told true t u h = (refl, cc)
-told false t u h = cc
-
-not_told : (b : Bool) (t : Table) {n : ℕ} → Err n ≡ told_if b t → (b ≡ false) × (n ≡ 22)
-not_told true t h = cc
-not_told false t h = (refl, cc)
-
 -- a question about the STCs of a table, and those that were told
 module _ (q : Question) (t : Table) (one : parts_of q ≡ stcs ∷ []) where
   -- a refusal is the question's
-  pub refused_by : {n : ℕ} → Err n ≡ stated_rows t → refused n ≡ ask q (only_stcs t)
+  pub refused_by : {r : Refusal} → Err r ≡ all_stated stc_cells t → refused (number_of r) ≡ ask q (only_stcs t)
   refused_by h = let r = not_told (is_stated stc_cells t) t h in rw r.1 (unstated q (only_stcs t) stcs one r.0)
 
-  module _ (u : Table) (h : Ok u ≡ stated_rows t) where
+  module _ (u : Table) (h : Ok u ≡ all_stated stc_cells t) where
     -- else they answer
     pub rows_answer : answer q (clip_in (only_stcs u)) ≡ ask q (only_stcs t)
-    rows_answer = let r = told (is_stated stc_cells t) t u h in rw r.1 (answered q (only_stcs t) stcs one r.0)
+    rows_answer = let r = told (is_stated stc_cells t) t h in rw r.1 (answered q (only_stcs t) stcs one r.0)
 
     -- a question about one row: none such, or that row answers
     module _ (k : ℕ) (f : Row → Answer) (asks : answer q (clip_in (only_stcs u)) ≡ of_stc (rows_of stc_cells u) k f) where

@@ -4,71 +4,66 @@
 ghost use Rattle.std.specs.Prelude.{◌≡◌, [], get_or, drop, suc, ◌≤◌, ◌<◌};
 ghost use Rattle.format.specs.ClipRecord.{stc_start, stc_end};
 ghost use Rattle.format.specs.Questions.{ask, first_stc_sequence, duration45k, duration90k, presentation_span_90k, minutes_remaining, latest_end, least_start, duration_of, left_of, minutes_left};
-ghost use Rattle.format.specs.Tables.{row_room, stc_cells, stated};
+ghost use Rattle.format.specs.Tables.{stc_cells, stated};
+ghost use Rattle.table_rows.specs.AllRows.{all_stated};
 ghost use Rattle.ticks.specs.Times.{as45, as90};
 ghost use Rattle.queries.specs.Answers.{found_of, time45_of, time90_of};
 ghost use Rattle.queries.specs.Asked.{only_stcs};
 
-use cells::cell_at;
 use queries::{Found, Time45, Time90};
 use refusals::Refusal;
 use table_rows::Table;
+use table_rows::rows::Rows;
 use ticks::{Minutes, Ticks45, Ticks90};
 
-// The cells of a row (PID, packet, start, end), and its bytes.
+// The cells of a row: PID, packet, start, end.
 const STC: usize = 4;
 
-const ROW: usize = 16;
+// Those that have the start and the end.
+const START: usize = 2;
 
-// Where a row's start and end stand in it.
-const START: usize = 8;
+const END: usize = 3;
 
-const END: usize = 12;
-
-// STCs that all stand in the bytes of a table.
+// The STCs of a table that all are there: a struct of this crate, for its methods.
 #[derive(Clone, Copy)]
 struct Stcs<'a> {
-    bytes: &'a [u8],
-    rows: u32,
-    ghost inside: { rows ≤ row_room stc_cells bytes.now },
+    rows: Rows<'a, STC>,
 }
 
 impl<'a> Stcs<'a> {
-    ghost use Rattle.sequence_queries.specs.Rows.{rows_in, rows_told, stated_rows};
+    ghost use Rattle.sequence_queries.specs.Rows.{stcs_in, stcs_told};
 
     // Those stated to be in a table; refused where there is no room for them.
     fn of(stcs: Table<'a>) -> Result<Stcs<'a>, Refusal>
-        ensures { rows_told result ≡ stated_rows (stated stcs.entry.bytes.now stcs.entry.rows) }
+        ensures { stcs_told result ≡ all_stated stc_cells (stated stcs.entry.bytes.now stcs.entry.rows) }
     {
-        stcs.check(STC)?;
         Ok(Stcs {
-            bytes: stcs.bytes,
-            rows: stcs.rows,
+            rows: stcs.all_rows::<STC>()?,
         })
     }
 
     // The start of an STC.
     fn start(self, stc: u32) -> Ticks45
-        requires { stc < self.rows }
-        ensures { as45 result ≡ stc_start (get_or (rows_in self.entry) stc []) }
+        requires { stc < self.rows.count }
+        ensures { as45 result ≡ stc_start (get_or (stcs_in self.entry) stc []) }
     {
-        Ticks45(cell_at(self.bytes, ROW * (stc as usize) + START))
+        Ticks45(self.rows.cell(stc, START))
     }
 
     // Its end.
     fn end(self, stc: u32) -> Ticks45
-        requires { stc < self.rows }
-        ensures { as45 result ≡ stc_end (get_or (rows_in self.entry) stc []) }
+        requires { stc < self.rows.count }
+        ensures { as45 result ≡ stc_end (get_or (stcs_in self.entry) stc []) }
     {
-        Ticks45(cell_at(self.bytes, ROW * (stc as usize) + END))
+        Ticks45(self.rows.cell(stc, END))
     }
 
     // The latest end, 0 without any.
     fn latest_end(self) -> Ticks45
-        ensures { as45 result ≡ latest_end (rows_in self.entry) }
+        ensures { as45 result ≡ latest_end (stcs_in self.entry) }
     {
         let mut latest = Ticks45(0);
-        for k in 0..self.rows {
+        for k in 0..self.rows.count {
             latest = latest.max(self.end(k));
         }
         latest
@@ -76,10 +71,10 @@ impl<'a> Stcs<'a> {
 
     // The least of a start and those of the STCs.
     fn least_start(self, first: Ticks45) -> Ticks45
-        ensures { as45 result ≡ least_start (as45 first) (rows_in self.entry) }
+        ensures { as45 result ≡ least_start (as45 first) (stcs_in self.entry) }
     {
         let mut least = first;
-        for k in 0..self.rows {
+        for k in 0..self.rows.count {
             least = least.min(self.start(k));
         }
         least
@@ -87,16 +82,16 @@ impl<'a> Stcs<'a> {
 
     // The end of an STC less its start, not below 0.
     fn duration(self, stc: u32) -> Ticks45
-        requires { stc < self.rows }
-        ensures { as45 result ≡ duration_of (get_or (rows_in self.entry) stc []) }
+        requires { stc < self.rows.count }
+        ensures { as45 result ≡ duration_of (get_or (stcs_in self.entry) stc []) }
     {
         self.end(stc).less(self.start(stc))
     }
 
     // What is left of an STC at a time: twice its end less the time, a time before twice its start taken as that, not below 0.
     fn left(self, stc: u32, at: Ticks90) -> Ticks90
-        requires { stc < self.rows }
-        ensures { as90 result ≡ left_of (get_or (rows_in self.entry) stc []) (as90 at) }
+        requires { stc < self.rows.count }
+        ensures { as90 result ≡ left_of (get_or (stcs_in self.entry) stc []) (as90 at) }
     {
         let start = self.start(stc).doubled();
         self.end(stc).doubled().less(at.later(start))
@@ -104,11 +99,11 @@ impl<'a> Stcs<'a> {
 
     // The minutes of what is left of an STC at a time and of all later ones: added up, then rounded down.
     fn minutes_from(self, stc: u32, at: Ticks90) -> u64
-        requires { stc < self.rows }
-        ensures { result ≡ minutes_left (get_or (rows_in self.entry) stc []) (drop (suc stc) (rows_in self.entry)) (as90 at) }
+        requires { stc < self.rows.count }
+        ensures { result ≡ minutes_left (get_or (stcs_in self.entry) stc []) (drop (suc stc) (stcs_in self.entry)) (as90 at) }
     {
         let mut left = Minutes::none().plus(self.left(stc, at));
-        for k in stc + 1..self.rows {
+        for k in stc + 1..self.rows.count {
             left = left.plus(self.duration(k).doubled());
         }
         left.whole
@@ -120,7 +115,7 @@ pub fn presentation_span_90k(stcs: Table) -> Time90
     ensures { time90_of result ≡ ask presentation_span_90k (only_stcs (stated stcs.entry.bytes.now stcs.entry.rows)) }
 {
     let stcs = Stcs::of(stcs)?;
-    if stcs.rows == 0 {
+    if stcs.rows.count == 0 {
         return Ok(Some(Ticks90(0)));
     }
     let latest = stcs.latest_end().doubled();
@@ -133,7 +128,7 @@ pub fn minutes_remaining(stcs: Table, stc: u32, at: Ticks90) -> Found
     ensures { found_of result ≡ ask (minutes_remaining stc (as90 at)) (only_stcs (stated stcs.entry.bytes.now stcs.entry.rows)) }
 {
     let stcs = Stcs::of(stcs)?;
-    if stc < stcs.rows {
+    if stc < stcs.rows.count {
         return Ok(Some(stcs.minutes_from(stc, at)));
     }
     Err(Refusal::Rows)
@@ -144,7 +139,7 @@ pub fn duration_45k(stcs: Table, stc: u32) -> Time45
     ensures { time45_of result ≡ ask (duration45k stc) (only_stcs (stated stcs.entry.bytes.now stcs.entry.rows)) }
 {
     let stcs = Stcs::of(stcs)?;
-    if stc >= stcs.rows {
+    if stc >= stcs.rows.count {
         return Err(Refusal::Rows);
     }
     Ok(stcs.duration(stc))
@@ -162,7 +157,7 @@ pub fn first_stc_sequence(stcs: Table) -> Found
     ensures { found_of result ≡ ask first_stc_sequence (only_stcs (stated stcs.entry.bytes.now stcs.entry.rows)) }
 {
     let stcs = Stcs::of(stcs)?;
-    if stcs.rows == 0 {
+    if stcs.rows.count == 0 {
         return Ok(None);
     }
     Ok(Some(0))

@@ -1,52 +1,49 @@
 -- Counts added up while a loop goes over the header rows, and the rows of one of them.
-use Prim.Native.Nat.{ℕ, zero, suc, ◌+◌, ◌*◌, ◌-◌, ◌<◌, ◌≤◌}
-use mathlib.Core.Path.{◌≡◌, refl, sym, ap, ◌∙◌}
+use Prim.Native.Nat.{ℕ, zero, suc, ◌+◌, ◌*◌, ◌-◌, ◌^◌, ◌<◌, ◌≤◌}
+use mathlib.Core.Path.{◌≡◌, refl, ap, ◌∙◌}
 use mathlib.Core.List.{List, [], ◌∷◌}
 use mathlib.Core.Bool.{Bool, true, false}
 use native.Mathlib.Nat.{mul_comm}
 use native.Mathlib.Omega.{arith}
+use native.Mathlib.Numerals.{add-one}
 use lib.ListN.{length, get_or, take, drop}
 use lib.Dec.{eqb}
 use borrow.Author.Tests.{leb-true, ltb-true, eqb-true, lt-ltb, le-ltb}
+use Rattle.std.proofs.Common.{drop-cons}
+use Rattle.std.proofs.lemmas.List.{drop_all}
 use Rattle.format.specs.Bytes.{both, pick, total, rows_at}
 use Rattle.format.specs.ClipRecord.{Row}
 use Rattle.format.specs.Questions.{Answer, refused, unless22, first_row, own_rows}
-use Rattle.format.specs.Tables.{Table, is_stated, add_up, is_row, rows_of, cells_at, table_rows_of, row_room, stated}
-use Rattle.format.proofs.Cell.{row_cell, cell_of}
+use Rattle.format.specs.Tables.{Table, is_stated, add_up, is_row, rows_of, cells_at, table_rows_of, row_room}
 use Rattle.format.proofs.Rows.{take_rows, drop_rows}
 use Rattle.format.proofs.Tables.{rows_stated}
 use Rattle.format.proofs.Tests.{both_true}
-use Rattle.cells.specs.Reads.{CellIs}
 use Rattle.table_rows.specs.OwnRows.{head_cells, cell_in, is_counted, may_ask, refusal, owns, owned_rows, rows_from}
-use Rattle.table_rows.proofs.Scans.{rows_left, left_all, left_turn, left_done}
 
-module _ (t : List ℕ) (n cell : ℕ) where
+module _ (xs : List Row) (cell : ℕ) where
   -- what was counted and what is left is all
   pub record Sum (k sum : ℕ) : Type 0 where
     pub small : sum ≤ 4294967295 * k
-    pub rest : sum + total (cell_in cell) (rows_left head_cells t n k) ≡ total (cell_in cell) (table_rows_of head_cells t n)
+    pub rest : sum + total (cell_in cell) (drop k xs) ≡ total (cell_in cell) xs
 
   -- before the first turn nothing is counted
   pub sum_first : Sum 0 0
-  sum_first = record { small = omega arith; rest = rw (left_all head_cells t n) (omega arith) }
+  sum_first = record { small = omega arith; rest = omega arith }
 
   -- a turn adds the count of header row k; counts are of 32 bits, so the sum stays small
-  pub sum_turn : (k sum : ℕ) {v : ℕ} → cell < head_cells → k < n → CellIs t (12 * k + 4 * cell) v → Sum k sum → Sum (k + 1) (sum + v)
-  sum_turn k sum {v} j h c i =
-      let count = row_cell t head_cells (4 * head_cells * k) cell j refl c.same in
-      let rest = rw (left_turn head_cells t n k h) at i.rest in
-      record { small = omega (arith, i.small, c.below); rest = omega (arith, rest, count) }
+  pub sum_turn : (k sum : ℕ) {v : ℕ} → k < length xs → v ≡ cell_in cell (get_or xs k []) → v < 2 ^ 32 → Sum k sum → Sum (k + 1) (sum + v)
+  sum_turn k sum {v} h is small i =
+      let rest = rw (drop-cons xs k []) at i.rest in
+      record { small = omega (arith, i.small, small); rest = rw add-one (omega (arith, rest, is)) }
 
   -- behind the last header row the sum is that of all counts
-  pub sum_done : (k sum : ℕ) → n ≤ k → Sum k sum → sum ≡ total (cell_in cell) (table_rows_of head_cells t n)
-  sum_done k sum h i = let rest = rw (left_done head_cells t n k h) at i.rest in omega arith
+  pub sum_done : (k sum : ℕ) → length xs ≤ k → Sum k sum → sum ≡ total (cell_in cell) xs
+  sum_done k sum h i = sum_is (drop_all k xs h) i.rest
+    where
+      sum_is : {left : List Row} → left ≡ [] → sum + total (cell_in cell) left ≡ total (cell_in cell) xs → sum ≡ total (cell_in cell) xs
+      sum_is e rest = let all = rw e at rest in omega (arith, all)
 
 -- ---- parts of the rows
-
--- the first h rows are those of a table with h stated
-first_rows : (t : List ℕ) (n h : ℕ) → h ≤ n → take h (table_rows_of head_cells t n) ≡ table_rows_of head_cells t h
-unfolding table_rows_of
-first_rows t n h le = take_rows (cells_at t head_cells) (λ p. p + 4 * head_cells) 0 n h le
 
 -- a count and those before it are not more than all
 total_part : (cell : ℕ) (rows : List Row) (h : ℕ) → h < length rows → total (cell_in cell) (take h rows) + cell_in cell (get_or rows h []) ≤ total (cell_in cell) rows
@@ -178,51 +175,40 @@ module _ (cell cells : ℕ) (heads rows : Table) (x : Answer) where
 
 -- ---- the tests, in their order
 
-module _ (heads rows : List ℕ) (n e cell cells : ℕ) where
-  -- the tables with their stated rows
-  abbrev Heads : Table
-  Heads = stated heads n
-
-  abbrev Rows : Table
-  Rows = stated rows e
-
+module _ (cell cells : ℕ) (heads rows : Table) where
   -- with more header rows stated than lent the rows are not counted
-  pub no_heads : is_stated head_cells Heads ≡ false → false ≡ is_counted cell cells Heads Rows
+  pub no_heads : is_stated head_cells heads ≡ false → is_counted cell cells heads rows ≡ false
   unfolding is_counted
   no_heads h = rw h
 
-  module _ (there : is_stated head_cells Heads ≡ true) where
-    -- nor with more own rows stated than lent
-    pub no_rows : is_stated cells Rows ≡ false → false ≡ is_counted cell cells Heads Rows
-    unfolding is_counted
-    no_rows h = rw (there, h)
-
-    -- with both lent, they are where the counts add up to the stated rows
-    pub counted : is_stated cells Rows ≡ true → {sum : ℕ} → sum ≡ total (cell_in cell) (table_rows_of head_cells heads n) → eqb sum e ≡ is_counted cell cells Heads Rows
-    unfolding is_counted
-    counted there₂ all = rw (there, there₂, ← all, rows_stated cells Rows.bytes Rows.rows)
-
-  -- rows that are counted are there
-  pub heads_there : is_counted cell cells Heads Rows ≡ true → n ≤ row_room head_cells heads
+  -- nor with more own rows stated than lent
+  pub no_rows : is_stated head_cells heads ≡ true → is_stated cells rows ≡ false → is_counted cell cells heads rows ≡ false
   unfolding is_counted
-  heads_there h = leb-true n (row_room head_cells heads) (both_true (both_true h).0).0
+  no_rows there h = rw (there, h)
+
+  -- with both lent, they are where the counts add up to the stated rows
+  pub counted_lem : {hs rs : Table} → (is_stated head_cells heads ≡ true) × (hs ≡ heads) → (is_stated cells rows ≡ true) × (rs ≡ rows)
+      → {sum : ℕ} → sum ≡ total (cell_in cell) (rows_of head_cells hs) → is_counted cell cells heads rows ≡ eqb sum rs.rows
+  unfolding is_counted
+  counted_lem h r all = rw (h.0, r.0, r.1, all, h.1, rows_stated cells rows.bytes rows.rows)
+
+  -- ---- the rows of one header row
 
   module _ (head : ℕ) where
     -- rows that are not counted are refused
-    pub not_counted : is_counted cell cells Heads Rows ≡ false → refusal 22 ≡ owned_rows cell cells Heads Rows head
+    pub not_counted : is_counted cell cells heads rows ≡ false → refusal 22 ≡ owned_rows cell cells heads rows head
     unfolding owned_rows may_ask
     not_counted h = rw h
 
-    -- so are those of a header row that is not one of the stated ones
-    pub no_head : is_counted cell cells Heads Rows ≡ true → n ≤ head → refusal 22 ≡ owned_rows cell cells Heads Rows head
-    unfolding owned_rows may_ask
-    no_head h l = rw (h, rows_stated head_cells Heads.bytes Heads.rows, le-ltb head n l)
+    -- rows that are, with the header rows as they were told
+    module _ {hs : Table} (h : (is_counted cell cells heads rows ≡ true) × (hs ≡ heads)) where
+      -- those of a header row that is not one of the stated ones are refused
+      pub no_head : hs.rows ≤ head → refusal 22 ≡ owned_rows cell cells heads rows head
+      unfolding owned_rows may_ask
+      no_head l = rw (h.0, rows_stated head_cells heads.bytes heads.rows, le-ltb head heads.rows (rw h.1 at l))
 
-    -- all pass
-    pub owned : is_counted cell cells Heads Rows ≡ true → head < n → cell < head_cells → {first count : ℕ} → first ≡ total (cell_in cell) (table_rows_of head_cells heads head) → CellIs heads (12 * head + 4 * cell) count
-        → owns first count ≡ owned_rows cell cells Heads Rows head
-    unfolding owned_rows may_ask
-    owned h l j {first} {count} f c =
-        let counted = cell_of head_cells heads n head cell l j (omega arith) c.same in
-        let before : first ≡ first_row (cell_in cell) (table_rows_of head_cells heads n) head = f ∙ ap (total (cell_in cell)) (sym (first_rows heads n head (omega arith))) in
-        rw (h, rows_stated head_cells Heads.bytes Heads.rows, lt-ltb head n l, ← before, ← counted)
+      -- all pass
+      pub owned : head < hs.rows → {first count : ℕ} → first ≡ total (cell_in cell) (take head (rows_of head_cells hs))
+          → count ≡ cell_in cell (get_or (rows_of head_cells hs) head []) → owns first count ≡ owned_rows cell cells heads rows head
+      unfolding owned_rows may_ask
+      owned l f c = rw (f, c, h.1, h.0, rows_stated head_cells heads.bytes heads.rows, lt-ltb head heads.rows (rw h.1 at l))

@@ -1,7 +1,7 @@
 -- Rows that belong to a row of another table: the STCs of an ATC, the streams of a program, the entries of a map.
-use Rattle.std.specs.Prelude.{ℕ, ◌+◌, ◌*◌, List, [], ◌∷◌, Bool, true, get_or, Result, Ok, Err}
+use Rattle.std.specs.Prelude.{ℕ, ◌+◌, ◌*◌, ◌<◌, ◌≤◌, List, [], ◌∷◌, Bool, true, get_or, Result, Ok, Err}
 use Rattle.format.specs.Bytes.{both, pick, rows_at}
-use Rattle.format.specs.ClipRecord.{Row}
+use Rattle.format.specs.ClipRecord.{Row, entry_cells}
 use Rattle.format.specs.Questions.{first_row}
 use Rattle.format.specs.Tables.{Table, is_stated, add_up, is_row, rows_of, cells_at}
 use Rattle.refusals.specs.declared.Refusal.{Refusal}
@@ -11,6 +11,10 @@ use Rattle.table_rows.specs.declared.own.OwnRows.{OwnRows}
 -- the cells of a row with a count: ATCs, programs and maps have as many
 abbrev pub head_cells : ℕ
 head_cells = 3
+
+-- a count stands in a cell of a header row, and the rows that it counts have cells, no more than an entry's
+abbrev pub HasCells : (count cells : ℕ) → Type 0
+HasCells count cells = (count < head_cells) × (0 < cells) × (cells ≤ entry_cells)
 
 -- the number in one cell of a row
 abbrev pub cell_in : ℕ → Row → ℕ

@@ -1,14 +1,15 @@
-// What the questions share: lent tables with the rows stated to be in them, and the rows of a header row.
+// What the questions share: lent tables with the rows stated to be in them, those rows where all are there, and the rows of a header row.
 #![tactic(auto)]
 
 pub mod own;
+pub mod rows;
 
-ghost use Rattle.std.specs.Prelude.{◌≡◌, ◌≤◌, ◌<◌, Ok, Err};
-ghost use Rattle.format.specs.Bytes.{pick};
+ghost use Rattle.std.specs.Prelude.{◌≡◌, ◌≤◌, ◌<◌};
 ghost use Rattle.format.specs.ClipRecord.{entry_cells};
-ghost use Rattle.format.specs.Tables.{is_stated, stated};
+ghost use Rattle.format.specs.Tables.{stated};
 
 use refusals::Refusal;
+use rows::Rows;
 
 // A lent table and the rows stated to be in it: its bytes may reach beyond them, or end before.
 #[derive(Clone, Copy)]
@@ -18,21 +19,18 @@ pub struct Table<'a> {
 }
 
 impl<'a> Table<'a> {
-    // Whether there is room for the rows that are stated, each of so many cells.
-    pub fn is_stated(self, cells: usize) -> bool
-        requires { (0 < cells) × (cells ≤ entry_cells) }
-        ensures { result ≡ is_stated «cells» (stated self.entry.bytes.now self.entry.rows) }
-    {
-        (self.rows as usize) <= self.bytes.len() / (4 * cells)
-    }
+    ghost use Rattle.table_rows.specs.AllRows.{all_told, all_stated};
 
-    // A refusal where there is no room for them.
-    pub fn check(self, cells: usize) -> Result<(), Refusal>
-        requires { (0 < cells) × (cells ≤ entry_cells) }
-        ensures { result ≡ pick (is_stated «cells» (stated self.entry.bytes.now self.entry.rows)) (Ok tt) (Err Refusal.Rows) }
+    // Its rows, each of so many cells, where all that are stated are there; refused where there is no room for them.
+    pub fn all_rows<const CELLS: usize>(self) -> Result<Rows<'a, CELLS>, Refusal>
+        requires { (0 < CELLS) × (CELLS ≤ entry_cells) }
+        ensures { all_told result ≡ all_stated CELLS (stated self.entry.bytes.now self.entry.rows) }
     {
-        if self.is_stated(cells) {
-            Ok(())
+        if (self.rows as usize) <= self.bytes.len() / (4 * CELLS) {
+            Ok(Rows {
+                bytes: self.bytes,
+                count: self.rows,
+            })
         } else {
             Err(Refusal::Rows)
         }

@@ -1,16 +1,16 @@
 // Rows that belong to a row of another table: where they begin, and how many there are.
-ghost use Rattle.std.specs.Prelude.{◌≡◌, ◌≤◌, ◌<◌};
-ghost use Rattle.format.specs.Bytes.{total};
-ghost use Rattle.format.specs.ClipRecord.{entry_cells};
-ghost use Rattle.format.specs.Tables.{table_rows_of, row_room, stated};
-ghost use Rattle.table_rows.specs.OwnRows.{head_cells, cell_in, is_counted, owned_of, owned_rows};
+ghost use Rattle.std.specs.Prelude.{◌≡◌, ◌<◌, Ok, Err};
+ghost use Rattle.format.specs.Bytes.{pick, total};
+ghost use Rattle.format.specs.Tables.{stated};
+ghost use Rattle.table_rows.specs.AllRows.{rows_in, all_told};
+ghost use Rattle.table_rows.specs.OwnRows.{head_cells, HasCells, cell_in, is_counted, owned_of, owned_rows};
 
 use crate::Table;
-use cells::cell_at;
+use crate::rows::Rows;
 use refusals::Refusal;
 
-// The bytes of a row with a count: of an ATC, a program or a map.
-const HEAD: usize = 12;
+// The cells of a row with a count: of an ATC, a program or a map.
+const HEAD: usize = 3;
 
 // The rows of one header row, by the first and their number.
 #[derive(Clone, Copy)]
@@ -19,46 +19,57 @@ pub struct OwnRows {
     pub count: u32,
 }
 
-// The counts of the first header rows, added up. No sum of 32-bit counts passes 64 bits.
-fn count_rows(heads: &[u8], rows: u32, cell: usize) -> u64
-    requires { (rows ≤ row_room head_cells heads.now) × (cell < head_cells) }
-    ensures { result ≡ total (cell_in «cell») (table_rows_of head_cells heads.now rows) }
+// The counts of header rows, added up. No sum of 32-bit counts passes 64 bits.
+fn count_rows<const COUNT: usize>(heads: Rows<HEAD>) -> u64
+    requires { COUNT < head_cells }
+    ensures { result ≡ total (cell_in COUNT) (rows_in heads.entry) }
 {
     let mut sum: u64 = 0;
-    for k in 0..rows {
-        sum += u64::from(cell_at(heads, HEAD * (k as usize) + 4 * cell));
+    for k in 0..heads.count {
+        sum += u64::from(heads.cell(k, COUNT));
     }
     sum
 }
 
-// Whether the rows are there and the counts of the header rows add up to them.
-pub fn adds_up(heads: Table, rows: Table, cell: usize, cells: usize) -> bool
-    requires { (cell < head_cells) × (0 < cells) × (cells ≤ entry_cells) }
-    ensures { result ≡ is_counted «cell» «cells» (stated heads.entry.bytes.now heads.entry.rows) (stated rows.entry.bytes.now rows.entry.rows) }
+// The header rows, where the rows of both tables are there and the counts in one cell of the header rows add up to the other rows, each of so many cells; else refused.
+pub fn counted<'a, const COUNT: usize, const CELLS: usize>(
+    heads: Table<'a>,
+    rows: Table,
+) -> Result<Rows<'a, HEAD>, Refusal>
+    requires { HasCells COUNT CELLS }
+    ensures { all_told result ≡ pick (is_counted COUNT CELLS (stated heads.entry.bytes.now heads.entry.rows) (stated rows.entry.bytes.now rows.entry.rows)) (Ok (stated heads.entry.bytes.now heads.entry.rows)) (Err Refusal.Rows) }
 {
-    heads.is_stated(3)
-        && rows.is_stated(cells)
-        && count_rows(heads.bytes, heads.rows, cell) == u64::from(rows.rows)
+    let heads = heads.all_rows::<HEAD>()?;
+    let rows = rows.all_rows::<CELLS>()?;
+    if count_rows::<COUNT>(heads) != u64::from(rows.count) {
+        return Err(Refusal::Rows);
+    }
+    Ok(heads)
+}
+
+// Whether the rows are there and the counts of the header rows add up to them.
+pub fn adds_up<const COUNT: usize, const CELLS: usize>(heads: Table, rows: Table) -> bool
+    requires { HasCells COUNT CELLS }
+    ensures { result ≡ is_counted COUNT CELLS (stated heads.entry.bytes.now heads.entry.rows) (stated rows.entry.bytes.now rows.entry.rows) }
+{
+    counted::<COUNT, CELLS>(heads, rows).is_ok()
 }
 
 // The rows, each of so many cells, of a header row whose count stands in the cell that is given; refused where rows are not there, counts don't add up, or there is no such header row.
-pub fn own_rows(
+pub fn own_rows<const COUNT: usize, const CELLS: usize>(
     heads: Table,
     rows: Table,
     head: u32,
-    cell: usize,
-    cells: usize,
 ) -> Result<OwnRows, Refusal>
-    requires { (cell < head_cells) × (0 < cells) × (cells ≤ entry_cells) }
-    ensures { owned_of result ≡ owned_rows «cell» «cells» (stated heads.entry.bytes.now heads.entry.rows) (stated rows.entry.bytes.now rows.entry.rows) head }
+    requires { HasCells COUNT CELLS }
+    ensures { owned_of result ≡ owned_rows COUNT CELLS (stated heads.entry.bytes.now heads.entry.rows) (stated rows.entry.bytes.now rows.entry.rows) head }
 {
-    if !adds_up(heads, rows, cell, cells) {
+    let heads = counted::<COUNT, CELLS>(heads, rows)?;
+    if head >= heads.count {
         return Err(Refusal::Rows);
     }
-    if head >= heads.rows {
-        return Err(Refusal::Rows);
-    }
-    let first = count_rows(heads.bytes, head, cell);
-    let count = cell_at(heads.bytes, HEAD * (head as usize) + 4 * cell);
-    Ok(OwnRows { first, count })
+    Ok(OwnRows {
+        first: count_rows::<COUNT>(heads.front(head)),
+        count: heads.cell(head, COUNT),
+    })
 }

@@ -4,11 +4,8 @@ use Rattle.format.specs.Tables.{stated}
 use Rattle.queries.specs.Answers.{found_of}
 use Rattle.queries.proofs.Asking.{passed_on}
 use Rattle.cpi_queries.specs.PrimaryMap.{video_or_least}
-use Rattle.cpi_queries.proofs.Choice.{else_refused, else_found, else_later, choice, maps_there}
+use Rattle.cpi_queries.proofs.Choice.{else_refused, else_found, else_later, choice}
 use Rattle.cpi_queries.proofs.primary_video_ep_map.Goals as goal
-
-pub video_or_least-requires : goal.video_or_least-requires
-video_or_least-requires c = let m = c.args.maps in maps_there (stated m.bytes.now m.rows) (rw c.in-None.is at c.in_ok-row.ensures)
 
 pub returns-in_err-row : goal.returns-in_err-row
 returns-in_err-row c =

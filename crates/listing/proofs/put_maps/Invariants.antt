@@ -12,4 +12,4 @@ abbrev pub invariant-loop-i : goal.invariant-loop-i
 invariant-loop-i l =
     let maps = l.maps.bytes.now in
     (l.k ≡ total entry_count (maps_from maps 0 l.i))
-    × PutsIn (37 * l.i + 25 * l.k) l.initial.text (map_lines (maps_from maps 0 l.i) (entries_from l.entries.bytes.now 0 l.entries.rows)) l.text
+    × PutsIn (37 * l.i + 25 * l.k) l.initial.text (map_lines (maps_from maps 0 l.i) (entries_from l.entries.bytes.now 0 l.entries.count)) l.text

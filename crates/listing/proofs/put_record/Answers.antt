@@ -12,7 +12,7 @@ pub put_maps-requires : goal.put_maps-requires
 unfolding table_rows_of
 put_maps-requires c =
     let lines = in_then c.put_line.ensures (in_then c.put_line-2.ensures c.put_line-3.ensures) in
-    (c.requires.map_rows_of, c.requires.entry_rows_of, c.requires.counts, omega (arith, lines.short, lines.text.size, c.requires.room), c.requires.times_fit)
+    (c.requires.counts, omega (arith, lines.short, lines.text.size, c.requires.room), c.requires.times_fit)
 
 pub put_line-requires-4 : goal.put_line-requires-4
 put_line-requires-4 c =

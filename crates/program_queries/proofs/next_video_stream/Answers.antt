@@ -1,9 +1,16 @@
--- The search of the table answers the question.
-use mathlib.Core.Path.{◌∙◌}
-use Rattle.std.proofs.Common.{rules}
+-- Rows that are not there are refused; the search of those that are answers the question.
+use mathlib.Core.Path.{ap, ◌∙◌}
 use Rattle.format.specs.Programs.{is_video}
+use Rattle.std.proofs.Common.{rules}
+use Rattle.queries.specs.Answers.{found_of}
+use Rattle.table_rows.specs.OwnRows.{cell_in}
+use Rattle.table_rows.proofs.AllRows.{told, returned}
+use Rattle.row_search.proofs.FirstRow.{not_stated, asked_row}
 use Rattle.program_queries.proofs.Laws.{video_asked}
 use Rattle.program_queries.proofs.next_video_stream.Goals as goal
 
+pub returns-in_err-streams : goal.returns-in_err-streams
+returns-in_err-streams c = let r = returned _ _ c.from_residual.result c.from_residual.ensures.1 c.in_err-streams.ensures in ap found_of r.1 ∙ not_stated _ _ _ _ r.0 ∙ video_asked _ c.args.from
+
 pub returns : goal.returns
-returns c = c.first_row.ensures is_video (λ x r post. search rules) ∙ video_asked _ _
+returns c = c.first_row.ensures (λ r. is_video (cell_in 1 r)) (λ k within passes post. search rules) ∙ asked_row _ _ _ _ (told _ _ c.in_ok-streams.ensures) ∙ video_asked _ c.args.from

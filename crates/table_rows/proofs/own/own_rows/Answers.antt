@@ -1,24 +1,15 @@
 -- Each test that fails refuses; behind them stand the first row and the count.
-use mathlib.Core.Path.{sym, ◌∙◌}
-use native.Mathlib.Omega.{arith}
-use Rattle.table_rows.proofs.OwnRows.{heads_there, not_counted, no_head, owned}
+use Rattle.table_rows.proofs.AllRows.{told, returned}
+use Rattle.table_rows.proofs.OwnRows.{not_counted, no_head, owned}
 use Rattle.table_rows.proofs.own.own_rows.Goals as goal
 
-pub returns-then-not-adds_up : goal.returns-then-not-adds_up
-returns-then-not-adds_up c = not_counted _ _ _ _ _ _ _ (sym c.adds_up.ensures ∙ c.if-not-adds_up.true)
+pub returns-in_err-heads : goal.returns-in_err-heads
+returns-in_err-heads g c =
+    let r = returned _ _ c.from_residual.result c.from_residual.ensures.1 c.in_err-heads.ensures in
+    rw r.1 (not_counted _ _ _ _ _ r.0)
 
 pub returns-then-head-heads : goal.returns-then-head-heads
-returns-then-head-heads c = no_head _ _ _ _ _ _ _ (sym c.adds_up.ensures ∙ c.if-not-adds_up.false) c.if-head-heads.true
-
-pub count_rows-first-requires : goal.count_rows-first-requires
-count_rows-first-requires c =
-    let there = heads_there _ _ _ _ _ _ (sym c.adds_up.ensures ∙ c.if-not-adds_up.false) in
-    (omega (arith, there, c.if-head-heads.false), c.requires.0)
-
-pub cell_at-count-requires : goal.cell_at-count-requires
-cell_at-count-requires c =
-    let there = heads_there _ _ _ _ _ _ (sym c.adds_up.ensures ∙ c.if-not-adds_up.false) in
-    omega (arith, there, c.if-head-heads.false, c.requires.0)
+returns-then-head-heads g c = no_head _ _ _ _ _ (told _ _ c.in_ok-heads.ensures) c.if-head-heads.true
 
 pub returns : goal.returns
-returns c = owned _ _ _ _ _ _ _ (sym c.adds_up.ensures ∙ c.if-not-adds_up.false) c.if-head-heads.false c.requires.0 c.count_rows-first.ensures c.cell_at-count.ensures
+returns g c = owned _ _ _ _ _ (told _ _ c.in_ok-heads.ensures) c.if-head-heads.false (rw c.front.ensures at c.count_rows.ensures) c.cell.ensures
