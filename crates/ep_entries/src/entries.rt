@@ -44,7 +44,7 @@ fn put_stretch(
     ensures { table.new ≡ sets table.old (at + entry_size * from) (stretch_bytes file.now m.kind w.time w.packet m.fine from end) }
 {
     for k in from..end {
-        let entry = join(u32_at(file, m.fine + 4 * k), w, m.kind);
+        let entry = join(u32_at::<4>(file, m.fine + 4 * k), w, m.kind);
         entry.put(table, at + SIZE * k);
     }
 }
