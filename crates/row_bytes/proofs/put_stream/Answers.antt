@@ -45,8 +45,8 @@ pub put_u32-requires-else-row-eq0 : goal.put_u32-requires-else-row-eq0
 put_u32-requires-else-row-eq0 c =
     let room : c.args.at + 8 ≤ length c.args.out.now = rw (tagged_length c.args.row c.is_video.ensures c.if-is_video.false c.if-row-eq0.false) at c.requires in search rules
 
-pub put_u32-3-requires : goal.put_u32-3-requires
-put_u32-3-requires c =
+pub put_u32-requires-else-row-eq0-2 : goal.put_u32-requires-else-row-eq0-2
+put_u32-requires-else-row-eq0-2 c =
     let room : c.args.at + 8 ≤ length c.args.out.now = rw (tagged_length c.args.row c.is_video.ensures c.if-is_video.false c.if-row-eq0.false) at c.requires in search rules
 
 pub returns-else-row-eq0 : goal.returns-else-row-eq0
@@ -56,5 +56,5 @@ returns-else-row-eq0 c =
       value = rw (tagged_length r c.is_video.ensures c.if-is_video.false c.if-row-eq0.false);
       out_after = rw (tagged_bytes r c.is_video.ensures c.if-is_video.false c.if-row-eq0.false)
           (part_then a.out.now a.at 5 (head_of r 5) (bytes_of 1 (get_or r 4 0 / 65536) ++ bytes_of 2 (get_or r 4 0)) (head_length r 5) refl c.put_stream_head-else-row-eq0.ensures
-          (field_then _ (a.at + 5) 1 (get_or r 4 0 / 65536) _ (sym (add_assoc a.at 5 1)) c.put_u32-else-row-eq0.ensures c.put_u32-3.ensures));
+          (field_then _ (a.at + 5) 1 (get_or r 4 0 / 65536) _ (sym (add_assoc a.at 5 1)) c.put_u32-else-row-eq0.ensures c.put_u32-else-row-eq0-2.ensures));
     }
