@@ -7,7 +7,7 @@ ghost use Rattle.clip_information.specs.Fill.{SectionsFit, ListFits, MarksThere}
 
 use common::header::Starts;
 use extension::ListData;
-use numbers::u16_at;
+use numbers::u32_at;
 use section_heads::Section;
 
 // Tables 1 to 6; the maps are counted already.
@@ -69,5 +69,5 @@ pub(crate) fn mark_count(file: &[u8], start: usize) -> u32
     if file.len() <= start {
         return 0;
     }
-    u16_at(file, start + 4)
+    u32_at::<2>(file, start + 4)
 }

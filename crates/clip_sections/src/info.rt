@@ -3,7 +3,7 @@ ghost use Rattle.std.specs.Prelude.{◌≡◌, ◌≤◌, length};
 ghost use Rattle.clip_sections.specs.Infos.{clip_info_of};
 
 use common::header::BdmvHeader;
-use numbers::{u8_at, u32_at};
+use numbers::u32_at;
 
 // The letters, the version and the ClipInfo fields, as C has them too.
 #[repr(C)]
@@ -28,11 +28,11 @@ pub fn clip_info(file: &[u8]) -> ClipInfo
     ClipInfo {
         letters: header.type_indicator,
         version: header.version_number,
-        clip_stream_type: u8_at(file, 46),
-        application_type: u8_at(file, 47),
-        ts_recording_rate: u32_at(file, 52),
-        number_of_source_packets: u32_at(file, 56),
-        validity_flags: u8_at(file, 188),
-        format_id: u32_at(file, 190),
+        clip_stream_type: u32_at::<1>(file, 46),
+        application_type: u32_at::<1>(file, 47),
+        ts_recording_rate: u32_at::<4>(file, 52),
+        number_of_source_packets: u32_at::<4>(file, 56),
+        validity_flags: u32_at::<1>(file, 188),
+        format_id: u32_at::<4>(file, 190),
     }
 }

@@ -49,7 +49,7 @@ fn front(file: &[u8]) -> Result<(), Refusal>
     if len < 194 {
         return Err(Refusal::ClipInfo);
     }
-    if len - 44 < u32_at(file, 40) as usize {
+    if len - 44 < u32_at::<4>(file, 40) as usize {
         return Err(Refusal::ClipInfo);
     }
     Ok(())

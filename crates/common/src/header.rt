@@ -46,8 +46,8 @@ impl BdmvHeader {
         ensures { HeaderIs file.now result }
     {
         BdmvHeader {
-            type_indicator: u32_at(file, 0),
-            version_number: u32_at(file, 4),
+            type_indicator: u32_at::<4>(file, 0),
+            version_number: u32_at::<4>(file, 4),
         }
     }
 
@@ -74,11 +74,11 @@ impl Starts {
         ensures { StartsAre file.now result }
     {
         Starts {
-            sequences: u32_at(file, 8) as usize,
-            programs: u32_at(file, 12) as usize,
-            cpi: u32_at(file, 16) as usize,
-            marks: u32_at(file, 20) as usize,
-            extensions: u32_at(file, 24) as usize,
+            sequences: u32_at::<4>(file, 8) as usize,
+            programs: u32_at::<4>(file, 12) as usize,
+            cpi: u32_at::<4>(file, 16) as usize,
+            marks: u32_at::<4>(file, 20) as usize,
+            extensions: u32_at::<4>(file, 24) as usize,
         }
     }
 }

@@ -5,7 +5,7 @@ ghost use Rattle.cpi.specs.Maps.{cpi_head, map_rows_of, maps_measured, cpi_measu
 
 use common::reader::Reader;
 use ep_rows::map_header;
-use numbers::{be_at, u8_at, u16_at, u32_at};
+use numbers::{be_at, u32_at};
 use refusals::Refusal;
 
 // The headers of a section's maps, all of them in the file, and where the section ends.
@@ -38,13 +38,13 @@ fn read_head(file: &[u8], start: usize) -> Result<Option<Headers>, Refusal>
     if len < 2 {
         return Ok(None);
     }
-    if u16_at(file, start + 4) % 16 != 1 {
+    if u32_at::<2>(file, start + 4) % 16 != 1 {
         return Ok(None);
     }
     if len < 4 {
         return Ok(None);
     }
-    let count = u8_at(file, start + 7) as usize;
+    let count = u32_at::<1>(file, start + 7) as usize;
     Reader { pos: start + 8 }
         .skip(file, 12 * count)
         .ok_or(Refusal::Cpi)?;
@@ -60,14 +60,14 @@ fn map_rows(file: &[u8], start: usize, end: usize, q: usize) -> Result<usize, Re
     ensures { numbered result ≡ map_rows_of file.now start q }
 {
     let header = map_header(be_at::<6>(file, q + 2));
-    let body = start + 6 + u32_at(file, q + 8) as usize;
+    let body = start + 6 + u32_at::<4>(file, q + 8) as usize;
     if end <= body {
         return Err(Refusal::MapAddress);
     }
     if file.len() < body + 4 + 8 * (header.num_coarse as usize) {
         return Err(Refusal::MapBody);
     }
-    let fine = body + u32_at(file, body) as usize;
+    let fine = body + u32_at::<4>(file, body) as usize;
     if end < fine {
         return Err(Refusal::FineAddress);
     }

@@ -12,7 +12,7 @@ use entry_rows::SIZE;
 use ep_entries::body::map_body;
 use ep_entries::entries::{TableForm, put_entries};
 use ep_rows::map_header;
-use numbers::{be_at, u16_at};
+use numbers::{be_at, u32_at};
 
 // One map's row: PID, type, entry count.
 fn put_map(file: &[u8], q: usize, table: &mut [u8], at: usize)
@@ -20,7 +20,7 @@ fn put_map(file: &[u8], q: usize, table: &mut [u8], at: usize)
     ensures { table.new ≡ sets table.old at (row_bytes_of (map_at file.now q)) }
 {
     let header = map_header(be_at::<6>(file, q + 2));
-    let pid = u16_at(file, q);
+    let pid = u32_at::<2>(file, q);
     put_row(table, at, [pid, header.ep_stream_type, header.num_fine]);
 }
 

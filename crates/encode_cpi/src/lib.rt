@@ -13,7 +13,7 @@ use entry_rows::SIZE;
 use entry_rows::entries::MapEntries;
 use entry_runs::count_runs;
 use map_rows::MAP;
-use numbers::{put_u8, put_u16, put_u32};
+use numbers::put_u32;
 use refusals::Refusal;
 use table_rows::Table;
 
@@ -71,10 +71,10 @@ pub fn put_top(behind: u32, n: u32, out: &mut [u8], at: usize)
     requires { at + 8 ≤ length out.old }
     ensures { out.new ≡ sets out.old at (field_bytes (4 ∷ 2 ∷ 1 ∷ 1 ∷ []) (behind ∷ 1 ∷ 0 ∷ n ∷ [])) }
 {
-    put_u32(out, at, behind);
-    put_u16(out, at + 4, 1);
-    put_u8(out, at + 6, 0);
-    put_u8(out, at + 7, n);
+    put_u32::<4>(out, at, behind);
+    put_u32::<2>(out, at + 4, 1);
+    put_u32::<1>(out, at + 6, 0);
+    put_u32::<1>(out, at + 7, n);
 }
 
 // The section of these maps and entries, which has `len` bytes, from `at`: without maps a length of 0 alone. Answers the place behind it.
@@ -84,7 +84,7 @@ pub fn put_cpi(maps: Table, entries: Table, len: usize, out: &mut [u8], at: usiz
     ensures out_after { out.new ≡ sets out.old at (cpi_bytes_by (map_rows_of maps.entry.bytes.now maps.entry.rows) (entry_rows_of entries.entry.bytes.now entries.entry.rows)) }
 {
     if maps.rows == 0 {
-        put_u32(out, at, 0);
+        put_u32::<4>(out, at, 0);
         return at + 4;
     }
     put_top((len - 4) as u32, maps.rows, out, at);

@@ -1,4 +1,4 @@
--- Zeros, and the head in its two parts.
+-- The head in its two parts.
 use Prim.Native.Nat.{ℕ, suc, ◌+◌, ◌-◌, ◌^◌, ◌<◌, ◌≤◌}
 use mathlib.Core.Path.{◌≡◌, refl, sym, ap, ◌∙◌}
 use mathlib.Core.List.{List, [], ◌∷◌, ◌++◌, append_assoc}
@@ -14,31 +14,6 @@ use Rattle.format.proofs.Numbers.{bytes_length, widths_length}
 use Rattle.format.proofs.Loops.{one_left, put_more}
 use Rattle.format.proofs.Stores.{sets_append, bytes_parts}
 use Rattle.encode_head.specs.Heads.{header_widths, header_numbers, info_widths, info_numbers}
-
--- zeros: one, and the rest
-zeros_more : (n : ℕ) → bytes_of (suc n) 0 ≡ bytes_of 1 0 ++ bytes_of n 0
-zeros_more n = ap (λ (m : ℕ). bytes_of m 0) (sym (one-add n)) ∙ bytes_parts 1 n 0 ∙ ap (λ (v : ℕ). bytes_of 1 v ++ bytes_of n 0) (zero-div (256 ^ n))
-
--- at first all are left
-pub zeros_first : (at n : ℕ) (l : List ℕ) → sets l (at + 0) (bytes_of (n - 0) 0) ≡ sets l at (bytes_of n 0)
-zeros_first at n l =
-    let place : at + 0 ≡ at = omega arith in
-    let all : n - 0 ≡ n = omega arith in
-    rw (place, all)
-
--- one zero stored, and what is left goes behind it
-pub zeros_turn : (at n k : ℕ) (l : List ℕ) {l' whole : List ℕ} → k < n → l' ≡ sets l (at + k) (bytes_of 1 0)
-    → sets l (at + k) (bytes_of (n - k) 0) ≡ whole → sets l' (at + (k + 1)) (bytes_of (n - (k + 1)) 0) ≡ whole
-zeros_turn at n k l h e f =
-    let all : bytes_of (n - k) 0 ≡ bytes_of 1 0 ++ bytes_of (n - (k + 1)) 0 = ap (λ (m : ℕ). bytes_of m 0) (one_left n k h) ∙ zeros_more (n - (k + 1)) in
-    rw (← add_assoc at k 1) (put_more l (at + k) 1 (bytes_of 1 0) (bytes_of (n - (k + 1)) 0) (bytes_length 1 0) e (rw all at f))
-
--- after the last turn none is left
-pub zeros_done : (at n k : ℕ) (l : List ℕ) {whole : List ℕ} → n ≤ k → sets l (at + k) (bytes_of (n - k) 0) ≡ whole → l ≡ whole
-unfolding bytes_of
-zeros_done at n k l h f =
-    let none : n - k ≡ 0 = omega arith in
-    rw none at f
 
 -- fields, and more fields behind them
 fields_append : (ws vs more values : List ℕ) → length ws ≡ length vs → field_bytes (ws ++ more) (vs ++ values) ≡ field_bytes ws vs ++ field_bytes more values

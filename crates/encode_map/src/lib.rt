@@ -61,7 +61,7 @@ fn put_body(entries: MapEntries, out: &mut [u8], end: usize) -> usize
 {
     let fine = end - 4 * entries.count;
     let coarse = put_rows(entries, out, fine);
-    put_u32(out, coarse - 4, (fine - coarse + 4) as u32);
+    put_u32::<4>(out, coarse - 4, (fine - coarse + 4) as u32);
     coarse - 4
 }
 

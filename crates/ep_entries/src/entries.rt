@@ -87,7 +87,7 @@ fn put_stretch<F: EntryForm>(
 {
     for k in from..end {
         F::put(
-            u32_at(file, m.fine + 4 * k),
+            u32_at::<4>(file, m.fine + 4 * k),
             w,
             m.kind,
             out,

@@ -9,7 +9,7 @@ ghost use Rattle.extension.specs.Block.{block_head, Block, InBlock, EntryIs, ent
 
 use cells::put_row;
 use common::reader::Reader;
-use numbers::{u16_at, u32_at};
+use numbers::u32_at;
 
 // The head and each entry, in bytes.
 const SIZE: usize = 12;
@@ -82,8 +82,8 @@ fn entry_at(file: &[u8], start: usize, end: usize, p: usize) -> Option<Extension
     requires { InBlock file.now start end p }
     ensures { EntryIs file.now start p result }
 {
-    let addr = u32_at(file, p + 4);
-    let len = u32_at(file, p + 8);
+    let addr = u32_at::<4>(file, p + 4);
+    let len = u32_at::<4>(file, p + 8);
     if addr == 0 {
         return None;
     }
@@ -92,8 +92,8 @@ fn entry_at(file: &[u8], start: usize, end: usize, p: usize) -> Option<Extension
         return None;
     }
     Some(ExtensionDataEntry {
-        id1: u16_at(file, p),
-        id2: u16_at(file, p + 2),
+        id1: u32_at::<2>(file, p),
+        id2: u32_at::<2>(file, p + 2),
         start: s as u32,
         len,
     })

@@ -9,7 +9,7 @@ ghost use Rattle.common.specs.Reader.{moved_to};
 ghost use Rattle.info_sections.specs.Sections.{head_at, count_place, group_rows, own_cells, next_head, heads_from, section_rows, section_measured, GroupThere, Fillable};
 
 use common::reader::{Reader, read_count};
-use numbers::u8_at;
+use numbers::u32_at;
 use program_info::{put_program, put_streams, skip_program};
 use section_heads::Section;
 use sequence_info::{put_atc, put_stcs, skip_atc};
@@ -37,8 +37,8 @@ fn own_count(section: Section, file: &[u8], p: usize) -> u32
     ensures { ReadIs file.now (count_place section p) 1 result }
 {
     match section {
-        Section::Sequences => u8_at(file, p + 4),
-        Section::Programs => u8_at(file, p + 6),
+        Section::Sequences => u32_at::<1>(file, p + 4),
+        Section::Programs => u32_at::<1>(file, p + 6),
     }
 }
 
@@ -102,7 +102,7 @@ pub fn fill(section: Section, file: &[u8], start: usize, heads: &mut [u8], rows:
     ensures heads_after { heads.new ≡ overwritten (table_bytes (heads_from section file.now start)) heads.old }
     ensures rows_after { rows.new ≡ overwritten (table_bytes (section_rows section file.now start)) rows.old }
 {
-    let count = u8_at(file, start + 5) as usize;
+    let count = u32_at::<1>(file, start + 5) as usize;
     let step = row_size(section);
     let mut p = start + 6;
     let mut to: usize = 0;

@@ -35,13 +35,6 @@ pub put_below : (o : List ℕ) (at w : ℕ) (part rest : List ℕ) {at' : ℕ} {
 put_below o at w part rest size e p q =
     q ∙ rw (p, e, ← size) (sets_before o at part (at + length part) rest (omega arith) ∙ sym (sets_append o at part rest))
 
--- two bytes and four are six
-pub six_stored : (o : List ℕ) (at v : ℕ) {t t' : List ℕ} → t ≡ sets o at (bytes_of 2 (v / 4294967296)) → t' ≡ sets t (at + 2) (bytes_of 4 (v % 4294967296))
-    → t' ≡ sets o at (bytes_of 6 v)
-six_stored o at v p q =
-    field_then o at 2 (v / 4294967296) (bytes_of 4 (v % 4294967296)) refl p q
-    ∙ ap (sets o at) (ap (λ (l : List ℕ). bytes_of 2 (v / 4294967296) ++ l) (bytes_low 4 v) ∙ sym (bytes_parts 2 4 v))
-
 -- ---- rows
 
 -- a header of which the counts fit

@@ -12,28 +12,19 @@ use ep_rows::{
     CoarseRow, FineRow, MapHeader, coarse_row_word, coarse_time_of, fine_packet_of, fine_row_word,
     fine_time_of, map_header_word,
 };
-use numbers::{put_u16, put_u32, put_u64};
+use numbers::{put_be, put_u32};
 
 // The bytes of a map's header; its row in the table of maps has as many.
 pub const MAP: usize = 12;
-
-// Stores the six lowest bytes of v from `at`: the one place that stores six.
-fn put_u48(out: &mut [u8], at: usize, v: u64)
-    requires { at + 6 ≤ length out.old }
-    ensures { out.new ≡ sets out.old at (bytes_of 6 v) }
-{
-    put_u16(out, at, (v / 4294967296) as u32);
-    put_u32(out, at + 2, (v % 4294967296) as u32);
-}
 
 // A map's header from `at`: PID, the packed type and counts, the body's address.
 pub fn put_header(pid: u32, header: MapHeader, address: u32, out: &mut [u8], at: usize)
     requires { (header.ep_stream_type < 2 ^ 4) × (header.num_coarse < 2 ^ 16) × (header.num_fine < 2 ^ 18) × (at + 12 ≤ length out.old) }
     ensures { out.new ≡ sets out.old at (field_bytes (2 ∷ 6 ∷ 4 ∷ []) (pid ∷ packed header_widths (0 ∷ header.ep_stream_type ∷ header.num_coarse ∷ header.num_fine ∷ []) ∷ address ∷ [])) }
 {
-    put_u16(out, at, pid);
-    put_u48(out, at + 2, map_header_word(header));
-    put_u32(out, at + 8, address);
+    put_u32::<2>(out, at, pid);
+    put_be::<6>(out, at + 2, map_header_word(header));
+    put_u32::<4>(out, at + 8, address);
 }
 
 // The coarse row of a run from `at`: the number of its first row, and that entry's time and full packet.
@@ -46,7 +37,7 @@ pub fn put_coarse_row(first_fine: u32, entry: EntryRow, out: &mut [u8], at: usiz
         time: coarse_time_of(entry.time),
         packet: entry.packet,
     });
-    put_u64(out, at, word);
+    put_be::<8>(out, at, word);
 }
 
 // The fine row of an entry from `at`.
@@ -60,5 +51,5 @@ pub fn put_fine_row(entry: EntryRow, out: &mut [u8], at: usize)
         time: fine_time_of(entry.time),
         packet: fine_packet_of(entry.packet),
     });
-    put_u32(out, at, word);
+    put_u32::<4>(out, at, word);
 }

@@ -64,7 +64,7 @@ pub fn put_body(file: &[u8], m: MapBody, out: &mut [u8], at: usize) -> usize
     ensures out_after { out.new ≡ sets out.old at (body_bytes (entries_in file.now m)) }
 {
     let fine = put_coarse(file, m, out, at + 4);
-    put_u32(out, at, (fine - at) as u32);
+    put_u32::<4>(out, at, (fine - at) as u32);
     put_entries::<FineForm>(file, m, out, fine);
     (fine - at - 4) / 8
 }

@@ -31,7 +31,7 @@ pub fn meet(file: &[u8], m: MapBody, k: usize, from: Walk) -> Met
     ensures { IsMet file.now m k result }
 {
     let walk = from.reach(file, m, k);
-    let entry = join(u32_at(file, m.fine + 4 * k), walk, m.kind);
+    let entry = join(u32_at::<4>(file, m.fine + 4 * k), walk, m.kind);
     Met { walk, entry }
 }
 

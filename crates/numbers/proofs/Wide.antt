@@ -2,7 +2,7 @@
 use Prim.Native.Nat.{ℕ, zero, suc, ◌+◌, ◌*◌, ◌-◌, ◌<◌, ◌≤◌, ◌^◌}
 use mathlib.Core.Path.{◌≡◌, refl, ◌∙◌}
 use mathlib.Core.List.{List, [], ◌∷◌, ◌++◌}
-use native.Mathlib.Nat.{zero-add}
+use native.Mathlib.Nat.{zero-add, suc-add, pow-suc}
 use native.Mathlib.Omega.{arith}
 use borrow.Rule.Slice.PartMut.{put_mid}
 use lib.ListN.{length, get_or, take, drop, get_or-append}
@@ -72,3 +72,15 @@ number_read s bytes at n few inside {part' = p} {r = r} e f =
     let count : at + n - at ≡ n = omega arith in
     let is : r ≡ be_at s at n = f ∙ rw (e, count) (be_eight _ ∙ eight_is s at n few inside _) in
     record { same = is; below = rw is (be_below s bytes at n) }
+
+-- a number of n bytes fits as many more
+powers : (m n : ℕ) → 256 ^ n ≤ 256 ^ (m + n)
+powers zero n = rw (zero-add n) (omega arith)
+powers (suc m) n = rw (suc-add m n, pow-suc) (omega (arith, powers m n))
+
+-- of four at most, a cell
+pub cell_fits : (n : ℕ) → n ≤ 4 → {r : ℕ} → r < 256 ^ n → r < 4294967296
+cell_fits n few {r = r} h =
+    let all : 4 - n + n ≡ 4 = omega arith in
+    let most : 256 ^ n ≤ 256 ^ 4 = (rw all at (powers (4 - n) n)) in
+    omega (arith, most, h)

@@ -10,7 +10,7 @@ ghost use Rattle.common.specs.Reader.{moved_to};
 
 use cells::put_row;
 use common::reader::{Reader, read_count};
-use numbers::{u8_at, u16_at, u32_at};
+use numbers::u32_at;
 use stream_coding_info::put_stream;
 
 // Past the stream at the reader and its body.
@@ -50,7 +50,11 @@ pub fn put_program(file: &[u8], p: usize, table: &mut [u8], at: usize)
     put_row(
         table,
         at,
-        [u32_at(file, p), u16_at(file, p + 4), u8_at(file, p + 6)],
+        [
+            u32_at::<4>(file, p),
+            u32_at::<2>(file, p + 4),
+            u32_at::<1>(file, p + 6),
+        ],
     );
 }
 
@@ -63,7 +67,7 @@ pub fn put_streams(file: &[u8], p: usize, n: usize, table: &mut [u8], at: usize)
     let mut q = p;
     for k in 0..n {
         put_stream(file, q, table, at + 20 * k);
-        q = q + 3 + u8_at(file, q + 2) as usize;
+        q = q + 3 + u32_at::<1>(file, q + 2) as usize;
     }
     q
 }

@@ -15,7 +15,7 @@ use ep_rows::MapHeader;
 use map_rows::{MAP, put_header};
 use map_runs::body::put_body;
 use map_runs::walked::count_runs;
-use numbers::{put_u32, u16_at};
+use numbers::{put_u32, u32_at};
 use refusals::Refusal;
 use rewrite_program::Places;
 
@@ -47,7 +47,7 @@ fn put_map(file: &[u8], k: usize, from: Places, out: &mut [u8], body: usize) -> 
 {
     let q = from.file + 8 + MAP * k;
     let m = map_body(file, from.file, q);
-    let pid = u16_at(file, q);
+    let pid = u32_at::<2>(file, q);
     let address = (body - (from.out + 6)) as u32;
     let runs = put_body(file, m, out, body);
     let header = MapHeader {
@@ -79,7 +79,7 @@ pub fn put_cpi(file: &[u8], from: Places, count: usize, len: usize, out: &mut [u
     ensures out_after { out.new ≡ sets out.old from.out (cpi_bytes_by (maps_from file.now from.file) (entries_from file.now from.file)) }
 {
     if count == 0 {
-        put_u32(out, from.out, 0);
+        put_u32::<4>(out, from.out, 0);
         return from.out + 4;
     }
     put_top((len - 4) as u32, count as u32, out, from.out);

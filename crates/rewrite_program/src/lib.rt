@@ -8,7 +8,7 @@ ghost use Rattle.format.specs.Programs.{stream_at, next_stream, program_at, next
 ghost use Rattle.row_values.specs.Kinds.{row3, row5};
 ghost use Rattle.rewrite_program.specs.Programs.{new_streams, streams_behind, new_program, program_behind};
 
-use numbers::{u8_at, u16_at, u32_at};
+use numbers::u32_at;
 use row_bytes::put_row;
 use row_values::{Row, RowKind, row_length};
 use stream_coding_info::stream_at;
@@ -40,7 +40,7 @@ fn next_stream(file: &[u8], p: usize) -> usize
     requires { next_stream file.now p ≤ length file.now }
     ensures { result ≡ next_stream file.now p }
 {
-    p + 3 + u8_at(file, p + 2) as usize
+    p + 3 + u32_at::<1>(file, p + 2) as usize
 }
 
 // Where the n streams end that begin at these places: in the file, and in an output that has their new bytes.
@@ -62,7 +62,7 @@ pub fn measure_program(file: &[u8], from: Places) -> Places
     requires { (next_program file.now from.file ≤ length file.now) × (from.out + length (new_program file.now from.file) < 2 ^ 32) }
     ensures { result ≡ program_behind file.now from.file from.out }
 {
-    let num_streams = u8_at(file, from.file + 6) as usize;
+    let num_streams = u32_at::<1>(file, from.file + 6) as usize;
     let streams = Places {
         file: from.file + 8,
         out: from.out + 8,
@@ -76,9 +76,9 @@ fn program_row(file: &[u8], p: usize) -> Row
     ensures { row3 result ≡ program_at file.now p }
 {
     [
-        u32_at(file, p),
-        u16_at(file, p + 4),
-        u8_at(file, p + 6),
+        u32_at::<4>(file, p),
+        u32_at::<2>(file, p + 4),
+        u32_at::<1>(file, p + 6),
         0,
         0,
     ]
@@ -106,7 +106,7 @@ pub fn put_program(file: &[u8], from: Places, out: &mut [u8]) -> Places
 {
     let row = program_row(file, from.file);
     let behind = put_row(RowKind::Program, row, out, from.out);
-    let num_streams = u8_at(file, from.file + 6) as usize;
+    let num_streams = u32_at::<1>(file, from.file + 6) as usize;
     let streams = Places {
         file: from.file + 8,
         out: behind,

@@ -7,7 +7,7 @@ ghost use Rattle.format.specs.Bytes.{end_of};
 ghost use Rattle.format.specs.Programs.{next_program, programs_end};
 ghost use Rattle.rewrite_sections.specs.Sections.{new_sequences, SequencesRoom, new_items, new_programs, ProgramsRoom};
 
-use numbers::{copy, u8_at};
+use numbers::{copy, u32_at};
 use rewrite_program::{Places, measure_program, put_program};
 use section_heads::put_head;
 
@@ -40,7 +40,7 @@ pub fn programs_length(file: &[u8], start: usize) -> usize
     requires { programs_end file.now start ≤ length file.now }
     ensures { result ≡ length (new_programs file.now start) }
 {
-    let num_programs = u8_at(file, start + 5) as usize;
+    let num_programs = u32_at::<1>(file, start + 5) as usize;
     let items = Places {
         file: start + 6,
         out: 6,
@@ -67,7 +67,7 @@ pub fn put_programs(file: &[u8], from: Places, size: usize, out: &mut [u8]) -> u
     ensures value { result ≡ from.out + size }
     ensures out_after { out.new ≡ sets out.old from.out (new_programs file.now from.file) }
 {
-    let num_programs = u8_at(file, from.file + 5);
+    let num_programs = u32_at::<1>(file, from.file + 5);
     put_head((size - 4) as u32, num_programs, out, from.out);
     let items = Places {
         file: from.file + 6,

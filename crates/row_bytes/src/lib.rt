@@ -7,7 +7,7 @@ ghost use Rattle.format.specs.Bytes.{field_bytes};
 ghost use Rattle.format.specs.Rewriting.{atc_bytes, stc_bytes, program_bytes, stream_bytes};
 ghost use Rattle.row_values.specs.Kinds.{row_of, bytes_by, row3, row4, row5};
 
-use numbers::{put_u8, put_u16, put_u32};
+use numbers::put_u32;
 use row_values::{Row, RowKind};
 use stream_coding::is_video;
 
@@ -17,9 +17,9 @@ fn put_atc(row: Row, out: &mut [u8], at: usize) -> usize
     ensures value { result ≡ at + 6 }
     ensures out_after { out.new ≡ sets out.old at (atc_bytes (row3 row)) }
 {
-    put_u32(out, at, row[0]);
-    put_u8(out, at + 4, row[1]);
-    put_u8(out, at + 5, row[2]);
+    put_u32::<4>(out, at, row[0]);
+    put_u32::<1>(out, at + 4, row[1]);
+    put_u32::<1>(out, at + 5, row[2]);
     at + 6
 }
 
@@ -29,10 +29,10 @@ fn put_stc(row: Row, out: &mut [u8], at: usize) -> usize
     ensures value { result ≡ at + 14 }
     ensures out_after { out.new ≡ sets out.old at (stc_bytes (row4 row)) }
 {
-    put_u16(out, at, row[0]);
-    put_u32(out, at + 2, row[1]);
-    put_u32(out, at + 6, row[2]);
-    put_u32(out, at + 10, row[3]);
+    put_u32::<2>(out, at, row[0]);
+    put_u32::<4>(out, at + 2, row[1]);
+    put_u32::<4>(out, at + 6, row[2]);
+    put_u32::<4>(out, at + 10, row[3]);
     at + 14
 }
 
@@ -42,10 +42,10 @@ fn put_program(row: Row, out: &mut [u8], at: usize) -> usize
     ensures value { result ≡ at + 8 }
     ensures out_after { out.new ≡ sets out.old at (program_bytes (row3 row)) }
 {
-    put_u32(out, at, row[0]);
-    put_u16(out, at + 4, row[1]);
-    put_u8(out, at + 6, row[2]);
-    put_u8(out, at + 7, 0);
+    put_u32::<4>(out, at, row[0]);
+    put_u32::<2>(out, at + 4, row[1]);
+    put_u32::<1>(out, at + 6, row[2]);
+    put_u32::<1>(out, at + 7, 0);
     at + 8
 }
 
@@ -54,10 +54,10 @@ fn put_stream_head(row: Row, size: u32, out: &mut [u8], at: usize)
     requires { at + 5 ≤ length out.old }
     ensures { out.new ≡ sets out.old at (field_bytes (2 ∷ 1 ∷ 1 ∷ 1 ∷ []) (get_or row 0 0 ∷ size ∷ get_or row 1 0 ∷ get_or row 2 0 ∷ [])) }
 {
-    put_u16(out, at, row[0]);
-    put_u8(out, at + 2, size);
-    put_u8(out, at + 3, row[1]);
-    put_u8(out, at + 4, row[2]);
+    put_u32::<2>(out, at, row[0]);
+    put_u32::<1>(out, at + 2, size);
+    put_u32::<1>(out, at + 3, row[1]);
+    put_u32::<1>(out, at + 4, row[2]);
 }
 
 // Stores a stream: video with its aspect in the high four bits, anything else with its language, if it has one.
@@ -68,15 +68,15 @@ fn put_stream(row: Row, out: &mut [u8], at: usize) -> usize
 {
     if is_video(row[1]) {
         put_stream_head(row, 3, out, at);
-        put_u8(out, at + 5, row[3] % 16 * 16);
+        put_u32::<1>(out, at + 5, row[3] % 16 * 16);
         at + 6
     } else if row[4] == 0 {
         put_stream_head(row, 2, out, at);
         at + 5
     } else {
         put_stream_head(row, 5, out, at);
-        put_u8(out, at + 5, row[4] / 65536);
-        put_u16(out, at + 6, row[4]);
+        put_u32::<1>(out, at + 5, row[4] / 65536);
+        put_u32::<2>(out, at + 6, row[4]);
         at + 8
     }
 }

@@ -6,7 +6,7 @@ ghost use Rattle.std.proofs.lemmas.List.Edits.{sets};
 ghost use Rattle.format.specs.Bytes.{field_bytes};
 ghost use Rattle.format.specs.Rewriting.{marks_bytes};
 
-use numbers::{put_u8, put_u16, put_u32};
+use numbers::put_u32;
 
 // The two sections of header rows with their own rows behind them. A value and no type: definitions and contracts tell the two apart by it.
 #[derive(Clone, Copy)]
@@ -20,9 +20,9 @@ pub fn put_head(size: u32, n: u32, out: &mut [u8], at: usize)
     requires { at + 6 ≤ length out.old }
     ensures { out.new ≡ sets out.old at (field_bytes (4 ∷ 1 ∷ 1 ∷ []) (size ∷ 0 ∷ n ∷ [])) }
 {
-    put_u32(out, at, size);
-    put_u8(out, at + 4, 0);
-    put_u8(out, at + 5, n);
+    put_u32::<4>(out, at, size);
+    put_u32::<1>(out, at + 4, 0);
+    put_u32::<1>(out, at + 5, n);
 }
 
 // Empty marks: length 2, count 0.
@@ -30,6 +30,6 @@ pub fn put_marks(out: &mut [u8], at: usize)
     requires { at + 6 ≤ length out.old }
     ensures { out.new ≡ sets out.old at marks_bytes }
 {
-    put_u32(out, at, 2);
-    put_u16(out, at + 4, 0);
+    put_u32::<4>(out, at, 2);
+    put_u32::<2>(out, at + 4, 0);
 }

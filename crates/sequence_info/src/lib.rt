@@ -10,7 +10,7 @@ ghost use Rattle.common.specs.Reader.{moved_to};
 
 use cells::put_row;
 use common::reader::{Reader, read_count};
-use numbers::{u8_at, u16_at, u32_at};
+use numbers::u32_at;
 
 // Past the ATC at the reader and its STCs.
 pub fn skip_atc(file: &[u8], r: Reader) -> Option<Reader>
@@ -28,7 +28,11 @@ pub fn put_atc(file: &[u8], p: usize, table: &mut [u8], at: usize)
     put_row(
         table,
         at,
-        [u32_at(file, p), u8_at(file, p + 4), u8_at(file, p + 5)],
+        [
+            u32_at::<4>(file, p),
+            u32_at::<1>(file, p + 4),
+            u32_at::<1>(file, p + 5),
+        ],
     );
 }
 
@@ -41,10 +45,10 @@ fn put_stc(file: &[u8], p: usize, table: &mut [u8], at: usize)
         table,
         at,
         [
-            u16_at(file, p),
-            u32_at(file, p + 2),
-            u32_at(file, p + 6),
-            u32_at(file, p + 10),
+            u32_at::<2>(file, p),
+            u32_at::<4>(file, p + 2),
+            u32_at::<4>(file, p + 6),
+            u32_at::<4>(file, p + 10),
         ],
     );
 }

@@ -8,7 +8,7 @@ ghost use Rattle.format.specs.Tables.{row_bytes_of};
 ghost use Rattle.stream_coding_info.specs.Bodies.{info_row};
 
 use cells::put_row;
-use numbers::{u8_at, u16_at};
+use numbers::u32_at;
 use stream_coding::is_video;
 
 // A stream's PID and what its body says: an aspect of video alone, and a language of all else, 0 for none.
@@ -57,12 +57,12 @@ pub fn stream_at(file: &[u8], p: usize) -> StreamCodingInfo
     requires { next_stream file.now p ≤ length file.now }
     ensures { info_row result ≡ stream_at file.now p }
 {
-    let size = u8_at(file, p + 2) as usize;
+    let size = u32_at::<1>(file, p + 2) as usize;
     let body = &file[p + 3..p + 3 + size];
     let coding = body_byte(body, 0);
     let video = is_video(coding);
     StreamCodingInfo {
-        pid: u16_at(file, p),
+        pid: u32_at::<2>(file, p),
         stream_coding_type: coding,
         format_info_byte: body_byte(body, 1),
         aspect_ratio_nibble: aspect(body, video),

@@ -8,5 +8,5 @@ returns c =
     let a = c.args in
     let f = a.file.now in
     let n = header_read f a.q c.be_at.result c.map_header-header.result c.be_at.ensures.same c.map_header-header.ensures in
-    map_stored f a.table.now a.q a.at c.u16_at-pid.result c.map_header-header.result.ep_stream_type c.map_header-header.result.num_fine
-    c.u16_at-pid.ensures.same n.0 n.2 c.put_row.ensures
+    map_stored f a.table.now a.q a.at c.u32_at-pid.result c.map_header-header.result.ep_stream_type c.map_header-header.result.num_fine
+    c.u32_at-pid.ensures.same n.0 n.2 c.put_row.ensures

@@ -7,4 +7,4 @@ pub returns : goal.returns
 returns c =
     let a = c.args in
     coarse_stored a.out.now a.at a.first_fine a.entry.time a.entry.packet c.requires.0 c.requires.1 (search rules)
-    c.coarse_time_of.ensures c.coarse_row_word-word.ensures c.put_u64.ensures
+    c.coarse_time_of.ensures c.coarse_row_word-word.ensures c.put_be.ensures

@@ -25,8 +25,8 @@ put_stream-requires c =
     let more = c.loop-k-test.true in
     (along_within l.invariant.0 (up_stream f) more c.requires.0, row_room_lem (stream_at f) (next_stream f) l.invariant.1 more)
 
-pub u8_at-requires : goal.u8_at-requires
-u8_at-requires c =
+pub u32_at-requires : goal.u32_at-requires
+u32_at-requires c =
     let f = c.args.file.now in
     omega (arith, along_within c.loop-k.invariant.0 (up_stream f) c.loop-k-test.true c.requires.0)
 
@@ -36,7 +36,7 @@ loop-k-preserved c =
     let l = c.loop-k in
     let f = a.file.now in
     let more = c.loop-k-test.true in
-    let next : l.q + 3 + c.u8_at.result ≡ next_stream f l.q = rw c.u8_at.ensures.same in
+    let next : l.q + 3 + c.u32_at.result ≡ next_stream f l.q = rw c.u32_at.ensures.same in
     let cell : a.at + 20 * l.k + 20 ≡ a.at + 20 * (l.k + 1) = omega arith in (
       along_turn l.invariant.0 more next (rw next (along_within l.invariant.0 (up_stream f) more c.requires.0)),
       rw cell at (row_put (stream_at f) (next_stream f) l.invariant.1 more c.put_stream.ensures next),

@@ -15,6 +15,6 @@ returns c =
     let behind : c.args.body + 4 + 8 * c.put_body-runs.result + 4 * m.num_fine ≡ c.args.body + length (body_bytes (entries_of c.args.file.now c.args.from.file q)) = place_is c.args.file.now c.args.from.file q m c.map_body-m.ensures c.put_body-runs.ensures.value c.args.body in
     let a = c.args in record {
       value = behind;
-      out_after = map_put a.file.now a.from.file q m c.map_body-m.ensures c.put_body-runs.ensures.value a.out.now a.body (a.from.out + 8 + 12 * a.k) (a.body - (a.from.out + 6)) c.u16_at-pid.result
-          c.u16_at-pid.ensures.same c.put_body-runs.ensures.out_after c.put_header.ensures;
+      out_after = map_put a.file.now a.from.file q m c.map_body-m.ensures c.put_body-runs.ensures.value a.out.now a.body (a.from.out + 8 + 12 * a.k) (a.body - (a.from.out + 6)) c.u32_at-pid.result
+          c.u32_at-pid.ensures.same c.put_body-runs.ensures.out_after c.put_header.ensures;
     }

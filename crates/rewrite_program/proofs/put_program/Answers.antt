@@ -24,8 +24,8 @@ overflow_add-from c =
     let head : c.args.from.file + 8 ≤ length c.args.file.now = omega (arith, program_head c.args.file.now c.args.from.file, c.requires.0) in
     omega (arith, head)
 
-pub u8_at-num_streams-requires : goal.u8_at-num_streams-requires
-u8_at-num_streams-requires c =
+pub u32_at-num_streams-requires : goal.u32_at-num_streams-requires
+u32_at-num_streams-requires c =
     let head : c.args.from.file + 8 ≤ length c.args.file.now = omega (arith, program_head c.args.file.now c.args.from.file, c.requires.0) in
     omega (arith, head)
 
@@ -39,7 +39,7 @@ put_streams-requires c =
     let head : c.args.from.file + 8 ≤ length c.args.file.now = omega (arith, program_head c.args.file.now c.args.from.file, c.requires.0) in
     let a = c.args in
     let f = a.file.now in
-    let count = c.u8_at-num_streams.ensures.same in
+    let count = c.u32_at-num_streams.ensures.same in
     let is = c.program_row-row.ensures in
     let head = both c.put_row-behind.ensures.value c.put_row-behind.ensures.out_after in
     let place = head_place f a.from.file count a.out.now a.from.out is head in
@@ -51,7 +51,7 @@ returns c =
     let head : c.args.from.file + 8 ≤ length c.args.file.now = omega (arith, program_head c.args.file.now c.args.from.file, c.requires.0) in
     let a = c.args in
     let f = a.file.now in
-    let count = c.u8_at-num_streams.ensures.same in
+    let count = c.u32_at-num_streams.ensures.same in
     let is = c.program_row-row.ensures in
     let head = both c.put_row-behind.ensures.value c.put_row-behind.ensures.out_after in
     let put = c.put_streams.ensures in record { value = program_ends f a.from.file count a.from.out (head_place f a.from.file count a.out.now a.from.out is head) put.value; out_after = streams_put f a.from.file count a.out.now a.from.out is head put.out_after }

@@ -12,8 +12,8 @@ overflow_add-start c =
     let head : c.args.start + 6 ≤ length c.args.file.now = head_within c.args.file.now c.args.start refl c.requires in
     omega (arith, head)
 
-pub u8_at-num_programs-requires : goal.u8_at-num_programs-requires
-u8_at-num_programs-requires c =
+pub u32_at-num_programs-requires : goal.u32_at-num_programs-requires
+u32_at-num_programs-requires c =
     let head : c.args.start + 6 ≤ length c.args.file.now = head_within c.args.file.now c.args.start refl c.requires in
     omega (arith, head)
 
@@ -25,11 +25,11 @@ overflow_add-items c =
 pub measure_items-requires : goal.measure_items-requires
 measure_items-requires c =
     let f = c.args.file.now in
-    let count = c.u8_at-num_programs.ensures.same in
+    let count = c.u32_at-num_programs.ensures.same in
     let short = programs_short f (λ i. (c.type_inv.file i).fits) c.args.start in
     (items_within f c.args.start count c.requires, omega (arith, programs_long f c.args.start count, short))
 
 pub returns : goal.returns
 returns c =
     let a = c.args in
-    c.measure_items.ensures ∙ sym (programs_long a.file.now a.start c.u8_at-num_programs.ensures.same)
+    c.measure_items.ensures ∙ sym (programs_long a.file.now a.start c.u32_at-num_programs.ensures.same)

@@ -13,8 +13,8 @@ overflow_add-from c =
     let head : c.args.from.file + 6 ≤ length c.args.file.now = head_within c.args.file.now c.args.from.file refl c.requires.ends in
     omega (arith, head)
 
-pub u8_at-num_programs-requires : goal.u8_at-num_programs-requires
-u8_at-num_programs-requires c =
+pub u32_at-num_programs-requires : goal.u32_at-num_programs-requires
+u32_at-num_programs-requires c =
     let head : c.args.from.file + 6 ≤ length c.args.file.now = head_within c.args.file.now c.args.from.file refl c.requires.ends in
     omega (arith, head)
 
@@ -41,13 +41,13 @@ pub put_items-requires : goal.put_items-requires
 put_items-requires c =
     let a = c.args in
     let f = a.file.now in
-    let count = c.u8_at-num_programs.ensures.same in
-    let room = items_room f a.from.file count c.requires.size_is a.out.now a.from.out (section_head (a.size - 4) c.u8_at-num_programs.result) c.requires.room c.put_head.ensures in
+    let count = c.u32_at-num_programs.ensures.same in
+    let room = items_room f a.from.file count c.requires.size_is a.out.now a.from.out (section_head (a.size - 4) c.u32_at-num_programs.result) c.requires.room c.put_head.ensures in
     (items_within f a.from.file count c.requires.ends, omega arith)
 
 pub returns : goal.returns
 returns c =
     let a = c.args in
     let f = a.file.now in
-    let count = c.u8_at-num_programs.ensures.same in
+    let count = c.u32_at-num_programs.ensures.same in
     let put = c.put_items.ensures in record { value = omega (arith, put.value, c.requires.size_is, programs_long f a.from.file count); out_after = programs_put f a.from.file count c.requires.size_is a.out.now a.from.out c.put_head.ensures put.out_after }

@@ -11,6 +11,6 @@ returns c =
     let a = c.args in record {
       value = refl;
       out_after = field_then a.out.now a.at 4 (get_or a.row 0 0) _ refl c.put_u32.ensures
-          (field_then _ (a.at + 4) 1 (get_or a.row 1 0) _ (sym (add_assoc a.at 4 1)) c.put_u8.ensures
-          (field_last _ (a.at + 5) 1 (get_or a.row 2 0) c.put_u8-2.ensures));
+          (field_then _ (a.at + 4) 1 (get_or a.row 1 0) _ (sym (add_assoc a.at 4 1)) c.put_u32-2.ensures
+          (field_last _ (a.at + 5) 1 (get_or a.row 2 0) c.put_u32-3.ensures));
     }

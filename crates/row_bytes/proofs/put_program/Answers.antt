@@ -17,6 +17,6 @@ returns c =
       value = refl;
       out_after = part_then a.out.now a.at 7 (field_bytes (4 ∷ 2 ∷ 1 ∷ []) (row3 r)) (bytes_of 1 0) (program_fields (get_or r 0 0) (get_or r 1 0) (get_or r 2 0)) refl
           (field_then a.out.now a.at 4 (get_or r 0 0) _ refl c.put_u32.ensures
-          (field_then _ (a.at + 4) 2 (get_or r 1 0) _ (sym (add_assoc a.at 4 2)) c.put_u16.ensures
-          (field_last _ (a.at + 6) 1 (get_or r 2 0) c.put_u8.ensures))) c.put_u8-2.ensures;
+          (field_then _ (a.at + 4) 2 (get_or r 1 0) _ (sym (add_assoc a.at 4 2)) c.put_u32-2.ensures
+          (field_last _ (a.at + 6) 1 (get_or r 2 0) c.put_u32-3.ensures))) c.put_u32-4.ensures;
     }

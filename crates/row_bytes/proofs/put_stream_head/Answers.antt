@@ -9,7 +9,7 @@ use Rattle.row_bytes.proofs.put_stream_head.Goals as goal
 pub returns : goal.returns
 returns c =
     let a = c.args in
-    field_then a.out.now a.at 2 (get_or a.row 0 0) _ refl c.put_u16.ensures
-    (field_then _ (a.at + 2) 1 a.size _ (sym (add_assoc a.at 2 1)) c.put_u8.ensures
-    (field_then _ (a.at + 3) 1 (get_or a.row 1 0) _ (sym (add_assoc a.at 3 1)) c.put_u8-2.ensures
-    (field_last _ (a.at + 4) 1 (get_or a.row 2 0) c.put_u8-3.ensures)))
+    field_then a.out.now a.at 2 (get_or a.row 0 0) _ refl c.put_u32.ensures
+    (field_then _ (a.at + 2) 1 a.size _ (sym (add_assoc a.at 2 1)) c.put_u32-2.ensures
+    (field_then _ (a.at + 3) 1 (get_or a.row 1 0) _ (sym (add_assoc a.at 3 1)) c.put_u32-3.ensures
+    (field_last _ (a.at + 4) 1 (get_or a.row 2 0) c.put_u32-4.ensures)))

@@ -8,4 +8,4 @@ pub returns : goal.returns
 returns c =
     let a = c.args in
     field_then a.out.now a.at 4 2 _ refl c.put_u32.ensures
-    (field_last _ (a.at + 4) 2 0 c.put_u16.ensures)
+    (field_last _ (a.at + 4) 2 0 c.put_u32-2.ensures)

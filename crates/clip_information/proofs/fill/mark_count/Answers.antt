@@ -11,10 +11,10 @@ pub returns-then-file-start : goal.returns-then-file-start
 returns-then-file-start c =
     marks_past c.args.file.now c.args.start c.if-start-eq0.false c.if-file-start.true
 
-pub u16_at-requires : goal.u16_at-requires
-u16_at-requires c =
+pub u32_at-requires : goal.u32_at-requires
+u32_at-requires c =
     omega (arith, count_in_lem c.args.file.now c.args.start c.requires c.if-start-eq0.false c.if-file-start.false)
 
 pub returns : goal.returns
 returns c =
-    c.u16_at.ensures.same ∙ marks_counted c.args.file.now c.args.start c.if-start-eq0.false c.if-file-start.false
+    c.u32_at.ensures.same ∙ marks_counted c.args.file.now c.args.start c.if-start-eq0.false c.if-file-start.false

@@ -9,7 +9,7 @@ use Rattle.refusals.proofs.Laws.{refused_as}
 use Rattle.common.proofs.Laws.{Got, got, not_got, went, stayed}
 use Rattle.cpi.proofs.Heads.{head_zero, head_far, head_past, head_two, head_type, head_four, head_headers, head_maps}
 use Rattle.cpi.proofs.maps.read_head.Goals as goal
-use Rattle.cpi.proofs.maps.read_head.Goals.{In_ok-len, In_ok-last, Else-u16_at-ne1}
+use Rattle.cpi.proofs.maps.read_head.Goals.{In_ok-len, In_ok-last, Else-u32_at-ne1}
 
 pub returns-then-start-eq0 : goal.returns-then-start-eq0
 returns-then-start-eq0 c = let a = c.args in head_zero a.file.now a.start c.if-start-eq0.true
@@ -56,34 +56,34 @@ returns-then-len-lt2 c =
     let inside = (end_reached (goal.at.returns-then-len-lt2 c).In_ok-last).1 in
     head_two a.file.now a.start c.if-start-eq0.false c.if-file-start.false inside (omega (arith, value))
 
-pub u16_at-requires : goal.u16_at-requires
-u16_at-requires c =
-    let value = (length_read (goal.at.u16_at-requires c).In_ok-len).value in
-    omega (arith, value, (end_reached (goal.at.u16_at-requires c).In_ok-last).1)
+pub u32_at-requires : goal.u32_at-requires
+u32_at-requires c =
+    let value = (length_read (goal.at.u32_at-requires c).In_ok-len).value in
+    omega (arith, value, (end_reached (goal.at.u32_at-requires c).In_ok-last).1)
 
-pub returns-then-u16_at-ne1 : goal.returns-then-u16_at-ne1
-returns-then-u16_at-ne1 c =
+pub returns-then-u32_at-ne1 : goal.returns-then-u32_at-ne1
+returns-then-u32_at-ne1 c =
     let a = c.args in
-    let value = (length_read (goal.at.returns-then-u16_at-ne1 c).In_ok-len).value in
-    let inside = (end_reached (goal.at.returns-then-u16_at-ne1 c).In_ok-last).1 in
-    head_type a.file.now a.start c.if-start-eq0.false c.if-file-start.false inside (omega (arith, value)) (λ e. c.if-u16_at-ne1.true (rw c.u16_at.ensures.same e))
+    let value = (length_read (goal.at.returns-then-u32_at-ne1 c).In_ok-len).value in
+    let inside = (end_reached (goal.at.returns-then-u32_at-ne1 c).In_ok-last).1 in
+    head_type a.file.now a.start c.if-start-eq0.false c.if-file-start.false inside (omega (arith, value)) (λ e. c.if-u32_at-ne1.true (rw c.u32_at.ensures.same e))
 
 -- the type is 1
-type_one : (c : Else-u16_at-ne1) → cpi_type c.args.file.now c.args.start ≡ 1
-type_one c = rw (← c.u16_at.ensures.same) c.if-u16_at-ne1.false
+type_one : (c : Else-u32_at-ne1) → cpi_type c.args.file.now c.args.start ≡ 1
+type_one c = rw (← c.u32_at.ensures.same) c.if-u32_at-ne1.false
 
 pub returns-then-len-lt4 : goal.returns-then-len-lt4
 returns-then-len-lt4 c =
     let a = c.args in
     let value = (length_read (goal.at.returns-then-len-lt4 c).In_ok-len).value in
     let inside = (end_reached (goal.at.returns-then-len-lt4 c).In_ok-last).1 in
-    let one = type_one (goal.at.returns-then-len-lt4 c).Else-u16_at-ne1 in
+    let one = type_one (goal.at.returns-then-len-lt4 c).Else-u32_at-ne1 in
     head_four a.file.now a.start c.if-start-eq0.false c.if-file-start.false inside (omega (arith, value)) one (omega (arith, value))
 
-pub u8_at-count-requires : goal.u8_at-count-requires
-u8_at-count-requires c =
-    let value = (length_read (goal.at.u8_at-count-requires c).In_ok-len).value in
-    omega (arith, value, (end_reached (goal.at.u8_at-count-requires c).In_ok-last).1)
+pub u32_at-count-requires : goal.u32_at-count-requires
+u32_at-count-requires c =
+    let value = (length_read (goal.at.u32_at-count-requires c).In_ok-len).value in
+    omega (arith, value, (end_reached (goal.at.u32_at-count-requires c).In_ok-last).1)
 
 pub returns-in_err-ok_or : goal.returns-in_err-ok_or
 returns-in_err-ok_or c =
@@ -93,10 +93,10 @@ returns-in_err-ok_or c =
     let none = c.in_err-ok_or.ensures.ok_part in
     let value = (length_read (goal.at.returns-in_err-ok_or c).In_ok-len).value in
     let inside = (end_reached (goal.at.returns-in_err-ok_or c).In_ok-last).1 in
-    let one = type_one (goal.at.returns-in_err-ok_or c).Else-u16_at-ne1 in
-    let cut = stayed f (a.start + 8 + 12 * c.u8_at-count.result) (rw none at c.skip-2.ensures) in
+    let one = type_one (goal.at.returns-in_err-ok_or c).Else-u32_at-ne1 in
+    let cut = stayed f (a.start + 8 + 12 * c.u32_at-count.result) (rw none at c.skip-2.ensures) in
     rw (p.1, p.2, refused_as c.in_err-ok_or.ensures.value none)
-    (head_headers f a.start c.if-start-eq0.false c.if-file-start.false inside one (omega (arith, value)) (omega (arith, cut, c.u8_at-count.ensures.same)))
+    (head_headers f a.start c.if-start-eq0.false c.if-file-start.false inside one (omega (arith, value)) (omega (arith, cut, c.u32_at-count.ensures.same)))
 
 pub returns : goal.returns
 returns c =
@@ -104,7 +104,7 @@ returns c =
     let f = a.file.now in
     let value = (length_read (goal.at.returns c).In_ok-len).value in
     let end = end_reached (goal.at.returns c).In_ok-last in
-    let one = type_one (goal.at.returns c).Else-u16_at-ne1 in
-    let there = went f (a.start + 8 + 12 * c.u8_at-count.result) (rw c.in_ok-ok_or.ensures.ok_part at c.skip-2.ensures) in
-    rw (c.u8_at-count.ensures.same, end.0)
-    (head_maps f a.start c.if-start-eq0.false c.if-file-start.false end.1 one (omega (arith, value)) (rw c.u8_at-count.ensures.same at there.0))
+    let one = type_one (goal.at.returns c).Else-u32_at-ne1 in
+    let there = went f (a.start + 8 + 12 * c.u32_at-count.result) (rw c.in_ok-ok_or.ensures.ok_part at c.skip-2.ensures) in
+    rw (c.u32_at-count.ensures.same, end.0)
+    (head_maps f a.start c.if-start-eq0.false c.if-file-start.false end.1 one (omega (arith, value)) (rw c.u32_at-count.ensures.same at there.0))
