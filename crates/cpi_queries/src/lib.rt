@@ -53,7 +53,7 @@ struct PidRow {
     pid: u32,
 }
 
-// The row with the least PID so far, or this row where its PID is less; the earlier among equals.
+// The row with the least PID so far, or this row where its PID is less; the earlier among equals: one step of the definition's `better`, so no order of `PidRow`.
 fn lesser(so_far: Option<PidRow>, row: u32, pid: u32) -> Option<PidRow>
     ensures { as_best result ≡ better less_pid row pid (as_best so_far) }
 {
@@ -63,7 +63,7 @@ fn lesser(so_far: Option<PidRow>, row: u32, pid: u32) -> Option<PidRow>
     }
 }
 
-// The map with the least PID, the earliest among equals; none without maps. A `for`: the definition goes row by row too, and `min_by_key` tells what it picks by a fold of its own.
+// The map with the least PID, the earliest among equals; none without maps. A `for`, which goes row by row as the definition does: `min_by_key` over the rows' numbers tells what it picks by a fold over the keys that it saw, from which the check doesn't find what this ensures.
 fn least_pid(maps: Rows<MAP>) -> Option<u64>
     ensures { found_of (Ok result) ≡ least_pid (map map_pid (rows_in maps.entry)) }
 {
