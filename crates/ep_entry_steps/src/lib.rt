@@ -1,16 +1,15 @@
 // What is looked for in a lent row of `EpEntry` records: the nearest to a time, its packet, and the span.
 #![tactic(auto)]
 
-ghost use Rattle.std.specs.Prelude.{◌≡◌, Ok, map};
-ghost use Rattle.format.specs.ClipRecord.{time};
+ghost use Rattle.std.specs.Prelude.{◌≡◌, Ok};
 ghost use Rattle.format.specs.Questions.{span_of};
 ghost use Rattle.queries.specs.Answers.{found_of};
 ghost use Rattle.ticks.specs.Times.{as90};
-ghost use Rattle.nearest.specs.Nearest.{NearestIn, as_best, closer_of};
+ghost use Rattle.nearest.specs.Nearest.{find_in, seek_in};
 ghost use Rattle.ep_entry_steps.specs.Records.{as_row, as_rows};
-ghost use Rattle.ep_entry_steps.specs.Lookups.{find_in, seek_in, ends_of, span_between};
+ghost use Rattle.ep_entry_steps.specs.Lookups.{ends_of, span_between};
 
-use nearest::{Nearest, Side, found_row, look_at_time};
+use nearest::{Side, nearest_row};
 use ticks::Ticks90;
 
 // An entry of a map.
@@ -24,41 +23,16 @@ pub struct EpEntry {
     pub ep_stream_type: u8,
 }
 
-// The nearest so far, or entry k where its time is nearer.
-pub fn look_at(
-    so_far: Option<Nearest>,
-    k: usize,
-    entry: EpEntry,
-    side: Side,
-    at: u32,
-) -> Option<Nearest>
-    ensures { as_best result ≡ closer_of side at (as_best so_far) k (time (as_row entry)) }
-{
-    look_at_time(
-        so_far,
-        k,
-        side,
-        u64::from(at),
-        u64::from(entry.pts_ep_start),
-    )
-}
-
-// The nearest of the entries to a time, on one side of it.
-fn nearest(rows: &[EpEntry], side: Side, at: u32) -> Option<Nearest>
-    ensures { NearestIn side (map time (as_rows rows.now)) at result }
-{
-    let mut nearest = None;
-    for (k, entry) in rows.iter().enumerate() {
-        nearest = look_at(nearest, k, *entry, side, at);
-    }
-    nearest
-}
-
 // The entry after a time, or at or before it: its row.
 pub fn find(rows: &[EpEntry], side: Side, at: u32) -> Option<u64>
     ensures { found_of (Ok result) ≡ find_in side (as_rows rows.now) at }
 {
-    found_row(nearest(rows, side, at), rows.len(), side)
+    nearest_row(
+        rows.len(),
+        side,
+        u64::from(at),
+        |k| u64::from(rows[k].pts_ep_start),
+    )
 }
 
 // The packet of that entry.

@@ -1,24 +1,24 @@
 -- What the entries of a map answer, and the refusals in front of it.
 use Prim.Native.Nat.{ℕ, ◌+◌, ◌*◌, ◌<◌, ◌≤◌}
 use mathlib.Core.Path.{◌≡◌, refl, sym, ap, ◌∙◌}
-use mathlib.Core.List.{List, [], ◌∷◌, map}
+use mathlib.Core.List.{List, [], ◌∷◌}
 use mathlib.Core.Bool.{Bool, true, false}
 use native.Mathlib.Omega.{arith}
-use lib.ListN.{length, get_or, length-map}
+use lib.ListN.{length, get_or}
 use Rattle.std.specs.Prelude.{Result, Ok, Err}
 use Rattle.format.specs.Bytes.{pick}
-use Rattle.format.specs.ClipRecord.{Row, entry_count, time, entry_cells, entry_size}
-use Rattle.format.specs.Questions.{Question, parts_of, Answer, refused, number, of_row, first_row, own_rows, of_map, answer, ask}
+use Rattle.format.specs.ClipRecord.{Row, entry_count, entry_cells, entry_size}
+use Rattle.format.specs.Questions.{Question, parts_of, Answer, refused, of_row, first_row, own_rows, of_map, answer, ask}
 use Rattle.format.specs.Questions as of
 use Rattle.format.specs.Tables.{Table, rows_of, cells_at, clip_in, map_cells}
 use Rattle.format.proofs.Cell.{item_at}
-use Rattle.format.proofs.Lookups.{before_row, after_row}
 use Rattle.format.proofs.Rows.{rows_length}
 use Rattle.queries.specs.Asked.{maps_and_entries}
+use Rattle.nearest.specs.Nearest.{find_in, seek_in}
 use Rattle.nearest.specs.declared.Side.{Side}
 use Rattle.table_rows.specs.OwnRows.{refusal, owns, may_ask, owned_rows, cell_in}
 use Rattle.table_rows.proofs.OwnRows.{own_rows_lem, not_owned, behind_tests, tests_fail, tests_pass}
-use Rattle.ep_map_queries.specs.InMap.{owned_entries, entries_at, find_in, seek_in, find_question, seek_question}
+use Rattle.ep_map_queries.specs.InMap.{owned_entries, entries_at, find_question, seek_question}
 use Rattle.ep_map_queries.specs.Rows.{own_entries}
 
 -- ---- the rows of a map, or the refusal
@@ -104,10 +104,3 @@ module _ (maps entries : Table) (m : ℕ) where
   unfolding answer clip_in
   seek_asks Side.After at = record { two = refl; asks = refl }
   seek_asks Side.AtOrBefore at = record { two = refl; asks = refl }
-
--- ---- the entry that is found
-
--- it is one of them
-pub found_below : (es : List Row) (at : ℕ) (side : Side) (k : ℕ) → number k ≡ find_in side es at → k < length es
-found_below es at Side.After k h = rw (length-map es time) at (after_row (map time es) at k (sym h))
-found_below es at Side.AtOrBefore k h = rw (length-map es time) at (before_row (map time es) at k (sym h))

@@ -1,9 +1,8 @@
 -- The entries of one map, and what is asked about them: before a time or after it.
-use Rattle.std.specs.Prelude.{ℕ, List, map}
-use Rattle.format.specs.ClipRecord.{Row, time, packet, entry_cells}
-use Rattle.format.specs.Questions.{Question, entry_point_at_or_before, entry_point_after, seek_spn, next_seek_spn, primary_seek_spn, primary_next_seek_spn, Answer, of_row}
+use Rattle.std.specs.Prelude.{ℕ, List}
+use Rattle.format.specs.ClipRecord.{Row, entry_cells}
+use Rattle.format.specs.Questions.{Question, entry_point_at_or_before, entry_point_after, seek_spn, next_seek_spn, primary_seek_spn, primary_next_seek_spn}
 use Rattle.format.specs.Tables.{Table}
-use Rattle.nearest.specs.Nearest.{row_in}
 use Rattle.nearest.specs.declared.Side.{Side}
 use Rattle.table_rows.specs.OwnRows.{Owned, owned_rows, rows_from}
 
@@ -15,15 +14,7 @@ owned_entries maps entries m = owned_rows 2 entry_cells maps entries m
 abbrev pub entries_at : List ℕ → ℕ → ℕ → List Row
 entries_at t first count = rows_from entry_cells t first count
 
--- the entry after a time, or at or before it
-abbrev pub find_in : Side → List Row → ℕ → Answer
-find_in side es at = row_in side (map time es) at
-
--- its packet
-abbrev pub seek_in : Side → List Row → ℕ → Answer
-seek_in side es at = of_row packet es (find_in side es at)
-
--- the questions that ask for these
+-- the questions that ask for the entry of a map after a time, or at or before it
 abbrev pub find_question : Side → ℕ → ℕ → Question
 find_question Side.After m at = entry_point_after m (record { ticks = at })
 find_question Side.AtOrBefore m at = entry_point_at_or_before m (record { ticks = at })

@@ -1,38 +1,31 @@
 // Entry points by their times, one scan each, for maps in any order.
-ghost use Rattle.std.specs.Prelude.{◌≡◌, Ok, map};
-ghost use Rattle.format.specs.ClipRecord.{time};
+ghost use Rattle.std.specs.Prelude.{◌≡◌, Ok};
 ghost use Rattle.format.specs.Questions.{ask, entry_point_at_or_before, entry_point_after, seek_spn, next_seek_spn};
 ghost use Rattle.format.specs.Tables.{stated};
 ghost use Rattle.queries.specs.Answers.{found_of};
 ghost use Rattle.queries.specs.Asked.{maps_and_entries};
 ghost use Rattle.ticks.specs.Times.{as_pts};
-ghost use Rattle.nearest.specs.Nearest.{NearestIn};
-ghost use Rattle.ep_map_queries.specs.InMap.{find_in, seek_in, find_question, seek_question};
+ghost use Rattle.nearest.specs.Nearest.{find_in, seek_in};
+ghost use Rattle.ep_map_queries.specs.InMap.{find_question, seek_question};
 ghost use Rattle.ep_map_queries.specs.Rows.{rows_in};
 
 use crate::own::MapEntries;
-use nearest::{Nearest, Side, found_row, look_at_time};
+use nearest::{Side, nearest_row};
 use queries::Found;
 use table_rows::Table;
 use ticks::Pts90;
 
 impl<'a> MapEntries<'a> {
-    // The nearest of the entries to a time, on one side of it.
-    fn nearest(self, side: Side, at: u64) -> Option<Nearest>
-        ensures { NearestIn side (map time (rows_in self.entry)) at result }
-    {
-        let mut nearest = None;
-        for k in 0..u64::from(self.own.count) {
-            nearest = look_at_time(nearest, k as usize, side, at, self.entry(k).time);
-        }
-        nearest
-    }
-
     // The entry after a time, or at or before it.
     fn find(self, side: Side, at: u64) -> Option<u64>
         ensures { found_of (Ok result) ≡ find_in side (rows_in self.entry) at }
     {
-        found_row(self.nearest(side, at), self.own.count as usize, side)
+        nearest_row(
+            self.own.count as usize,
+            side,
+            at,
+            |k| self.entry(k as u64).time,
+        )
     }
 
     // The packet of that entry.

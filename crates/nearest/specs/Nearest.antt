@@ -1,9 +1,7 @@
 -- The nearest of some times, before a time or after it.
-use Rattle.std.specs.Prelude.{ℕ, ◌≡◌, List, Bool, Option, None, Some, leb, ltb, eqb}
-use Rattle.format.specs.Bytes.{pick}
-use Rattle.format.specs.Questions as of
-use Rattle.format.specs.Questions.{Answer, number, Best, nothing, best, better, best_of, row_or, at_or_before, after}
-use Rattle.nearest.specs.declared.Nearest.{Nearest}
+use Rattle.std.specs.Prelude.{ℕ, ◌+◌, ◌-◌, ◌%◌, ◌^◌, ◌<◌, ◌≡◌, List, Bool, map, length, get_or, leb, ltb}
+use Rattle.format.specs.ClipRecord.{Row, time, packet}
+use Rattle.format.specs.Questions.{Answer, of_row, at_or_before, after}
 use Rattle.nearest.specs.declared.Side.{Side}
 
 -- ---- by the definitions
@@ -13,40 +11,26 @@ abbrev pub row_in : Side → List ℕ → ℕ → Answer
 row_in Side.After times at = after times at
 row_in Side.AtOrBefore times at = at_or_before times at
 
--- the times that are asked for, and which of two is nearer
+-- of some entries the one after a time, or at or before it: its row
+abbrev pub find_in : Side → List Row → ℕ → Answer
+find_in side es at = row_in side (map time es) at
+
+-- its packet
+abbrev pub seek_in : Side → List Row → ℕ → Answer
+seek_in side es at = of_row packet es (find_in side es at)
+
+-- ---- row by row
+
+-- the times that are asked for
 abbrev pub on_side : Side → ℕ → ℕ → Bool
 on_side Side.After t x = ltb t x
 on_side Side.AtOrBefore t x = leb x t
 
--- of two times after the one asked for the earlier is nearer, of two at or before it the later
-abbrev pub nearer : Side → ℕ → ℕ → Bool
-nearer Side.After x y = ltb x y
-nearer Side.AtOrBefore x y = ltb y x
+-- how far a time x is from t, counted round 2^64: from t back to x, or from the one right after t on to x
+abbrev pub distance_to : Side → ℕ → ℕ → ℕ
+distance_to Side.AtOrBefore t x = (t + (2 ^ 64 - x)) % 2 ^ 64
+distance_to Side.After t x = ((x + (2 ^ 64 - t)) % 2 ^ 64 + (2 ^ 64 - 1)) % 2 ^ 64
 
--- the best of these times
-abbrev pub best_in : Side → List ℕ → ℕ → Best
-best_in side times at = best_of (on_side side at) (nearer side) 0 times nothing
-
--- ---- row by row
-
--- a row with its time, as the best so far
-abbrev pub as_best : Option Nearest → Best
-as_best None = nothing
-as_best (Some n) = best n.row n.time
-
--- row k with the time x takes over only where it is nearer, so among equals the earliest row stays
-abbrev pub closer_of : Side → ℕ → Best → ℕ → ℕ → Best
-closer_of side at b k x = pick (on_side side at x) (better (nearer side) k x b) b
-
--- where no time is on the side: row 0 stands for one at or before, and none is after
-abbrev pub without : Side → Answer
-without Side.After = of.none
-without Side.AtOrBefore = number 0
-
--- what is found of so many rows
-abbrev pub row_found : Side → ℕ → Best → Answer
-row_found side rows b = pick (eqb rows 0) of.none (row_or (without side) b)
-
--- the nearest of these times
-abbrev pub NearestIn : Side → List ℕ → ℕ → Option Nearest → Type 0
-NearestIn side times at n = as_best n ≡ best_in side times at
+-- what a closure answers of the number of a row is its time, of so many rows
+abbrev pub Tells : (ℕ → ℕ → Type 0) → ℕ → List ℕ → Type 0
+Tells post rows times = (length times ≡ rows) × ((k x : ℕ) → k < rows → post k x → x ≡ get_or times k 0)

@@ -1,11 +1,11 @@
-// The nearest of some times to the one asked for, before it or after it: a step for each row, and what is found at the end.
+// The nearest of some times to the one asked for, before it or after it: one scan, for times in any order.
 #![tactic(auto)]
 
-ghost use Rattle.std.specs.Prelude.{◌≡◌, Ok};
+ghost use Rattle.std.specs.Prelude.{◌≡◌, ◌<◌, ℕ, List, Ok};
 ghost use Rattle.queries.specs.Answers.{found_of};
-ghost use Rattle.nearest.specs.Nearest.{on_side, nearer, as_best, closer_of, row_found};
+ghost use Rattle.nearest.specs.Nearest.{on_side, distance_to, row_in, Tells};
 
-// The times that are asked for: those at or before one, or those after it. An enum and no closures: three tests go by it, and each function here would take all three.
+// The times that are asked for: those at or before one, or those after it. An enum and no closures: two tests go by it, and each function here would take both.
 #[derive(Clone, Copy)]
 pub enum Side {
     AtOrBefore,
@@ -23,53 +23,40 @@ impl Side {
         }
     }
 
-    // Whether a time on this side is nearer to the one asked for than another: the later of two at or before it, the earlier of two after it.
-    fn is_nearer(self, time: u64, than: u64) -> bool
-        ensures { result ≡ nearer self time than }
+    // How far a time is from the one asked for, counted round 2^64, so that each time on this side is nearer than all on the other.
+    fn distance(self, at: u64, time: u64) -> u64
+        ensures { result ≡ distance_to self at time }
     {
         match self {
-            Side::AtOrBefore => than < time,
-            Side::After => time < than,
+            Side::AtOrBefore => at.wrapping_sub(time),
+            Side::After => time.wrapping_sub(at).wrapping_sub(1),
         }
     }
 }
 
-// The row of the nearest time, the earliest among equals, and that time.
-#[derive(Clone, Copy)]
-pub struct Nearest {
-    pub row: usize,
-    pub time: u64,
-}
-
-// The nearest so far, or row k with this time where that is nearer; none while all stand on the other side.
-pub fn look_at_time(
-    so_far: Option<Nearest>,
-    k: usize,
-    side: Side,
-    at: u64,
-    time: u64,
-) -> Option<Nearest>
-    ensures { as_best result ≡ closer_of side at (as_best so_far) k time }
-{
-    if !side.has(at, time) {
-        return so_far;
-    }
-    match so_far {
-        Some(nearest) if !side.is_nearer(time, nearest.time) => so_far,
-        _ => Some(Nearest { row: k, time }),
-    }
-}
-
-// The row that is found once all are looked at: none without rows; row 0 where all are later and one at or before is asked for.
-pub fn found_row(nearest: Option<Nearest>, rows: usize, side: Side) -> Option<u64>
-    ensures { found_of (Ok result) ≡ row_found side rows (as_best nearest) }
+// The row of the nearest time on one side, the earliest among equals, of so many that the closure tells; none without rows; row 0 where all are later and one at or before is asked for.
+// The loop keeps a distance and no `Option`: whether its time is on the side is asked once, behind it.
+pub fn nearest_row<F: Fn(usize) -> u64>(rows: usize, side: Side, at: u64, time_of: F) -> Option<u64>
+    requires { (k : ℕ) → k < rows → F.pre time_of k }
+    ensures { (times : List ℕ) → Tells (F.post time_of) rows times → found_of (Ok result) ≡ row_in side times at }
 {
     if rows == 0 {
         return None;
     }
-    match (nearest, side) {
-        (Some(nearest), _) => Some(nearest.row as u64),
-        (None, Side::AtOrBefore) => Some(0),
-        (None, Side::After) => None,
+    let mut nearest = 0;
+    let mut least = side.distance(at, time_of(0));
+    for k in 1..rows {
+        let distance = side.distance(at, time_of(k));
+        if distance < least {
+            nearest = k;
+            least = distance;
+        }
+    }
+    if side.has(at, time_of(nearest)) {
+        return Some(nearest as u64);
+    }
+    match side {
+        Side::AtOrBefore => Some(0),
+        Side::After => None,
     }
 }

@@ -1,13 +1,11 @@
--- What the scan finds is what the definitions answer.
-use mathlib.Core.Path.{◌∙◌}
-use Rattle.nearest.specs.Nearest.{as_best}
+-- The closure tells the time of each of the map's own entries.
+use Rattle.std.proofs.Common.{rules}
+use Rattle.nearest.proofs.Steps.{times_told}
 use Rattle.ep_map_queries.specs.Rows.{rows_in}
 use Rattle.ep_map_queries.proofs.Answers.{entries_length}
-use Rattle.ep_map_queries.proofs.Nearest.{find_is}
 use Rattle.ep_map_queries.proofs.own.MapEntries.find.Goals as goal
 
 pub returns : goal.returns
 returns c =
-    let a = c.args in
-    let es = a.self in
-    c.found_row.ensures ∙ rw (entries_length es.bytes.now es.own.first es.own.count) at (find_is (rows_in es) a.side a.at (as_best c.nearest.result) c.nearest.ensures)
+    let es = c.args.self in
+    c.nearest_row.ensures _ (times_told (rows_in es) (entries_length es.bytes.now es.own.first es.own.count) (λ k x h p. search rules))
