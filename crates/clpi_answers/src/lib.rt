@@ -1,4 +1,4 @@
-// The answers of questions as numbers for C.
+// The answers of questions as numbers for C. Functions and no `From`: of the seven that make a struct for C three ask that a number fits 32 bits (`clpi_reading`, `clpi_writing`), which `From` can't, and all have one form.
 #![tactic(auto)]
 
 pub mod part;

@@ -1,4 +1,4 @@
-// The place of an extension's data as numbers for C.
+// The place of an extension's data as numbers for C. No `From`, as in lib.rt.
 ghost use Rattle.std.specs.Prelude.{◌≡◌};
 ghost use Rattle.clpi_answers.specs.Numbers.{part_numbers, place_numbers};
 

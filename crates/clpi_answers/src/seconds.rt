@@ -1,4 +1,4 @@
-// The transfer duration as numbers for C.
+// The transfer duration as numbers for C. No `From`, as in lib.rt.
 ghost use Rattle.std.specs.Prelude.{◌≡◌};
 ghost use Rattle.format.specs.Questions.{answer_numbers};
 ghost use Rattle.clip_info_queries.specs.Durations.{transfer_of};

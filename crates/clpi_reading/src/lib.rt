@@ -49,7 +49,7 @@ fn refused(refusal: u32, table: u32, rows_needed: u32) -> ClpiReading
     }
 }
 
-// The numbers of an answer.
+// The numbers of an answer. No `From`, since it asks that the counts fit.
 pub fn reading_of(answer: Result<Accepted, ReadError>) -> ClpiReading
     requires { CountsFit answer }
     ensures { reading_numbers result ≡ read_numbers (read_answer_of answer) }

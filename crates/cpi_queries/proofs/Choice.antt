@@ -24,7 +24,8 @@ use Rattle.row_search.specs.FirstRow.{ask_row}
 use Rattle.table_rows.proofs.Scans.{rows_left, left_all, left_turn, left_done}
 use Rattle.row_search.proofs.FirstRow.{row_answers, through, next_through}
 use Rattle.queries.proofs.Asking.{through_test}
-use Rattle.ep_map_queries.specs.InMap.{seek_in, seek_question, primary_seek_question}
+use Rattle.nearest.specs.Nearest.{seek_in}
+use Rattle.ep_map_queries.specs.InMap.{seek_question, primary_seek_question}
 use Rattle.cpi_queries.specs.PrimaryMap.{less_pid, least_pid, video_or_least}
 use Rattle.ep_map_queries.proofs.Answers.{seek_asks}
 

@@ -1,4 +1,4 @@
-// What is looked for in a lent row of `EpEntry` records: the nearest to a time, its packet, and the span.
+// What is looked for in a lent row of `EpEntry` records: the nearest to a time, its packet, and the span. Lookups take records here and table rows in `ep_map_queries`: each form reads rows of its own, and both share the scan (`nearest::nearest_row`).
 #![tactic(auto)]
 
 ghost use Rattle.std.specs.Prelude.{◌≡◌, Ok};

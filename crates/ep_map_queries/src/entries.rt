@@ -1,4 +1,4 @@
-// Entry points by their times, one scan each, for maps in any order.
+// Entry points by their times, one scan each, for maps in any order: of table rows here, of records in `ep_entry_steps`, both by `nearest::nearest_row`.
 ghost use Rattle.std.specs.Prelude.{◌≡◌, Ok};
 ghost use Rattle.format.specs.Questions.{ask, entry_point_at_or_before, entry_point_after, seek_spn, next_seek_spn};
 ghost use Rattle.format.specs.Tables.{stated};

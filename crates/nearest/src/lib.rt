@@ -5,7 +5,7 @@ ghost use Rattle.std.specs.Prelude.{◌≡◌, ◌<◌, ℕ, List, Ok};
 ghost use Rattle.queries.specs.Answers.{found_of};
 ghost use Rattle.nearest.specs.Nearest.{on_side, distance_to, row_in, Tells};
 
-// The times that are asked for: those at or before one, or those after it. An enum and no closures: two tests go by it, and each function here would take both.
+// The times that are asked for: those at or before one, or those after it. An enum and no closures: which times are asked for, how far each is and what stands for none go by it, and a caller would hand over all three.
 #[derive(Clone, Copy)]
 pub enum Side {
     AtOrBefore,

@@ -41,7 +41,7 @@ impl Ticks90 {
         Ticks90(self.0.saturating_sub(other.0))
     }
 
-    // The later of two times.
+    // The later of two times: the library's `max`, in a method of its own, whose promise is told by the definition.
     pub fn later(self, other: Ticks90) -> Ticks90
         ensures { as90 result ≡ later90 (as90 self) (as90 other) }
     {

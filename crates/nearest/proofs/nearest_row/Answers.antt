@@ -38,14 +38,14 @@ returns-then-has g c = λ times is.
     let l = c.loop-k in
     let e : c.time_of-2.result ≡ get_or times l.nearest 0 = is.1 l.nearest c.time_of-2.result l.invariant.0 c.time_of-2.ensures in
     let on : on_side c.args.side c.args.at (get_or times l.nearest 0) ≡ true = rw (← e, ← c.has.ensures) c.if-has.true in
-    found c.args.side c.args.at times (rw is.0 (omega (arith, c.if-rows-eq0.false))) (rw is.0 c.loop-k-test.false) (l.invariant.1 times is) on
+    found c.args.side c.args.at times (rw is.0 (omega (arith, l.invariant.0))) (rw is.0 c.loop-k-test.false) (l.invariant.1 times is) on
 
 pub returns-in-AtOrBefore : goal.returns-in-AtOrBefore
 returns-in-AtOrBefore g c = λ times is.
     let l = c.loop-k in
     let e : c.time_of-2.result ≡ get_or times l.nearest 0 = is.1 l.nearest c.time_of-2.result l.invariant.0 c.time_of-2.ensures in
     let off : on_side c.args.side c.args.at (get_or times l.nearest 0) ≡ false = rw (← e, ← c.has.ensures) c.if-has.false in
-    let none = not_found c.args.side c.args.at times (rw is.0 (omega (arith, c.if-rows-eq0.false))) (rw is.0 c.loop-k-test.false) (l.invariant.1 times is) off in
+    let none = not_found c.args.side c.args.at times (rw is.0 (omega (arith, l.invariant.0))) (rw is.0 c.loop-k-test.false) (l.invariant.1 times is) off in
     let is-row-0 : number 0 ≡ without c.args.side = rw c.in-AtOrBefore.is in
     is-row-0 ∙ none
 
@@ -54,6 +54,6 @@ returns g c = λ times is.
     let l = c.loop-k in
     let e : c.time_of-2.result ≡ get_or times l.nearest 0 = is.1 l.nearest c.time_of-2.result l.invariant.0 c.time_of-2.ensures in
     let off : on_side c.args.side c.args.at (get_or times l.nearest 0) ≡ false = rw (← e, ← c.has.ensures) c.if-has.false in
-    let none = not_found c.args.side c.args.at times (rw is.0 (omega (arith, c.if-rows-eq0.false))) (rw is.0 c.loop-k-test.false) (l.invariant.1 times is) off in
+    let none = not_found c.args.side c.args.at times (rw is.0 (omega (arith, l.invariant.0))) (rw is.0 c.loop-k-test.false) (l.invariant.1 times is) off in
     let is-none : of.none ≡ without c.args.side = rw c.in-After.is in
     is-none ∙ none
