@@ -12,7 +12,7 @@ use row_bytes::put_row;
 use row_values::{RowKind, cells_of, row_length, table_row};
 use table_rows::Table;
 
-// The bytes that a table's rows have in a file, at most 14 for each.
+// The bytes that a table's rows have in a file, at most 14 for each. That the rows are there is a clause, and no `limits::rows::KindRows`: that is of kinds whose rows have no bytes of their own, too.
 pub fn rows_length(kind: RowKind, table: Table) -> usize
     requires { table.rows ≤ row_room (cells_of kind) table.bytes.now }
     ensures value { result ≡ length (flat (bytes_by kind) (table_rows_of (cells_of kind) table.entry.bytes.now table.entry.rows)) }

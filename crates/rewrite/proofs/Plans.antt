@@ -47,7 +47,7 @@ module _ (f : List ℕ) (b : IsBytes f) {s : Sections} (told : Ok s ≡ sections
       sums = omega (arith, short, programs_at, programs_size f from long)
 
       -- the plan
-      pub planned : Ok (record { atcs = s.atcs; stcs = s.stcs; maps = s.maps; programs = 226 + 6 * s.atcs + 14 * s.stcs; cpi = 226 + 6 * s.atcs + 14 * s.stcs + own; marks = 226 + 6 * s.atcs + 14 * s.stcs + own + len }) ≡ planned_of f
+      pub planned : Ok (record { atcs = s.atcs; stcs = s.stcs; maps = s.maps; places = record { programs = 226 + 6 * s.atcs + 14 * s.stcs; cpi = 226 + 6 * s.atcs + 14 * s.stcs + own; marks = 226 + 6 * s.atcs + 14 * s.stcs + own + len } }) ≡ planned_of f
       planned =
           let same = counted.same in
           let size = programs_size f from long in

@@ -93,7 +93,7 @@ module _ (f : List ℕ) where
 
   -- the counts and places
   pub planned_by : {a s m p q k : ℕ} → rewrite_refusal f ≡ 0 → a ≡ length (clip_of f).atcs → s ≡ length (clip_of f).stcs → m ≡ length (clip_of f).maps
-      → p ≡ programs_place (clip_of f) → q ≡ cpi_place (clip_of f) → k ≡ marks_place (clip_of f) → Ok (record { atcs = a; stcs = s; maps = m; programs = p; cpi = q; marks = k }) ≡ planned_of f
+      → p ≡ programs_place (clip_of f) → q ≡ cpi_place (clip_of f) → k ≡ marks_place (clip_of f) → Ok (record { atcs = a; stcs = s; maps = m; places = record { programs = p; cpi = q; marks = k } }) ≡ planned_of f
   unfolding planned_of
   planned_by e a s m p q k = rw (e, a, s, m, p, q, k)
 
@@ -105,7 +105,7 @@ module _ (f : List ℕ) where
   refusal_told is = err_told (eqb (rewrite_refusal f) 0) (plan_of (clip_of f)) (sym is)
 
   -- counts and places that the plan tells are the file's, and an output that holds the six bytes of its marks has room
-  pub ready_told : {plan : Plan} (size : ℕ) → Ok plan ≡ planned_of f → plan.marks + 6 ≤ size → Ready f plan size
+  pub ready_told : {plan : Plan} (size : ℕ) → Ok plan ≡ planned_of f → plan.places.marks + 6 ≤ size → Ready f plan size
   unfolding planned_of
   ready_told size is h =
       let told = ok_told (eqb (rewrite_refusal f) 0) (rewrite_refusal f) (sym is) in
@@ -115,7 +115,7 @@ module _ (f : List ℕ) where
         atcs_are = ap (λ (p : Plan). p.atcs) same;
         stcs_are = ap (λ (p : Plan). p.stcs) same;
         maps_are = ap (λ (p : Plan). p.maps) same;
-        placed = record { programs_at = ap (λ (p : Plan). p.programs) same; cpi_at = ap (λ (p : Plan). p.cpi) same; marks_at = ap (λ (p : Plan). p.marks) same; room = h };
+        placed = record { programs_at = ap (λ (p : Plan). p.places.programs) same; cpi_at = ap (λ (p : Plan). p.places.cpi) same; marks_at = ap (λ (p : Plan). p.places.marks) same; room = h };
       }
 
   -- ---- the length alone

@@ -40,7 +40,7 @@ module _ (f : List ℕ) where
     accepted = (passed f r.rewritable).0
 
     -- the places are in order
-    pub in_order : InOrder plan.programs plan.cpi plan.marks size
+    pub in_order : InOrder plan.places.programs plan.places.cpi plan.places.marks size
     in_order = placed_order (clip_of f) (marks_short f b r.rewritable) r.placed
 
     -- the sequences
@@ -56,9 +56,9 @@ module _ (f : List ℕ) where
         })
 
     -- the programs
-    pub programs_room : {start : ℕ} (out : List ℕ) → start ≡ programs_start f → length out ≡ size → ProgramsRoom f start (plan.cpi - plan.programs) out plan.programs
+    pub programs_room : {start : ℕ} (out : List ℕ) → start ≡ programs_start f → length out ≡ size → ProgramsRoom f start (plan.places.cpi - plan.places.programs) out plan.places.programs
     programs_room out here same =
-        let long : plan.cpi - plan.programs ≡ length (programs_bytes (clip_of f)) = omega (arith, r.placed.programs_at, r.placed.cpi_at, place_cpi (clip_of f)) in
+        let long : plan.places.cpi - plan.places.programs ≡ length (programs_bytes (clip_of f)) = omega (arith, r.placed.programs_at, r.placed.cpi_at, place_cpi (clip_of f)) in
         rw here (record {
           ends = (sound f accepted).programs_in;
           size_is = long ∙ ap length (programs_of_lem f);
@@ -66,10 +66,10 @@ module _ (f : List ℕ) where
         })
 
     -- the CPI
-    pub cpi_room : {start : ℕ} (bytes : ℕ) → start ≡ cpi_start f → bytes ≡ size → CpiRoom f start plan.maps (plan.marks - plan.cpi) bytes plan.cpi
+    pub cpi_room : {start : ℕ} (bytes : ℕ) → start ≡ cpi_start f → bytes ≡ size → CpiRoom f start plan.maps (plan.places.marks - plan.places.cpi) bytes plan.places.cpi
     unfolding clip_of runs_fit cpi_bytes
     cpi_room bytes here same =
-        let long : plan.marks - plan.cpi ≡ length (cpi_bytes (clip_of f)) = omega (arith, r.placed.cpi_at, r.placed.marks_at, place_marks (clip_of f)) in
+        let long : plan.places.marks - plan.places.cpi ≡ length (cpi_bytes (clip_of f)) = omega (arith, r.placed.cpi_at, r.placed.marks_at, place_marks (clip_of f)) in
         rw here (record {
           section = cpi_section f accepted refl r.maps_are;
           runs_few = (passed f r.rewritable).1;

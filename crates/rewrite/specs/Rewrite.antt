@@ -5,7 +5,7 @@ use Rattle.format.specs.ClipRecord.{Clip}
 use Rattle.format.specs.Reading.{clip_of}
 use Rattle.format.specs.Rewriting.{encode}
 use Rattle.format.specs.Refusals.{refusal_of, runs_fit, WriteAnswer, unless_refused, written_in}
-use Rattle.encode_measure.specs.Places.{programs_place, cpi_place, marks_place, Placed}
+use Rattle.encode_measure.specs.Places.{places_of, Placed}
 use Rattle.refusals.specs.Numbers.{number_of}
 use Rattle.refusals.specs.declared.Refusal.{Refusal}
 use Rattle.rewrite.specs.declared.measure.Plan.{Plan}
@@ -48,9 +48,7 @@ plan_of c = record {
   atcs = length c.atcs;
   stcs = length c.stcs;
   maps = length c.maps;
-  programs = programs_place c;
-  cpi = cpi_place c;
-  marks = marks_place c;
+  places = places_of c;
 }
 
 -- the refusal, or the counts and places
@@ -63,4 +61,4 @@ pub record Ready (f : List ℕ) (plan : Plan) (size : ℕ) : Type 0 where
   pub atcs_are : plan.atcs ≡ length (clip_of f).atcs
   pub stcs_are : plan.stcs ≡ length (clip_of f).stcs
   pub maps_are : plan.maps ≡ length (clip_of f).maps
-  pub placed : Placed (clip_of f) plan.programs plan.cpi plan.marks size
+  pub placed : Placed (clip_of f) plan.places.programs plan.places.cpi plan.places.marks size

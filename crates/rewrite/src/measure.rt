@@ -5,19 +5,18 @@ ghost use Rattle.rewrite.specs.Rewrite.{planned_of};
 
 use clip_sections::sections::measure;
 use common::header::Starts;
+use encode_measure::Places;
 use refusals::Refusal;
 use rewrite_cpi::cpi_length;
 use rewrite_sections::programs_length;
 
-// How many ATCs, STCs and maps a file has, and the places of the programs, of the CPI and of the marks in its new one.
+// How many ATCs, STCs and maps a file has, and the places of the sections in its new one.
 #[derive(Clone, Copy)]
 pub struct Plan {
     pub atcs: usize,
     pub stcs: usize,
     pub maps: usize,
-    pub programs: usize,
-    pub cpi: usize,
-    pub marks: usize,
+    pub places: Places,
 }
 
 impl Plan {
@@ -35,9 +34,11 @@ impl Plan {
             atcs: sections.atcs,
             stcs: sections.stcs,
             maps: sections.maps,
-            programs,
-            cpi,
-            marks,
+            places: Places {
+                programs,
+                cpi,
+                marks,
+            },
         })
     }
 }

@@ -22,7 +22,7 @@ use section_heads::put_marks;
 pub fn rewritten_length(file: &[u8]) -> Result<usize, Refusal>
     ensures { length_of result ≡ length_answer file.now }
 {
-    Ok(Plan::of(file)?.marks + 6)
+    Ok(Plan::of(file)?.places.marks + 6)
 }
 
 // Stores the new file, section by section.
@@ -37,23 +37,29 @@ fn put_sections(file: &[u8], plan: Plan, out: &mut [u8])
     };
     let programs = Places {
         file: starts.programs,
-        out: plan.programs,
+        out: plan.places.programs,
     };
     let cpi = Places {
         file: starts.cpi,
-        out: plan.cpi,
+        out: plan.places.cpi,
     };
     put_head(
         clip_info(file),
-        plan.programs as u32,
-        plan.cpi as u32,
-        plan.marks as u32,
+        plan.places.programs as u32,
+        plan.places.cpi as u32,
+        plan.places.marks as u32,
         out,
     );
     put_sequences(file, sequences, plan.atcs, plan.stcs, out);
-    put_programs(file, programs, plan.cpi - plan.programs, out);
-    put_cpi(file, cpi, plan.maps, plan.marks - plan.cpi, out);
-    put_marks(out, plan.marks);
+    put_programs(file, programs, plan.places.cpi - plan.places.programs, out);
+    put_cpi(
+        file,
+        cpi,
+        plan.maps,
+        plan.places.marks - plan.places.cpi,
+        out,
+    );
+    put_marks(out, plan.places.marks);
 }
 
 // Rewrites a file into the output, and tells how long the new one is; an error leaves the output as it was.
@@ -62,7 +68,7 @@ pub fn rewrite(file: &[u8], out: &mut [u8]) -> Result<usize, WriteError>
     ensures out_after { out.new ≡ output_by (write_answer_of result) (encode (clip_of file.now)) out.old }
 {
     let plan = Plan::of(file)?;
-    let len = plan.marks + 6;
+    let len = plan.places.marks + 6;
     if out.len() < len {
         return Err(WriteError::OutputShort(len));
     }

@@ -13,7 +13,7 @@ use row_bytes::put_row;
 use row_values::{Row, RowKind, row_length};
 use stream_coding_info::stream_at;
 
-// A place in the old file, and one in the new.
+// A place in the old file and the place in the new one of the same thing: a walk goes on in both. `rewrite::measure::Plan` beside it has counts, and of places only those in the new file.
 #[derive(Clone, Copy)]
 pub struct Places {
     pub file: usize,

@@ -27,25 +27,25 @@ pub overflow_cast-plan : goal.overflow_cast-plan
 overflow_cast-plan c =
     let F : List ℕ = c.args.file.now in
     let is-bytes : IsBytes F = (λ i. (c.type_inv.file i).fits) in
-    let order : InOrder c.args.plan.programs c.args.plan.cpi c.args.plan.marks (length c.args.out.now) = in_order F is-bytes c.requires in record { fits = omega (arith, order) }
+    let order : InOrder c.args.plan.places.programs c.args.plan.places.cpi c.args.plan.places.marks (length c.args.out.now) = in_order F is-bytes c.requires in record { fits = omega (arith, order) }
 
 pub overflow_cast-plan-2 : goal.overflow_cast-plan-2
 overflow_cast-plan-2 c =
     let F : List ℕ = c.args.file.now in
     let is-bytes : IsBytes F = (λ i. (c.type_inv.file i).fits) in
-    let order : InOrder c.args.plan.programs c.args.plan.cpi c.args.plan.marks (length c.args.out.now) = in_order F is-bytes c.requires in record { fits = omega (arith, order) }
+    let order : InOrder c.args.plan.places.programs c.args.plan.places.cpi c.args.plan.places.marks (length c.args.out.now) = in_order F is-bytes c.requires in record { fits = omega (arith, order) }
 
 pub overflow_cast-plan-3 : goal.overflow_cast-plan-3
 overflow_cast-plan-3 c =
     let F : List ℕ = c.args.file.now in
     let is-bytes : IsBytes F = (λ i. (c.type_inv.file i).fits) in
-    let order : InOrder c.args.plan.programs c.args.plan.cpi c.args.plan.marks (length c.args.out.now) = in_order F is-bytes c.requires in record { fits = omega (arith, order) }
+    let order : InOrder c.args.plan.places.programs c.args.plan.places.cpi c.args.plan.places.marks (length c.args.out.now) = in_order F is-bytes c.requires in record { fits = omega (arith, order) }
 
 pub put_head-requires : goal.put_head-requires
 put_head-requires c =
     let F : List ℕ = c.args.file.now in
     let is-bytes : IsBytes F = (λ i. (c.type_inv.file i).fits) in
-    let order : InOrder c.args.plan.programs c.args.plan.cpi c.args.plan.marks (length c.args.out.now) = in_order F is-bytes c.requires in omega (arith, order)
+    let order : InOrder c.args.plan.places.programs c.args.plan.places.cpi c.args.plan.places.marks (length c.args.out.now) = in_order F is-bytes c.requires in omega (arith, order)
 
 pub put_sequences-requires : goal.put_sequences-requires
 put_sequences-requires c =
@@ -57,7 +57,7 @@ pub overflow_sub-plan : goal.overflow_sub-plan
 overflow_sub-plan c =
     let F : List ℕ = c.args.file.now in
     let is-bytes : IsBytes F = (λ i. (c.type_inv.file i).fits) in
-    let order : InOrder c.args.plan.programs c.args.plan.cpi c.args.plan.marks (length c.args.out.now) = in_order F is-bytes c.requires in
+    let order : InOrder c.args.plan.places.programs c.args.plan.places.cpi c.args.plan.places.marks (length c.args.out.now) = in_order F is-bytes c.requires in
     order.sequences
 
 pub put_programs-requires : goal.put_programs-requires
@@ -70,7 +70,7 @@ pub overflow_sub-plan-2 : goal.overflow_sub-plan-2
 overflow_sub-plan-2 c =
     let F : List ℕ = c.args.file.now in
     let is-bytes : IsBytes F = (λ i. (c.type_inv.file i).fits) in
-    let order : InOrder c.args.plan.programs c.args.plan.cpi c.args.plan.marks (length c.args.out.now) = in_order F is-bytes c.requires in
+    let order : InOrder c.args.plan.places.programs c.args.plan.places.cpi c.args.plan.places.marks (length c.args.out.now) = in_order F is-bytes c.requires in
     order.programs_end_lem
 
 pub put_cpi-requires : goal.put_cpi-requires
@@ -83,7 +83,7 @@ pub put_marks-requires : goal.put_marks-requires
 put_marks-requires c =
     let F : List ℕ = c.args.file.now in
     let is-bytes : IsBytes F = (λ i. (c.type_inv.file i).fits) in
-    let order : InOrder c.args.plan.programs c.args.plan.cpi c.args.plan.marks (length c.args.out.now) = in_order F is-bytes c.requires in
+    let order : InOrder c.args.plan.places.programs c.args.plan.places.cpi c.args.plan.places.marks (length c.args.out.now) = in_order F is-bytes c.requires in
     let same = c.put_cpi.auto.out ∙ c.put_programs.auto.out ∙ c.put_sequences.auto.out ∙ c.put_head.auto.out in
     omega (arith, same, order.room)
 
@@ -94,4 +94,4 @@ returns c =
     let f = F in
     let at = c.read-starts.ensures in
     placed_stored (clip_of f) c.requires.placed c.args.out.now (stored_as _ 0 c.put_head.ensures (head_in f _ _ _ c.clip_info.ensures)) (stored_as _ 220 c.put_sequences.ensures.out_after (sequences_in f at.sequences))
-    (stored_as _ c.args.plan.programs c.put_programs.ensures.out_after (programs_in f at.programs)) (stored_as _ c.args.plan.cpi c.put_cpi.ensures.out_after (cpi_in_lem f at.cpi)) c.put_marks.ensures
+    (stored_as _ c.args.plan.places.programs c.put_programs.ensures.out_after (programs_in f at.programs)) (stored_as _ c.args.plan.places.cpi c.put_cpi.ensures.out_after (cpi_in_lem f at.cpi)) c.put_marks.ensures

@@ -13,7 +13,7 @@ use Rattle.rewrite.proofs.rewrite.rewrite.Goals as goal
 use Rattle.rewrite.proofs.rewrite.rewrite.Goals.{In_ok-plan}
 
 -- the plan is the file's, and an output with room for the new one is ready
-ready : (c : In_ok-plan) → (size : ℕ) → c.in_ok-plan.plan.marks + 6 ≤ size → Ready c.args.file.now c.in_ok-plan.plan size
+ready : (c : In_ok-plan) → (size : ℕ) → c.in_ok-plan.plan.places.marks + 6 ≤ size → Ready c.args.file.now c.in_ok-plan.plan size
 ready c size room = ready_told c.args.file.now size c.in_ok-plan.ensures room
 
 pub returns-in_err-plan : goal.returns-in_err-plan
@@ -26,7 +26,7 @@ returns-in_err-plan c =
 pub overflow_add-len : goal.overflow_add-len
 overflow_add-len c =
     let p = (goal.at.overflow_add-len c).In_ok-plan in
-    let r = ready p (p.in_ok-plan.plan.marks + 6) (omega arith) in
+    let r = ready p (p.in_ok-plan.plan.places.marks + 6) (omega arith) in
     record { fits = omega (arith, r.placed.marks_at, marks_short c.args.file.now (λ i. (c.type_inv.file i).fits) r.rewritable) }
 
 pub returns-then-out-len : goal.returns-then-out-len
@@ -34,7 +34,7 @@ unfolding rewrite_answer
 returns-then-out-len c =
     let f = c.args.file.now in
     let p = (goal.at.returns-then-out-len c).In_ok-plan in
-    let r = ready p (p.in_ok-plan.plan.marks + 6) (omega arith) in
+    let r = ready p (p.in_ok-plan.plan.places.marks + 6) (omega arith) in
     record { result_value = answer_short (rewrite_refusal f) (clip_of f) c.args.out.now r.rewritable r.placed.marks_at (omega arith); out_after = refl }
 
 pub put_sections-requires : goal.put_sections-requires

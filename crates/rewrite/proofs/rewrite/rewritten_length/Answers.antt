@@ -9,8 +9,8 @@ use Rattle.rewrite.proofs.rewrite.rewritten_length.Goals as goal
 use Rattle.rewrite.proofs.rewrite.rewritten_length.Goals.{In_ok-of}
 
 -- the plan is the file's
-ready : (c : In_ok-of) → Ready c.args.file.now c.in_ok-of.field-0 (c.in_ok-of.field-0.marks + 6)
-ready c = ready_told c.args.file.now (c.in_ok-of.field-0.marks + 6) c.in_ok-of.ensures (omega arith)
+ready : (c : In_ok-of) → Ready c.args.file.now c.in_ok-of.field-0 (c.in_ok-of.field-0.places.marks + 6)
+ready c = ready_told c.args.file.now (c.in_ok-of.field-0.places.marks + 6) c.in_ok-of.ensures (omega arith)
 
 pub returns-in_err-of : goal.returns-in_err-of
 returns-in_err-of c =
