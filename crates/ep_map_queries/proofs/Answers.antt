@@ -1,5 +1,5 @@
 -- What the entries of a map answer, and the refusals in front of it.
-use Prim.Native.Nat.{ℕ, ◌+◌, ◌*◌, ◌<◌, ◌≤◌}
+use Prim.Native.Nat.{ℕ, ◌+◌, ◌*◌, ◌≤◌}
 use mathlib.Core.Path.{◌≡◌, refl, sym, ap, ◌∙◌}
 use mathlib.Core.List.{List, [], ◌∷◌}
 use mathlib.Core.Bool.{Bool, true, false}
@@ -10,22 +10,21 @@ use Rattle.format.specs.Bytes.{pick}
 use Rattle.format.specs.ClipRecord.{Row, entry_count, entry_cells, entry_size}
 use Rattle.format.specs.Questions.{Question, parts_of, Answer, refused, of_row, first_row, own_rows, of_map, answer, ask}
 use Rattle.format.specs.Questions as of
-use Rattle.format.specs.Tables.{Table, rows_of, cells_at, clip_in, map_cells}
-use Rattle.format.proofs.Cell.{item_at}
-use Rattle.format.proofs.Rows.{rows_length}
+use Rattle.format.specs.Tables.{Table, rows_of, clip_in, map_cells}
 use Rattle.queries.specs.Asked.{maps_and_entries}
 use Rattle.nearest.specs.Nearest.{find_in, seek_in}
 use Rattle.nearest.specs.declared.Side.{Side}
 use Rattle.table_rows.specs.OwnRows.{refusal, owns, may_ask, owned_rows, cell_in}
 use Rattle.table_rows.proofs.OwnRows.{own_rows_lem, not_owned, behind_tests, tests_fail, tests_pass}
-use Rattle.ep_map_queries.specs.InMap.{owned_entries, entries_at, find_question, seek_question}
+use Rattle.entry_rows.specs.Entries.{entries_at}
+use Rattle.ep_map_queries.specs.InMap.{owned_entries, find_question, seek_question}
 use Rattle.ep_map_queries.specs.Rows.{own_entries}
 
 -- ---- the rows of a map, or the refusal
 
 module _ (maps entries : Table) (m : ℕ) where
   -- those that are told stand in the table and are the map's own
-  pub rows_told : {first count : ℕ} → owns first count ≡ owned_entries maps entries m → Ok (entries_at entries.bytes first count) ≡ own_entries maps entries m
+  pub rows_told : {first count : ℕ} → owns first count ≡ owned_entries maps entries m → Ok (entries_at entries.bytes (entry_size * first) count) ≡ own_entries maps entries m
   rows_told h = let o = own_rows_lem 2 entry_cells maps entries m h in rw o.may (ap Ok (sym o.own))
 
   -- a refusal is one by the definitions too
@@ -33,18 +32,8 @@ module _ (maps entries : Table) (m : ℕ) where
   refusal_told h = let o = not_owned 2 entry_cells maps entries m h in rw (o.0, o.1)
 
   -- the entries of a map stand in the table
-  pub inside : {first count : ℕ} → owns first count ≡ owned_entries maps entries m → entry_size * (first + count) ≤ length entries.bytes
+  pub inside : {first count : ℕ} → owns first count ≡ owned_entries maps entries m → entry_size * first + entry_size * count ≤ length entries.bytes
   inside h = let o = own_rows_lem 2 entry_cells maps entries m h in omega (arith, o.inside, o.room)
-
--- there are as many as are counted
-pub entries_length : (t : List ℕ) (first count : ℕ) → length (entries_at t first count) ≡ count
-entries_length t first count = rows_length (cells_at t entry_cells) (λ p. p + 4 * entry_cells) (4 * entry_cells * first) count
-
--- row k is the one that stands k places behind the first
-pub row_is : (t : List ℕ) (first count k : ℕ) → k < count → cells_at t entry_cells (entry_size * (first + k)) ≡ get_or (entries_at t first count) k []
-row_is t first count k h =
-    let place : entry_size * (first + k) ≡ entry_size * first + entry_size * k = omega arith in
-    rw place (sym (item_at (cells_at t entry_cells) [] entry_size (entry_size * first) count k h))
 
 -- ---- the questions about one map
 

@@ -1,18 +1,14 @@
 -- The entries of one map, and what is asked about them: before a time or after it.
-use Rattle.std.specs.Prelude.{ℕ, List}
-use Rattle.format.specs.ClipRecord.{Row, entry_cells}
+use Rattle.std.specs.Prelude.{ℕ}
+use Rattle.format.specs.ClipRecord.{entry_cells}
 use Rattle.format.specs.Questions.{Question, entry_point_at_or_before, entry_point_after, seek_spn, next_seek_spn, primary_seek_spn, primary_next_seek_spn}
 use Rattle.format.specs.Tables.{Table}
 use Rattle.nearest.specs.declared.Side.{Side}
-use Rattle.table_rows.specs.OwnRows.{Owned, owned_rows, rows_from}
+use Rattle.table_rows.specs.OwnRows.{Owned, owned_rows}
 
 -- the entries of a map, whose count stands in cell 2
 abbrev pub owned_entries : Table → Table → ℕ → Owned
 owned_entries maps entries m = owned_rows 2 entry_cells maps entries m
-
--- so many entries from the one with this number
-abbrev pub entries_at : List ℕ → ℕ → ℕ → List Row
-entries_at t first count = rows_from entry_cells t first count
 
 -- the questions that ask for the entry of a map after a time, or at or before it
 abbrev pub find_question : Side → ℕ → ℕ → Question

@@ -7,12 +7,8 @@ use Rattle.format.specs.Tables.{Table, rows_of, map_cells}
 use Rattle.refusals.specs.declared.Refusal.{Refusal}
 use Rattle.refusals.specs.Numbers.{number_of}
 use Rattle.table_rows.specs.OwnRows.{may_ask}
-use Rattle.ep_map_queries.specs.InMap.{entries_at}
-use Rattle.ep_map_queries.specs.declared.own.MapEntries.{MapEntries}
-
--- the rows of the entries that a map has
-abbrev pub rows_in : MapEntries → List Row
-rows_in e = entries_at e.bytes.now e.own.first e.own.count
+use Rattle.entry_rows.specs.Entries.{rows_in}
+use Rattle.entry_rows.specs.declared.entries.MapEntries.{MapEntries}
 
 -- those that were told, or the refusal's number
 abbrev pub rows_read : Result MapEntries Refusal → Result (List Row) ℕ

@@ -5,52 +5,46 @@ ghost use Rattle.format.specs.Tables.{stated};
 ghost use Rattle.queries.specs.Answers.{found_of};
 ghost use Rattle.queries.specs.Asked.{maps_and_entries};
 ghost use Rattle.ticks.specs.Times.{as_pts};
+ghost use Rattle.entry_rows.specs.Entries.{rows_in};
 ghost use Rattle.nearest.specs.Nearest.{find_in, seek_in};
 ghost use Rattle.ep_map_queries.specs.InMap.{find_question, seek_question};
-ghost use Rattle.ep_map_queries.specs.Rows.{rows_in};
 
-use crate::own::MapEntries;
+use crate::own::map_entries;
+use entry_rows::entries::MapEntries;
 use nearest::{Side, nearest_row};
 use queries::Found;
 use table_rows::Table;
 use ticks::Pts90;
 
-impl<'a> MapEntries<'a> {
-    // The entry after a time, or at or before it.
-    fn find(self, side: Side, at: u64) -> Option<u64>
-        ensures { found_of (Ok result) ≡ find_in side (rows_in self.entry) at }
-    {
-        nearest_row(
-            self.own.count as usize,
-            side,
-            at,
-            |k| self.entry(k as u64).time,
-        )
-    }
+// The entry after a time, or at or before it, of a map's own.
+fn find_in(entries: MapEntries, side: Side, at: u64) -> Option<u64>
+    ensures { found_of (Ok result) ≡ find_in side (rows_in entries.entry) at }
+{
+    nearest_row(entries.count, side, at, |k| entries.entry(k).time)
+}
 
-    // The packet of that entry.
-    fn seek(self, side: Side, at: u64) -> Option<u64>
-        ensures { found_of (Ok result) ≡ seek_in side (rows_in self.entry) at }
-    {
-        let row = self.find(side, at)?;
-        Some(u64::from(self.entry(row).packet))
-    }
+// The packet of that entry.
+fn seek_in(entries: MapEntries, side: Side, at: u64) -> Option<u64>
+    ensures { found_of (Ok result) ≡ seek_in side (rows_in entries.entry) at }
+{
+    let row = find_in(entries, side, at)?;
+    Some(u64::from(entries.entry(row as usize).packet))
 }
 
 // The entry of a map after a time, or at or before it.
 fn find(maps: Table, entries: Table, map: u32, side: Side, at: Pts90) -> Found
     ensures { found_of result ≡ ask (find_question side map at.0) (maps_and_entries (stated maps.entry.bytes.now maps.entry.rows) (stated entries.entry.bytes.now entries.entry.rows)) }
 {
-    let own = MapEntries::of(maps, entries, map)?;
-    Ok(own.find(side, u64::from(at.0)))
+    let own = map_entries(maps, entries, map)?;
+    Ok(find_in(own, side, u64::from(at.0)))
 }
 
 // The packet of that entry.
 pub fn seek(maps: Table, entries: Table, map: u32, side: Side, at: Pts90) -> Found
     ensures { found_of result ≡ ask (seek_question side map at.0) (maps_and_entries (stated maps.entry.bytes.now maps.entry.rows) (stated entries.entry.bytes.now entries.entry.rows)) }
 {
-    let own = MapEntries::of(maps, entries, map)?;
-    Ok(own.seek(side, u64::from(at.0)))
+    let own = map_entries(maps, entries, map)?;
+    Ok(seek_in(own, side, u64::from(at.0)))
 }
 
 // The entry with the greatest time not above the one given, the earliest among equals; row 0 if all are later; nothing in an empty map.

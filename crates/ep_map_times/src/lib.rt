@@ -8,16 +8,17 @@ ghost use Rattle.format.specs.Tables.{stated};
 ghost use Rattle.ticks.specs.Times.{as90};
 ghost use Rattle.queries.specs.Answers.{time90_of};
 ghost use Rattle.queries.specs.Asked.{maps_and_entries};
-ghost use Rattle.ep_map_queries.specs.Rows.{rows_in};
+ghost use Rattle.entry_rows.specs.Entries.{rows_in};
 
-use ep_map_queries::own::MapEntries;
+use entry_rows::entries::MapEntries;
+use ep_map_queries::own::map_entries;
 use queries::Time90;
 use table_rows::Table;
 use ticks::Ticks90;
 
 // The time of entry k of a map.
-fn time_of(entries: MapEntries, k: u64) -> Ticks90
-    requires { k < entries.own.count }
+fn time_of(entries: MapEntries, k: usize) -> Ticks90
+    requires { k < entries.count }
     ensures { as90 result ≡ entry_time (get_or (rows_in entries.entry) k []) }
 {
     Ticks90(entries.entry(k).time)
@@ -27,7 +28,7 @@ fn time_of(entries: MapEntries, k: u64) -> Ticks90
 fn first_time(entries: MapEntries) -> Option<Ticks90>
     ensures { time90_of (Ok result) ≡ first_time (rows_in entries.entry) }
 {
-    if entries.own.count == 0 {
+    if entries.count == 0 {
         return None;
     }
     Some(time_of(entries, 0))
@@ -37,8 +38,8 @@ fn first_time(entries: MapEntries) -> Option<Ticks90>
 fn last_time(entries: MapEntries) -> Option<Ticks90>
     ensures { time90_of (Ok result) ≡ last_time (rows_in entries.entry) }
 {
-    let last = entries.own.count.checked_sub(1)?;
-    Some(time_of(entries, u64::from(last)))
+    let last = entries.count.checked_sub(1)?;
+    Some(time_of(entries, last))
 }
 
 // The last time of some entries less the first, not below 0; 0 without any.
@@ -55,7 +56,7 @@ fn span(entries: MapEntries) -> Ticks90
 pub fn indexed_span_90k(maps: Table, entries: Table, map: u32) -> Time90
     ensures { time90_of result ≡ ask (indexed_span_90k map) (maps_and_entries (stated maps.entry.bytes.now maps.entry.rows) (stated entries.entry.bytes.now entries.entry.rows)) }
 {
-    let own = MapEntries::of(maps, entries, map)?;
+    let own = map_entries(maps, entries, map)?;
     Ok(Some(span(own)))
 }
 
@@ -63,7 +64,7 @@ pub fn indexed_span_90k(maps: Table, entries: Table, map: u32) -> Time90
 pub fn first_pts(maps: Table, entries: Table, map: u32) -> Time90
     ensures { time90_of result ≡ ask (first_pts map) (maps_and_entries (stated maps.entry.bytes.now maps.entry.rows) (stated entries.entry.bytes.now entries.entry.rows)) }
 {
-    let own = MapEntries::of(maps, entries, map)?;
+    let own = map_entries(maps, entries, map)?;
     Ok(first_time(own))
 }
 
@@ -71,6 +72,6 @@ pub fn first_pts(maps: Table, entries: Table, map: u32) -> Time90
 pub fn last_pts(maps: Table, entries: Table, map: u32) -> Time90
     ensures { time90_of result ≡ ask (last_pts map) (maps_and_entries (stated maps.entry.bytes.now maps.entry.rows) (stated entries.entry.bytes.now entries.entry.rows)) }
 {
-    let own = MapEntries::of(maps, entries, map)?;
+    let own = map_entries(maps, entries, map)?;
     Ok(last_time(own))
 }

@@ -1,5 +1,5 @@
 -- No entries span nothing; else the last time is lessened by the first.
-use Rattle.ep_map_queries.specs.Rows.{rows_in}
+use Rattle.entry_rows.specs.Entries.{rows_in}
 use Rattle.ep_map_times.proofs.Lasts.{no_span, span_is}
 use Rattle.ep_map_times.proofs.span.Goals as goal
 

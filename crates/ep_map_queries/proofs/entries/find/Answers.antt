@@ -14,4 +14,4 @@ returns-in_err-own c =
 pub returns : goal.returns
 returns c =
     let a = c.args in
-    rw c.from.ensures at c.find.ensures ∙ asked (find_asks (stated a.maps.bytes.now a.maps.rows) (stated a.entries.bytes.now a.entries.rows) a.map a.side a.at.0) c.in_ok-own.ensures
+    rw c.from.ensures at c.find_in.ensures ∙ asked (find_asks (stated a.maps.bytes.now a.maps.rows) (stated a.entries.bytes.now a.entries.rows) a.map a.side a.at.0) c.in_ok-own.ensures
