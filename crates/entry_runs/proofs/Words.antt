@@ -14,8 +14,9 @@ use Rattle.format.specs.Rewriting.{same_run}
 use Rattle.format.proofs.Fields.{Fit, one, fits_fit, words_masked, gap_masked, time_cells}
 use Rattle.format.proofs.Tests.{both_true}
 use Rattle.format.specs.Tables.{cells_at}
+use Rattle.entry_rows.specs.declared.EntryRow.{EntryRow}
 use Rattle.entry_rows.specs.declared.Words.{Words}
-use Rattle.entry_rows.specs.Reads.{WordsAre, words_row, words_type}
+use Rattle.entry_rows.specs.Reads.{EntryIs, WordsAre, row_of, words_row, words_type}
 use Rattle.entry_rows.proofs.Laws.{entry_whole}
 use Rattle.row_limits.proofs.Fits.{angle_masked, last_test, last_fails}
 use Rattle.entry_runs.specs.Fitting.{words_same, goes_on}
@@ -157,3 +158,7 @@ module _ (t : List ℕ) (p q : ℕ) {a b : Words} (are : WordsAre t p a) (those 
   -- and, where the first fits a map of some type, whether the second is in its run and fits
   pub words_go_on : (type : ℕ) → entry_fits type (cells_at t entry_cells p) ≡ true → goes_on a b ≡ both (same_run (cells_at t entry_cells p) (cells_at t entry_cells q)) (entry_fits type (cells_at t entry_cells q))
   words_go_on type h = ap₂ both words_same_lem (ap₂ entry_fits (are.type_is.same ∙ fit_type type (cells_at t entry_cells p) h) (words_row_lem t q those))
+
+-- an entry that was read is tested as its row
+pub tested : {t : List ℕ} {q : ℕ} {e : EntryRow} {b : Bool} (type : ℕ) → EntryIs t q e → b ≡ entry_fits type (row_of e) → b ≡ entry_fits type (cells_at t entry_cells q)
+tested {t} {q} type i is = is ∙ ap (entry_fits type) (entry_whole t q i.angle_is i.end_is i.time_is i.packet_is i.type_is)

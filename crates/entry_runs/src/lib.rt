@@ -12,9 +12,9 @@ ghost use Rattle.runs.specs.Runs.{entries_from};
 ghost use Rattle.entry_rows.specs.Reads.{words_row, words_type};
 ghost use Rattle.entry_runs.specs.Fitting.{end_fit, count_fit, goes_on};
 
+use entry_rows::Words;
 use entry_rows::entries::MapEntries;
-use entry_rows::{SIZE, Words};
-use row_limits::{TableKind, row_fits};
+use row_limits::entry_fits;
 use runs::same_run;
 
 // Whether an entry is in the run of another one that fits, and fits too. Three words tell it: what is the same in a run and what must be 0 are compared at once, and the bits that are free in a run are masked.
@@ -46,8 +46,7 @@ pub fn run_end(entries: MapEntries, from: usize, map_type: u32) -> Option<usize>
     requires { from < entries.count }
     ensures { result ≡ end_fit map_type from (entries_from entries.entry.bytes.now entries.entry.first entries.entry.count from) }
 {
-    let at = entries.first + SIZE * from;
-    if !row_fits(entries.bytes, at, TableKind::Entry(map_type)) {
+    if !entry_fits(map_type, entries.entry(from)) {
         return None;
     }
     let first = entries.words(from);

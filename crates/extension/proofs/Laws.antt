@@ -11,18 +11,17 @@ use lib.Dec.{leb, ltb, eqb}
 use borrow.Author.Tests.{eq-eqb, ne_eqb, le-leb, lt-leb, lt-ltb, le-ltb, leb-true}
 use Rattle.format.specs.Bytes.{IsBytes, both, pick, gather}
 use Rattle.format.specs.ClipRecord.{Row}
-use Rattle.format.specs.Extensions.{block_length, block_end, extension_count, address_at, data_length_at, next_extension, extension_at, is_kept, kept_at, has_extensions, extension_rows, extensions_from, Found, nothing, found, list_data}
+use Rattle.format.specs.Extensions.{block_length, block_end, extension_count, next_extension, extension_at, is_kept, kept_at, has_extensions, extension_rows, extensions_from, Found, nothing, found, list_data}
 use Rattle.format.specs.Tables.{row_bytes_of, table_bytes, row_room, overwritten, extension_cells}
 use Rattle.format.proofs.Tests.{both_true, left_fails, right_fails, ap_pick}
 use Rattle.format.proofs.Lists.{none, more}
 use Rattle.format.proofs.Stores.{be_below}
 use Rattle.format.proofs.Rows.{gather_all}
 use Rattle.format.proofs.Loops.{one_left, none_left, sets_front}
-use Rattle.format.proofs.Sweep.{row_bytes_lem, HaveCells, table_bytes_lem, Filling, filled, group_room, group_put}
+use Rattle.format.proofs.Sweep.{row_bytes_lem, HaveCells, table_bytes_lem, Filling, group_room, group_put}
 use Rattle.std.specs.Prelude.{Option, Some, None}
 use Rattle.std.specs.Option.{option_or}
-use Rattle.numbers.specs.Reads.{ReadIs}
-use Rattle.extension.specs.Block.{block_head, Block, InBlock, rows_in, extensions_in, entry_rows_of, entry_end, EntryIs, entry_list, found_in, list_end, MeasuredIs, PutIs}
+use Rattle.extension.specs.Block.{block_head, Block, rows_in, extensions_in, entry_rows_of, entry_end, EntryIs, entry_list, found_in, list_end, MeasuredIs, PutIs}
 use Rattle.extension.specs.declared.BlockHead.{BlockHead}
 use Rattle.extension.specs.declared.ExtensionDataEntry.{ExtensionDataEntry}
 use Rattle.extension.specs.declared.ListData.{ListData}
@@ -118,41 +117,6 @@ module _ (f : List ℕ) (start : ℕ) where
       let t = (both_true {a = long} (both_true {a = both some before} h.is).1).1 in
       let room = leb-true (start + 12 + 12 * extension_count f start) (length f) t in
       record { short = small; room = rw h.count room; few = omega (arith, h.count, be_below f bytes (start + 11) 1); stop = h.stop }
-
--- ---- an entry
-
-module _ (f : List ℕ) (start p : ℕ) where
-  -- an entry that the rule does not keep gives no row
-  left_out : is_kept f start p ≡ false → EntryIs f start p None
-  left_out h = record { rows = rw h; inside = omega arith }
-
-  -- an address of 0 is left out
-  pub no_address : {addr : ℕ} → ReadIs f (p + 4) 4 addr → addr ≡ 0 → EntryIs f start p None
-  no_address r h =
-      left_out
-      (left_fails (leb (start + address_at f p + data_length_at f p) (min (block_end f start) (length f)))
-      (ap not (eq-eqb (address_at f p) 0 (sym r.same ∙ h))))
-
-  module _ {end addr len : ℕ} (b : InBlock f start end p) (a : ReadIs f (p + 4) 4 addr) (l : ReadIs f (p + 8) 4 len) where
-    -- where the data ends
-    end_is : start + addr + len ≡ start + address_at f p + data_length_at f p
-    end_is = rw (a.same, l.same)
-
-    -- so is data that passes the end
-    pub data_past : end < start + addr + len → EntryIs f start p None
-    data_past h =
-        left_out
-        (right_fails (not (eqb (address_at f p) 0))
-        (lt-leb (start + address_at f p + data_length_at f p) (min (block_end f start) (length f)) (omega (arith, end_is, b.stop))))
-
-    -- other data is kept
-    pub data_kept : {id1 id2 : ℕ} → (addr ≡ 0 → ⊥) → start + addr + len ≤ end → ReadIs f p 2 id1 → ReadIs f (p + 2) 2 id2
-        → EntryIs f start p (Some (record { id1 = id1; id2 = id2; start = start + addr; len = len }))
-    data_kept some h i j =
-        let fits : leb (start + address_at f p + data_length_at f p) (min (block_end f start) (length f)) ≡ true =
-        le-leb (start + address_at f p + data_length_at f p) (min (block_end f start) (length f)) (omega (arith, end_is, b.stop)) in
-        let not_zero : eqb (address_at f p) 0 ≡ false = ne_eqb (address_at f p) 0 (λ z. some (a.same ∙ z)) in
-        record { rows = rw (fits, not_zero, a.same, l.same, i.same, j.same); inside = omega (arith, b.stop) }
 
 -- ---- the list
 
@@ -288,13 +252,6 @@ module _ (f : List ℕ) (start n : ℕ) where
     pub turns : k ≤ n
     pub fills : Filling (gather (kept_at f start) next_extension) t₀ (sets t₀ 0 (table_bytes (rows_in f start n))) t at p n k
 
-  -- before the first turn
-  pub none_stored : (t : List ℕ) → length (table_bytes (rows_in f start n)) ≤ length t → Stored (start + 12) 0 0 t t
-  none_stored t h = record {
-    turns = omega arith;
-    fills = record { long = refl; room = rw sub-zero (omega arith); rest = rw sub-zero };
-  }
-
   module _ {p k at : ℕ} {t₀ t : List ℕ} (e : Option ExtensionDataEntry) (h : k < n) (is : EntryIs f start p e) (c : Stored p k at t₀ t) where
     -- the entry's bytes are those of the item that comes next
     size : length (table_bytes (kept_at f start p)) ≡ length (table_bytes (entry_rows_of e))
@@ -310,10 +267,6 @@ module _ (f : List ℕ) (start n : ℕ) where
       turns = omega arith;
       fills = rw put.next (group_put (kept_at f start) next_extension c.fills h size (rw is.rows at put.stored) refl);
     }
-
-  -- after the last turn
-  pub all_stored : {p k at : ℕ} {t₀ t : List ℕ} → n ≤ k → Stored p k at t₀ t → t ≡ sets t₀ 0 (table_bytes (rows_in f start n))
-  all_stored h c = filled (λ q. refl) c.fills h
 
 -- ---- the measuring pass
 

@@ -1,17 +1,15 @@
 -- Numbers stored lowest byte first, as the cells of a table: their bytes, and that they read back.
 use Prim.Native.Nat.{ℕ, zero, suc, ◌+◌, ◌*◌, ◌/◌, ◌%◌, ◌^◌, ◌<◌}
-use mathlib.Core.Path.{◌≡◌, refl, sym, ap, ap₂, ◌∙◌}
+use mathlib.Core.Path.{◌≡◌, refl, ap, ap₂, ◌∙◌}
 use mathlib.Core.List.{List, [], ◌∷◌, ◌++◌}
-use native.Mathlib.Nat.{add-zero, zero-add, pow-suc, div-one, div-lt_iff_lt-mul}
-use native.Mathlib.Numerals.{one-add}
+use native.Mathlib.Nat.{add-zero, pow-suc, div-lt_iff_lt-mul}
 use native.Mathlib.Omega.{arith}
 use lib.ListN.{length, get_or}
 use lib.Seq.{get_or_at}
 use lib.Dec.{lit<}
-use Rattle.format.specs.Bytes.{be_at, bytes_of}
 use Rattle.format.specs.Tables.{low_at, low_bytes}
 use Rattle.format.proofs.Numbers.{Stands, right}
-use Rattle.format.proofs.Stores.{same_read, be_same, mul_bytes, div_bytes, bytes_parts}
+use Rattle.format.proofs.Stores.{same_read, mul_bytes}
 
 -- the n bytes are n
 pub low_length : (n v : ℕ) → length (low_bytes n v) ≡ n
@@ -67,29 +65,3 @@ low_digits s h p (suc n) zero b =
 low_digits s h p (suc n) (suc k) b =
     let place : p + 1 + k ≡ p + suc k = omega arith in
     rw (low_first s p n, low_push n (low_at s (p + 1) n) (get_or s p 0) (h p), ← place) (low_digits s h (p + 1) n k (omega arith))
-
--- byte k of a number is the one above its k lowest
-pub low_digit : (n v k : ℕ) → k < n → get_or (low_bytes n v) k 0 ≡ v / 256 ^ k % 256
-unfolding low_bytes
-low_digit zero v k h = absurd (omega arith)
-low_digit (suc n) v zero h = rw (div-one v)
-low_digit (suc n) v (suc k) h = low_digit n (v / 256) k (omega arith) ∙ ap (λ (x : ℕ). x % 256) (div_bytes v k)
-
--- ---- the two byte orders
-
--- the lowest-first bytes of a number that was read, read highest first, are what stands there highest first
-pub turned_number : (s : List ℕ) → ((i : ℕ) → get_or s i 0 < 256) → (p n : ℕ) → be_at (low_bytes n (low_at s p n)) 0 n ≡ be_at s p n
-turned_number s h p n = be_same (low_bytes n (low_at s p n)) s 0 p n (λ k b. rw (zero-add k) (low_digits s h p n k b))
-
--- where the bytes at p are those of v, the lowest first, their big-endian number has the big-endian bytes of v as its lowest-first bytes
-turned_from : (s : List ℕ) (p n v : ℕ) → ((k : ℕ) → k < n → get_or s (p + k) 0 ≡ v / 256 ^ k % 256) → low_bytes n (be_at s p n) ≡ bytes_of n v
-unfolding be_at bytes_of low_bytes
-turned_from s p zero v h = refl
-turned_from s p (suc n) v h =
-    let byte = v / 256 ^ n % 256 in
-    rw (h n (omega arith), low_push n (be_at s p n) byte (omega arith), turned_from s p n v (λ k b. h k (omega arith)))
-    (sym (bytes_parts 1 n v) ∙ ap (λ (m : ℕ). bytes_of m v) (one-add n))
-
--- the bytes of v, turned round and stored lowest first, are its big-endian bytes
-pub turned_bytes : (n v : ℕ) → low_bytes n (be_at (low_bytes n v) 0 n) ≡ bytes_of n v
-turned_bytes n v = turned_from (low_bytes n v) 0 n v (λ k h. rw (zero-add k) (low_digit n v k h))

@@ -8,7 +8,7 @@ use lib.ListN.{length, get_or, take, drop, length-append}
 use lib.Seq.{take_at, drop_at}
 use lib.Dec.{leb, ltb}
 use borrow.Author.Tests.{lt-ltb, le-leb, ne_eqb}
-use Rattle.format.specs.Bytes.{both, pick, every, be_at, bytes_of, field_bytes, unpacked, packed, fits, rows_at, gather, flat}
+use Rattle.format.specs.Bytes.{both, pick, every, be_at, bytes_of, field_bytes, unpacked, packed, rows_at, gather, flat}
 use Rattle.format.specs.ClipRecord.{Row, map_type_of, entry_count, present}
 use Rattle.format.specs.EntryPoints.{coarse_widths, coarse_at, next_coarse, fine_widths, fine_at, next_fine, header_widths, map_type_at, coarse_count_at, fine_count_at, map_at, next_map, entries_of, cpi_end, has_maps, map_count, maps_from, entries_from, cpi_in, map_in, maps_in}
 use Rattle.format.specs.Refusals.{entry_bits}

@@ -16,9 +16,7 @@ use Rattle.format.proofs.Fields.{Fit, fits_fit}
 use Rattle.format.proofs.Good.{GoodStream, Maps, Writable}
 use Rattle.format.proofs.Join.{GoodEntry}
 use Rattle.format.proofs.Lists.{All, every_all, all_map}
-use Rattle.format.proofs.Numbers.{left}
 use Rattle.format.proofs.Tests.{both_true, passed}
-use Rattle.format.proofs.Write.{cells}
 
 -- an entry that passes the writer's tests has cells that fit, a multiple of 512 as its time, and its map's type
 entry_made : (type : ℕ) (e : Row) → entry_fits type e ≡ true → GoodEntry type e

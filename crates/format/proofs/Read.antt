@@ -22,7 +22,6 @@ use Rattle.format.proofs.Lists.{All, none, more}
 use Rattle.format.proofs.Rows.{map_fixed, rows_length, rows_all, gather_all, gather_adds}
 use Rattle.format.proofs.Stores.{be_below}
 use Rattle.format.proofs.Tests.{both_true, passed}
-use Rattle.format.proofs.Write.{cells}
 
 -- ---- letters
 

@@ -17,7 +17,7 @@ use Rattle.entry_rows.specs.Reads.{row_of}
 use Rattle.ep_entries.specs.Walks.{IsWalk}
 use Rattle.ep_entries.specs.declared.body.MapBody.{MapBody}
 use Rattle.ep_entries.specs.declared.walk.Walk.{Walk}
-use Rattle.ep_entries.proofs.Joined.{left_all, left_done}
+use Rattle.ep_entries.proofs.Joined.{left_all}
 use Rattle.runs.specs.Runs.{end_from, coarse_from}
 use Rattle.runs.proofs.Runs.{coarse_all}
 use Rattle.encode_map.proofs.Bodies.{Narrow}

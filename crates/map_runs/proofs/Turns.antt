@@ -19,9 +19,9 @@ use Rattle.entry_rows.specs.declared.EntryRow.{EntryRow}
 use Rattle.ep_entries.specs.declared.walk.Walk.{Walk}
 use Rattle.ep_entries.proofs.Walks.{walk_stop, walk_later}
 use Rattle.ep_entries.proofs.Joined.{left_all, left_turn, left_done}
-use Rattle.runs.specs.Runs.{run_end, end_from, coarse_from}
+use Rattle.runs.specs.Runs.{run_end, coarse_from}
 use Rattle.runs.proofs.Runs.{coarse_all}
-use Rattle.map_runs.specs.Entries.{AtRow, IsMet, IsEnd}
+use Rattle.map_runs.specs.Entries.{AtRow, IsMet, IsEnd, Along, Under, UntilIs}
 use Rattle.map_runs.specs.declared.walked.Met.{Met}
 use Rattle.map_runs.specs.declared.walked.RunEnd.{RunEnd}
 use Rattle.map_runs.proofs.Entries.{next_run}
@@ -51,15 +51,8 @@ module _ (f : List ℕ) (m : MapBody) where
   -- ---- the search for the end of the run that begins at row `from`
 
   module _ (from : ℕ) where
-    -- up to row k the run goes on, and the walk is right for row k
-    pub record Along (walk : Walk) (k : ℕ) : Type 0 where
-      pub past : from < k
-      pub within : k ≤ m.num_fine
-      pub walk_is : IsWalk f m.num_fine (coarse_in f m) k walk
-      pub rest : run_end (entry_in f m from) k (entries_left f m k) ≡ end_from from (entries_left f m from)
-
     -- before the first turn
-    pub along_first : (first : Met) → IsMet f m from first → from < m.num_fine → Along first.walk (from + 1)
+    pub along_first : (first : Met) → IsMet f m from first → from < m.num_fine → Along f m from first.walk (from + 1)
     along_first first known h = record {
       past = omega arith;
       within = omega arith;
@@ -67,7 +60,7 @@ module _ (f : List ℕ) (m : MapBody) where
       rest = rw (left_turn f m from h, add-one);
     }
 
-    module _ (first : Met) (known : IsMet f m from first) (walk : Walk) (k : ℕ) (i : Along walk k) (h : k < m.num_fine) (met : Met) (here : IsMet f m k met) where
+    module _ (first : Met) (known : IsMet f m from first) (walk : Walk) (k : ℕ) (i : Along f m from walk k) (h : k < m.num_fine) (met : Met) (here : IsMet f m k met) where
       -- row k is compared with the run's first
       same_as : {s : Bool} → s ≡ same_keys first.entry.time first.entry.packet met.entry.time met.entry.packet
           → s ≡ same_run (entry_in f m from) (entry_in f m k)
@@ -75,7 +68,7 @@ module _ (f : List ℕ) (m : MapBody) where
 
       -- it is in the run
       pub along_turn : {s : Bool} → s ≡ same_keys first.entry.time first.entry.packet met.entry.time met.entry.packet
-          → s ≡ true → Along met.walk (k + 1)
+          → s ≡ true → Along f m from met.walk (k + 1)
       unfolding run_end
       along_turn {s = s} e y =
           let same : same_run (entry_in f m from) (entry_in f m k) ≡ true = sym (same_as e) ∙ y in
@@ -95,11 +88,48 @@ module _ (f : List ℕ) (m : MapBody) where
           record { row_is = rw (left_turn f m k h, other) at i.rest; walk_is = here.walk_is }
 
     -- the run ends with the entries
-    pub along_done : (walk : Walk) (k : ℕ) → Along walk k → m.num_fine ≤ k → IsEnd f m from (record { row = m.num_fine; walk = walk })
+    pub along_done : (walk : Walk) (k : ℕ) → Along f m from walk k → m.num_fine ≤ k → IsEnd f m from (record { row = m.num_fine; walk = walk })
     unfolding run_end
     along_done walk k i h =
         let last : m.num_fine ≡ k = omega (arith, i.within) in
         record { row_is = last ∙ rw (left_done f m k h) at i.rest; walk_is = later k m.num_fine walk i.within i.walk_is }
+
+  -- ---- the fine rows under one coarse row
+
+  module _ (from end : ℕ) (w : Walk) (u : Under f m from end w) where
+    -- row k of them was joined with the walk's coarse row
+    under_met : (k x : ℕ) (entry : EntryRow) → from ≤ k → k < end → x ≡ be_at f (m.fine + 4 * k) 4
+        → entry ≡ joined m.kind w.time w.packet (unpacked fine_widths x) → IsMet f m k (record { walk = w; entry = entry })
+    under_met k x entry h g word e =
+        let is = later from k w h u.walk_is in
+        let at = walk_stop f m.num_fine (coarse_in f m) k w is (omega (arith, u.before)) in
+        record { walk_is = is; entry_is = rw (e, word, at.0, at.1) }
+
+    module _ (first : Met) where
+      -- up to row k each is in the run of the entry
+      abbrev pub Going : ℕ → Type 0
+      Going k = (start : ℕ) → IsMet f m start first → Along f m start w from → Along f m start w k
+
+      module _ (k x : ℕ) (entry : EntryRow) (h : from ≤ k) (g : k < end) (word : x ≡ be_at f (m.fine + 4 * k) 4)
+          (e : entry ≡ joined m.kind w.time w.packet (unpacked fine_widths x)) (i : Going k) {s : Bool} (is : s ≡ same_keys first.entry.time first.entry.packet entry.time entry.packet) where
+        -- row k is too
+        pub going_on : s ≡ true → Going (k + 1)
+        going_on y start known a =
+            along_turn start first known w k (i start known a) (omega (arith, g, u.within)) (record { walk = w; entry = entry }) (under_met k x entry h g word e) is y
+
+        -- row k is not
+        pub going_stop : s ≡ false → UntilIs f m from end w first k
+        going_stop y = record {
+          past = h;
+          last = omega (arith, g);
+          along = i;
+          stops = λ start known a b.
+              along_stop start first known w k (i start known a) (omega (arith, g, u.within)) (record { walk = w; entry = entry }) (under_met k x entry h g word e) is y;
+        }
+
+      -- all are
+      pub going_done : (k : ℕ) → k ≡ end → Going k → UntilIs f m from end w first end
+      going_done k z i = record { past = u.turns; last = omega arith; along = rw z at i; stops = λ start known a b. absurd (omega (arith, b)) }
 
   -- ---- from run to run
 

@@ -6,7 +6,7 @@ use Rattle.entry_rows.specs.Reads.{row_of}
 use Rattle.ep_entries.specs.Walks.{IsWalk}
 use Rattle.ep_entries.specs.declared.body.MapBody.{MapBody}
 use Rattle.ep_entries.specs.declared.walk.Walk.{Walk}
-use Rattle.runs.specs.Runs.{end_from}
+use Rattle.runs.specs.Runs.{run_end, end_from}
 use Rattle.map_runs.specs.declared.walked.Met.{Met}
 use Rattle.map_runs.specs.declared.walked.RunEnd.{RunEnd}
 
@@ -35,3 +35,25 @@ pub record CoarseRoom (f : List ℕ) (m : MapBody) (size at : ℕ) : Type 0 wher
 pub record BodyRoom (f : List ℕ) (m : MapBody) (size at : ℕ) : Type 0 where
   pub rows : RowsIn f m
   pub room : at + length (body_bytes (entries_in f m)) ≤ size
+
+-- up to row k the run that begins at row `from` goes on, and the walk is right for row k
+pub record Along (f : List ℕ) (m : MapBody) (from : ℕ) (walk : Walk) (k : ℕ) : Type 0 where
+  pub past : from < k
+  pub within : k ≤ m.num_fine
+  pub walk_is : IsWalk f m.num_fine (coarse_in f m) k walk
+  pub rest : run_end (entry_in f m from) k (entries_left f m k) ≡ end_from from (entries_left f m from)
+
+-- fine rows `from` up to `end` of a map that is in the file use the walk's coarse row
+pub record Under (f : List ℕ) (m : MapBody) (from end : ℕ) (w : Walk) : Type 0 where
+  pub rows : RowsIn f m
+  pub turns : from ≤ end
+  pub within : end ≤ m.num_fine
+  pub before : end ≤ w.end
+  pub walk_is : IsWalk f m.num_fine (coarse_in f m) from w
+
+-- the run of an entry goes on from one of them up to row r, and ends there if that is not the last
+pub record UntilIs (f : List ℕ) (m : MapBody) (from end : ℕ) (w : Walk) (first : Met) (r : ℕ) : Type 0 where
+  pub past : from ≤ r
+  pub last : r ≤ end
+  pub along : (start : ℕ) → IsMet f m start first → Along f m start w from → Along f m start w r
+  pub stops : (start : ℕ) → IsMet f m start first → Along f m start w from → r < end → IsEnd f m start (record { row = r; walk = w })

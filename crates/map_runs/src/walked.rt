@@ -2,7 +2,7 @@
 ghost use Rattle.std.specs.Prelude.{◌≡◌, ◌<◌};
 ghost use Rattle.format.specs.Rewriting.{runs};
 ghost use Rattle.ep_entries.specs.Body.{entries_in, RowsIn};
-ghost use Rattle.map_runs.specs.Entries.{AtRow, IsMet, IsEnd};
+ghost use Rattle.map_runs.specs.Entries.{AtRow, IsMet, IsEnd, Under, UntilIs};
 
 use entry_rows::EntryRow;
 use ep_entries::body::MapBody;
@@ -35,16 +35,33 @@ pub fn meet(file: &[u8], m: MapBody, k: usize, from: Walk) -> Met
     Met { walk, entry }
 }
 
-// The end of the run that begins at row `from`, of which the entry is `first`. Each next entry is compared with the run's first.
+// The first fine row from number `from` up to `end`, all under the walk's coarse row, that is not in the run of the entry `first`; `end` where all are. In a loop over one coarse row's fine rows nothing looks at the next coarse row.
+fn same_until(file: &[u8], m: MapBody, from: usize, end: usize, w: Walk, first: Met) -> usize
+    requires { Under file.now m from end w }
+    ensures { UntilIs file.now m from end w first result }
+{
+    for k in from..end {
+        let entry = join(u32_at::<4>(file, m.fine + 4 * k), w, m.kind);
+        if !same_key(first.entry, entry) {
+            return k;
+        }
+    }
+    end
+}
+
+// The end of the run that begins at row `from`, of which the entry is `first`. Each next entry is compared with the run's first, coarse row by coarse row.
 pub fn run_end(file: &[u8], m: MapBody, from: usize, first: Met) -> RunEnd
     requires { RowsIn file.now m × (from < m.num_fine) × IsMet file.now m from first }
     ensures { IsEnd file.now m from result }
 {
     let mut walk = first.walk;
-    for k in from + 1..m.num_fine {
-        let met = meet(file, m, k, walk);
-        walk = met.walk;
-        if !same_key(first.entry, met.entry) {
+    let mut k = from + 1;
+    // a `while`: each turn goes on by the fine rows of a coarse row
+    while k < m.num_fine {
+        walk = walk.reach(file, m, k);
+        let end = walk.end.min(m.num_fine);
+        k = same_until(file, m, k, end, walk, first);
+        if k < end {
             return RunEnd { row: k, walk };
         }
     }

@@ -48,7 +48,7 @@ fn time_fits(time: u64) -> bool
 }
 
 // An angle of 1 bit, an I-end of 3, a time of 32 that is a multiple of 512, a type of 4 bits that is its map's. The map's type is tested for its 4 bits: it is the same at every row.
-fn entry_fits(map_type: u32, entry: EntryRow) -> bool
+pub fn entry_fits(map_type: u32, entry: EntryRow) -> bool
     ensures { result ≡ entry_fits map_type (row_of entry) }
 {
     map_type < 16

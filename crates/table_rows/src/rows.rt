@@ -9,7 +9,7 @@ use cells::cell_at;
 pub struct Rows<'a, const CELLS: usize> {
     pub bytes: &'a [u8],
     pub count: u32,
-    ghost inside: { count ≤ row_room CELLS bytes.now },
+    pub ghost inside: { count ≤ row_room CELLS bytes.now },
 }
 
 impl<'a, const CELLS: usize> Rows<'a, CELLS> {
