@@ -9,7 +9,7 @@ use clip_sections::info::{ClipInfo, clip_info};
 use common::header::Starts;
 use nine_tables::Rows;
 
-// What is stated of an accepted file beside its rows: the scalars, the number of marks, the rows of each table, and whether it has a (2, 5) list, which may be without rows.
+// What is stated of an accepted file beside its rows: the scalars, the number of marks, the rows of each table, and whether it has a (2, 5) list, which may be without rows. A flag, as the definition of what is stated has one: the list's rows stand in `rows` with the other seven.
 #[derive(Clone, Copy)]
 pub struct Accepted {
     pub info: ClipInfo,

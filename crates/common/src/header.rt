@@ -13,7 +13,7 @@ pub struct BdmvHeader {
     pub version_number: u32,
 }
 
-// Where the sections start, counted from the file's first byte; a start may lie past the end.
+// Where the sections start, counted from the file's first byte: 0 where there is none, as the file has it; a start may lie past the end.
 #[derive(Clone, Copy)]
 pub struct Starts {
     pub sequences: usize,

@@ -1,4 +1,4 @@
-// The reader: a position by value beside the lent buffer. Each method answers for every position and every number of bytes.
+// The reader: a position by value beside the lent buffer, as document 01 has it. Each method answers for every position and every number of bytes.
 ghost use Rattle.std.specs.Prelude.{◌≡◌, ◌+◌, ◌-◌, ◌≤◌, length, leb};
 ghost use Rattle.common.specs.Reader.{start, moved_to, part_at, NumberIs};
 

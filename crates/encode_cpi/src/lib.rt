@@ -20,7 +20,7 @@ use table_rows::Table;
 // The most coarse rows that a map can count.
 pub const MOST_RUNS: usize = 65535;
 
-// The length of the section of these maps and entries, in the walk that tests whether every entry fits. An entry that does not is refused also behind a map with more runs than it can count.
+// The length of the section of these maps and entries, in the walk that tests whether every entry fits. An entry that does not is refused also behind a map with more runs than it can count, so such a map is only remembered.
 pub fn cpi_length(maps: Table, entries: Table) -> Result<usize, Refusal>
     requires { BothThere maps.bytes.now maps.rows entries.bytes.now entries.rows × Counted (map_rows_of maps.bytes.now maps.rows) (entry_rows_of entries.bytes.now entries.rows) }
     ensures { result ≡ tested_of (map_rows_of maps.entry.bytes.now maps.entry.rows) (entry_rows_of entries.entry.bytes.now entries.entry.rows) }

@@ -5,7 +5,7 @@ ghost use Rattle.entry_rows.specs.Reads.{EntryIs, WordsAre};
 
 use crate::{EntryRow, SIZE, Words};
 
-// The entries of one map: so many rows, which all stand in the bytes of a table, from the byte of the first on.
+// The entries of one map: so many rows, which all stand in the bytes of a table, from the byte of the first on. Not `table_rows::rows::Rows`: reading and rewriting stand on this crate and ask no questions, and an entry is read as a struct.
 #[derive(Clone, Copy)]
 pub struct MapEntries<'a> {
     pub bytes: &'a [u8],

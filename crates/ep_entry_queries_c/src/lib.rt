@@ -1,4 +1,4 @@
-// The lookups of `ep_entry_queries` under their own names for C, each with the clauses that it has there.
+// The lookups of `ep_entry_queries` under their own names for C, each with the clauses that it has there. A crate of its own, since a crate is built as a library or as a static library, and not as both.
 #![tactic(auto)]
 
 ghost use Rattle.std.specs.Prelude.{◌≡◌, map};

@@ -1,4 +1,4 @@
--- What a lookup answers, and what its steps do.
+-- The ends of a row of records, and the span between them.
 use Rattle.std.specs.Prelude.{ℕ, ◌-◌, List, Option, None, Some, eqb, length, get_or}
 use Rattle.format.specs.Bytes.{pick}
 use Rattle.format.specs.ClipRecord.{Row, entry_time}

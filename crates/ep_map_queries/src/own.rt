@@ -1,4 +1,4 @@
-// The entries of one map: where they begin in the table of entries, how many there are, and each of them.
+// The entries of one map: where they begin in the table of entries, and how many there are.
 ghost use Rattle.std.specs.Prelude.{◌≡◌};
 ghost use Rattle.format.specs.Tables.{stated};
 ghost use Rattle.table_rows.specs.OwnRows.{owned_of};

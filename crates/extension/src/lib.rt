@@ -161,7 +161,7 @@ fn fill_entries(file: &[u8], start: usize, head: BlockHead, table: &mut [u8])
     }
 }
 
-// The storing pass: table 7, in a table that `measure` found long enough.
+// The storing pass: table 7, in a table with room for the rows that `measure` counts.
 pub fn fill(file: &[u8], start: usize, table: &mut [u8])
     requires { (length file.now ≤ 536870912) × (length (extension_rows file.now start) ≤ row_room extension_cells table.old) }
     ensures { table.new ≡ overwritten (table_bytes (extension_rows file.now start)) table.old }

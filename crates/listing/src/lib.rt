@@ -109,7 +109,7 @@ pub fn put_record(numbers: Numbers, maps: Table, entries: Table, out: &mut [u8])
     text.len
 }
 
-// Stores the line of a refusal from the front, and answers its length.
+// Stores the line of a refusal from the front, and answers its length. A number: it is only printed.
 pub fn put_refusal(number: u32, out: &mut [u8]) -> usize
     requires { refusal_room ≤ length out.old }
     ensures { Shows out.old (line refused_word (number ∷ [])) result out.new }
@@ -119,7 +119,7 @@ pub fn put_refusal(number: u32, out: &mut [u8]) -> usize
     text.len
 }
 
-// Stores the line of 21 with the table that is too short from the front, and answers its length.
+// Stores the line of 21 with the table that is too short, by the number that is printed, from the front, and answers its length.
 pub fn put_too_short(table: u32, out: &mut [u8]) -> usize
     requires { refusal_room ≤ length out.old }
     ensures { Shows out.old (line refused_word (21 ∷ table ∷ [])) result out.new }

@@ -71,7 +71,7 @@ pub fn run_end(file: &[u8], m: MapBody, from: usize, first: Met) -> RunEnd
     }
 }
 
-// How many runs the map's entries have.
+// How many runs the map's entries have. Beside `entry_runs::count_runs`: in a file an entry is met only forward, with the walk that reached its coarse row, and a table's is read at any number.
 pub fn count_runs(file: &[u8], m: MapBody) -> usize
     requires { RowsIn file.now m }
     ensures { result ≡ runs (entries_in file.now m) }

@@ -20,7 +20,7 @@ pub struct Rows {
     pub list_streams: usize,
 }
 
-// A table that is too short, by its number in document 01, and the rows it needs.
+// A table that is too short, by its number in document 01, which C is told, and the rows it needs.
 #[derive(Clone, Copy, Debug, PartialEq, Eq)]
 pub struct TableShort {
     pub table: u32,

@@ -1,6 +1,6 @@
 // Big-endian numbers of up to eight bytes, read and stored where they are known to lie inside the slice, and bytes copied.
-// Up to four bytes are a u32, as a table's cell is: `u32_at` and `put_u32`; of more there is `be_at` and `put_be`.
-// Every byte of a new file is stored by `put_be`, `put_zeros` and `copy`, and nowhere else: a walk over these is the one that would compare instead of store.
+// Up to four bytes are a u32, as a table's cell is: `u32_at` and `put_u32`; of more there is `be_at` and `put_be`. With one form for all, each of some hundred callers would narrow 64 bits and prove that they fit.
+// Every byte of a new file is stored by `put_be`, `put_zeros` and `copy`, and nowhere else. The place goes beside the output: a map's header is stored behind its body, so an output does not only grow at its end.
 #![tactic(auto)]
 
 ghost use Rattle.std.specs.Prelude.{◌≡◌, ◌+◌, ◌≤◌, length};

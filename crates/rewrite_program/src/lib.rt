@@ -13,7 +13,7 @@ use row_bytes::put_row;
 use row_values::{Row, RowKind, row_length};
 use stream_coding_info::stream_at;
 
-// A place in the old file and the place in the new one of the same thing: a walk goes on in both. `rewrite::measure::Plan` beside it has counts, and of places only those in the new file.
+// A place in the old file and the place in the new one of the same thing: a walk goes on in both. `encode_measure::Places` has places in the new file alone.
 #[derive(Clone, Copy)]
 pub struct Places {
     pub file: usize,

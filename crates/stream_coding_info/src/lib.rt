@@ -11,7 +11,7 @@ use cells::put_row;
 use numbers::u32_at;
 use stream_coding::is_video;
 
-// A stream's PID and what its body says: an aspect of video alone, and a language of all else, 0 for none.
+// A stream's PID and what its body says: an aspect of video alone, and a language of all else, 0 for none, as the cells of its row have them. Which of the two is a `bool`, told once by the coding type.
 #[derive(Clone, Copy)]
 pub struct StreamCodingInfo {
     pub pid: u32,

@@ -25,7 +25,7 @@ impl Ticks45 {
         Ticks90(2 * u64::from(self.0))
     }
 
-    // One time less another, not below 0. Each clock has its own, so that the clocks stay apart.
+    // One time less another, not below 0. Each clock has its own, of one line: a trait would add its law and two impls.
     pub fn less(self, other: Ticks45) -> Ticks45
         ensures { as45 result ≡ less45 (as45 self) (as45 other) }
     {
@@ -34,7 +34,7 @@ impl Ticks45 {
 }
 
 impl Ticks90 {
-    // One time less another, not below 0. Each clock has its own, so that the clocks stay apart.
+    // One time less another, not below 0. Each clock has its own, of one line: a trait would add its law and two impls.
     pub fn less(self, other: Ticks90) -> Ticks90
         ensures { as90 result ≡ less90 (as90 self) (as90 other) }
     {
