@@ -92,7 +92,7 @@ def is_definition(file, name):
 def is_function(path):
     """Whether a crate has a function by this path."""
     crate, *module, name = path.split("::")
-    return re.search(rf"\bfn {name}\(", source(crate, *module))
+    return re.search(rf"\bfn {name}[<(]", source(crate, *module))
 
 
 CONSTANTS = [
