@@ -17,21 +17,21 @@ use Rattle.table_rows.specs.OwnRows.{head_cells, cell_in, is_counted}
 
 -- ---- rows one behind the other, of so many cells each
 
-module _ (test : Row → Bool) (cells : ℕ) (t : List ℕ) (n : ℕ) where
+module _ (test : Row → Bool) (cells : ℕ) (t : List ℕ) (p n : ℕ) where
   -- m rows from a place
   abbrev pub rows_here : ℕ → ℕ → List Row
   rows_here at m = rows_at (cells_at t cells) (λ q. q + 4 * cells) at m
 
   -- what the rows left from here say is what all say, and they are there
   pub record Tested (k at : ℕ) : Type 0 where
-    pub same : every test (rows_here at (n - k)) ≡ every test (rows_here 0 n)
+    pub same : every test (rows_here at (n - k)) ≡ every test (rows_here p n)
     pub room : at + (n - k) * (4 * cells) ≤ length t
 
   -- before the first turn
-  pub tested_first : n * (4 * cells) ≤ length t → Tested 0 0
+  pub tested_first : p + n * (4 * cells) ≤ length t → Tested 0 p
   tested_first h =
       let all : n - 0 ≡ n = omega arith in
-      record { same = rw all; room = rw all (omega arith) }
+      record { same = rw all; room = rw all h }
 
   module _ (k at : ℕ) (more : k < n) (i : Tested k at) where
     -- the next row and those behind it are there
@@ -45,12 +45,12 @@ module _ (test : Row → Bool) (cells : ℕ) (t : List ℕ) (n : ℕ) where
     tested_room = let r = rooms in omega arith
 
     -- the next row decides with those behind it
-    next : both (test (cells_at t cells at)) (every test (rows_here (at + 4 * cells) (n - (k + 1)))) ≡ every test (rows_here 0 n)
+    next : both (test (cells_at t cells at)) (every test (rows_here (at + 4 * cells) (n - (k + 1)))) ≡ every test (rows_here p n)
     next = rw (one_left n k more) at i.same
 
     module _ {b : Bool} (is : b ≡ test (cells_at t cells at)) where
       -- it fails
-      pub tested_fails : b ≡ false → false ≡ every test (rows_here 0 n)
+      pub tested_fails : b ≡ false → false ≡ every test (rows_here p n)
       tested_fails h = rw (← is, h) at next
 
       -- it passes
@@ -58,7 +58,7 @@ module _ (test : Row → Bool) (cells : ℕ) (t : List ℕ) (n : ℕ) where
       tested_turn h {size} e = record { same = rw e (rw (← is, h) at next); room = rw e rooms }
 
   -- none is left
-  pub tested_done : (k at : ℕ) → n ≤ k → Tested k at → true ≡ every test (rows_here 0 n)
+  pub tested_done : (k at : ℕ) → n ≤ k → Tested k at → true ≡ every test (rows_here p n)
   tested_done k at h i = rw (none_left n k h) at i.same
 
 -- ---- tables whose counts add up
