@@ -29,7 +29,7 @@ const STC: usize = 4;
 pub fn stcs_of_atc(atcs: Table, stcs: Table, atc: u32) -> Result<OwnRows, Refusal>
     ensures { owned_of result ≡ owned_rows 1 stc_cells (stated atcs.entry.bytes.now atcs.entry.rows) (stated stcs.entry.bytes.now stcs.entry.rows) atc }
 {
-    own_rows::<COUNT, STC>(atcs, stcs, atc)
+    own_rows(atcs, stcs, atc, COUNT, STC)
 }
 
 // Whether an id, less the offset id, is not negative and below the count.
@@ -58,7 +58,7 @@ fn find_id(atcs: Rows<ATC>, id: u32) -> Option<u64>
 pub fn stc_sequence_by_id(atcs: Table, stcs: Table, id: u8) -> Found
     ensures { found_of result ≡ ask (stc_sequence_by_id id) (atcs_and_stcs (stated atcs.entry.bytes.now atcs.entry.rows) (stated stcs.entry.bytes.now stcs.entry.rows)) }
 {
-    let atcs = counted::<COUNT, STC>(atcs, stcs)?;
+    let atcs = counted(atcs, stcs, COUNT, STC)?;
     Ok(find_id(atcs, u32::from(id)))
 }
 

@@ -34,9 +34,9 @@ pub struct Places {
 fn counts_add(tables: ClipTables) -> bool
     ensures { result ≡ pairs_counted (stated_tables no_scalars tables.entry) }
 {
-    adds_up::<1, 4>(tables.atcs, tables.stcs)
-        && adds_up::<2, 5>(tables.programs, tables.streams)
-        && adds_up::<2, CELLS>(tables.maps, tables.entries)
+    adds_up(tables.atcs, tables.stcs, 1, 4)
+        && adds_up(tables.programs, tables.streams, 2, 5)
+        && adds_up(tables.maps, tables.entries, 2, CELLS)
 }
 
 // Whether the scalars fit their fields, else 30. A field of 32 bits holds any number.

@@ -15,7 +15,7 @@ use table_rows::own::{OwnRows, own_rows};
 pub fn entries_of_map(maps: Table, entries: Table, map: u32) -> Result<OwnRows, Refusal>
     ensures { owned_of result ≡ owned_entries (stated maps.entry.bytes.now maps.entry.rows) (stated entries.entry.bytes.now entries.entry.rows) map }
 {
-    own_rows::<2, CELLS>(maps, entries, map)
+    own_rows(maps, entries, map, 2, CELLS)
 }
 
 // Those entries; refused as above.

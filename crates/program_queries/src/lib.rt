@@ -35,7 +35,7 @@ const CODING: usize = 1;
 pub fn streams_of_program(programs: Table, streams: Table, program: u32) -> Result<OwnRows, Refusal>
     ensures { owned_of result ≡ owned_rows 2 stream_cells (stated programs.entry.bytes.now programs.entry.rows) (stated streams.entry.bytes.now streams.entry.rows) program }
 {
-    own_rows::<COUNT, STREAM>(programs, streams, program)
+    own_rows(programs, streams, program, COUNT, STREAM)
 }
 
 // The row of the first program whose map table has this PID.

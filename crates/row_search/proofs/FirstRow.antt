@@ -10,8 +10,9 @@ use Rattle.std.proofs.lemmas.List.{drop_all}
 use Rattle.format.specs.Bytes.{both, pick}
 use Rattle.format.specs.ClipRecord.{Row}
 use Rattle.format.specs.Questions.{Question, Part, parts_of, part_stated, Answer, refused, none, number, first_where, next_where, unless22, of_row, answer, ask}
-use Rattle.format.specs.Tables.{Table, ClipTables, is_stated, rows_of, clip_in}
+use Rattle.format.specs.Tables.{Table, ClipTables, is_stated, rows_of, cell_at, clip_in}
 use Rattle.format.proofs.Cell.{cell_of}
+use Rattle.format.proofs.Tables.{rows_stated}
 use Rattle.cells.specs.Reads.{CellIs}
 use Rattle.table_rows.specs.OwnRows.{cell_in}
 use Rattle.row_search.specs.FirstRow.{first_passing, ask_row}
@@ -69,6 +70,12 @@ pub row_answers : (q : Question) (l : ClipTables) (p : Part) (cells from : ℕ) 
     → first_passing test from (drop from (rows_of cells t)) ≡ answer q (clip_in l) → ask_row cells from test t ≡ ask q l
 unfolding ask ask_row
 row_answers q l p cells from test t one is answers = rw (one, is, answers) (by_test (is_stated cells t) (answer q (clip_in l)))
+
+-- ---- one cell of a row
+
+-- what stands at its place is the row's cell
+pub cell_told : (cells cell : ℕ) (t : Table) (k : ℕ) → k < length (rows_of cells t) → cell < cells → cell_at t.bytes (4 * (cells * k + cell)) ≡ cell_in cell (get_or (rows_of cells t) k [])
+cell_told cells cell t k h j = cell_of cells t.bytes t.rows k cell (rw (rows_stated cells t.bytes t.rows) at h) j refl refl
 
 -- ---- a number of the row that was found
 

@@ -9,6 +9,10 @@ use Rattle.format.specs.Tables.{Table, is_stated, rows_of}
 abbrev pub Computes : (ℕ → Bool → Type 0) → (Row → Bool) → List Row → Type 0
 Computes post test rows = (k : ℕ) → k < length rows → (passes : Bool) → post k passes → passes ≡ test (get_or rows k [])
 
+-- what a closure answers of a number is what the test asks of it
+abbrev pub Decides : (ℕ → Bool → Type 0) → (ℕ → Bool) → Type 0
+Decides post test = (value : ℕ) (passes : Bool) → post value passes → passes ≡ test value
+
 -- the first row that passes, of rows of which the first is row k
 abbrev pub first_passing : (Row → Bool) → ℕ → List Row → Answer
 first_passing test k [] = none

@@ -187,10 +187,10 @@ module _ (cell cells : ℕ) (heads rows : Table) where
   no_rows there h = rw (there, h)
 
   -- with both lent, they are where the counts add up to the stated rows
-  pub counted_lem : {hs rs : Table} → (is_stated head_cells heads ≡ true) × (hs ≡ heads) → (is_stated cells rows ≡ true) × (rs ≡ rows)
-      → {sum : ℕ} → sum ≡ total (cell_in cell) (rows_of head_cells hs) → is_counted cell cells heads rows ≡ eqb sum rs.rows
+  pub counted_lem : {hs : Table} → (is_stated head_cells heads ≡ true) × (hs ≡ heads) → is_stated cells rows ≡ true
+      → {sum : ℕ} → sum ≡ total (cell_in cell) (rows_of head_cells hs) → is_counted cell cells heads rows ≡ eqb sum rows.rows
   unfolding is_counted
-  counted_lem h r all = rw (h.0, r.0, r.1, all, h.1, rows_stated cells rows.bytes rows.rows)
+  counted_lem h there all = rw (h.0, there, all, h.1, rows_stated cells rows.bytes rows.rows)
 
   -- ---- the rows of one header row
 

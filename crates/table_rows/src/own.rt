@@ -20,56 +20,62 @@ pub struct OwnRows {
 }
 
 // The counts of header rows, added up. No sum of 32-bit counts passes 64 bits.
-fn count_rows<const COUNT: usize>(heads: Rows<HEAD>) -> u64
-    requires { COUNT < head_cells }
-    ensures { result ≡ total (cell_in COUNT) (rows_in heads.entry) }
+fn count_rows(heads: Rows<HEAD>, cell: usize) -> u64
+    requires { cell < head_cells }
+    ensures { result ≡ total (cell_in «cell») (rows_in heads.entry) }
 {
     let mut sum: u64 = 0;
     for k in 0..heads.count {
-        sum += u64::from(heads.cell(k, COUNT));
+        sum += u64::from(heads.cell(k, cell));
     }
     sum
 }
 
 // The header rows, where the rows of both tables are there and the counts in one cell of the header rows add up to the other rows, each of so many cells; else refused.
-pub fn counted<'a, const COUNT: usize, const CELLS: usize>(
+pub fn counted<'a>(
     heads: Table<'a>,
     rows: Table,
+    cell: usize,
+    cells: usize,
 ) -> Result<Rows<'a, HEAD>, Refusal>
-    requires { HasCells COUNT CELLS }
-    ensures { all_told result ≡ pick (is_counted COUNT CELLS (stated heads.entry.bytes.now heads.entry.rows) (stated rows.entry.bytes.now rows.entry.rows)) (Ok (stated heads.entry.bytes.now heads.entry.rows)) (Err Refusal.Rows) }
+    requires { HasCells cell cells }
+    ensures { all_told result ≡ pick (is_counted «cell» «cells» (stated heads.entry.bytes.now heads.entry.rows) (stated rows.entry.bytes.now rows.entry.rows)) (Ok (stated heads.entry.bytes.now heads.entry.rows)) (Err Refusal.Rows) }
 {
     let heads = heads.all_rows::<HEAD>()?;
-    let rows = rows.all_rows::<CELLS>()?;
-    if count_rows::<COUNT>(heads) != u64::from(rows.count) {
+    if !rows.is_stated(cells) {
+        return Err(Refusal::Rows);
+    }
+    if count_rows(heads, cell) != u64::from(rows.rows) {
         return Err(Refusal::Rows);
     }
     Ok(heads)
 }
 
 // Whether the rows are there and the counts of the header rows add up to them.
-pub fn adds_up<const COUNT: usize, const CELLS: usize>(heads: Table, rows: Table) -> bool
-    requires { HasCells COUNT CELLS }
-    ensures { result ≡ is_counted COUNT CELLS (stated heads.entry.bytes.now heads.entry.rows) (stated rows.entry.bytes.now rows.entry.rows) }
+pub fn adds_up(heads: Table, rows: Table, cell: usize, cells: usize) -> bool
+    requires { HasCells cell cells }
+    ensures { result ≡ is_counted «cell» «cells» (stated heads.entry.bytes.now heads.entry.rows) (stated rows.entry.bytes.now rows.entry.rows) }
 {
-    counted::<COUNT, CELLS>(heads, rows).is_ok()
+    counted(heads, rows, cell, cells).is_ok()
 }
 
 // The rows, each of so many cells, of a header row whose count stands in the cell that is given; refused where rows are not there, counts don't add up, or there is no such header row.
-pub fn own_rows<const COUNT: usize, const CELLS: usize>(
+pub fn own_rows(
     heads: Table,
     rows: Table,
     head: u32,
+    cell: usize,
+    cells: usize,
 ) -> Result<OwnRows, Refusal>
-    requires { HasCells COUNT CELLS }
-    ensures { owned_of result ≡ owned_rows COUNT CELLS (stated heads.entry.bytes.now heads.entry.rows) (stated rows.entry.bytes.now rows.entry.rows) head }
+    requires { HasCells cell cells }
+    ensures { owned_of result ≡ owned_rows «cell» «cells» (stated heads.entry.bytes.now heads.entry.rows) (stated rows.entry.bytes.now rows.entry.rows) head }
 {
-    let heads = counted::<COUNT, CELLS>(heads, rows)?;
+    let heads = counted(heads, rows, cell, cells)?;
     if head >= heads.count {
         return Err(Refusal::Rows);
     }
     Ok(OwnRows {
-        first: count_rows::<COUNT>(heads.front(head)),
-        count: heads.cell(head, COUNT),
+        first: count_rows(heads.front(head), cell),
+        count: heads.cell(head, cell),
     })
 }

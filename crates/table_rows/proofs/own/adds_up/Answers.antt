@@ -4,4 +4,4 @@ use Rattle.table_rows.proofs.AllRows.{is_told}
 use Rattle.table_rows.proofs.own.adds_up.Goals as goal
 
 pub returns : goal.returns
-returns g c = c.is_ok.ensures.value ∙ is_told _ _ _ c.counted.ensures
+returns c = c.is_ok.ensures.value ∙ is_told _ _ _ c.counted.ensures

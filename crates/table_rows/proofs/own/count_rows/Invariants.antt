@@ -4,4 +4,4 @@ use Rattle.table_rows.proofs.OwnRows.{Sum}
 use Rattle.table_rows.proofs.own.count_rows.Given as goal
 
 abbrev pub invariant-loop-k : goal.invariant-loop-k
-invariant-loop-k g l = Sum (rows_in l.heads) g.row.COUNT l.k l.sum
+invariant-loop-k l = Sum (rows_in l.heads) l.cell l.k l.sum
