@@ -1,15 +1,18 @@
-// What is looked for in a lent row of `EpEntry` records: the nearest to a time, its packet, and the span. Lookups take records here and table rows in `ep_map_queries`: each form reads rows of its own, and both share the scan (`nearest::nearest_row`).
+// What is looked for in a lent row of `EpEntry` records: the nearest to a time, its packet, and the span. Lookups take records here and table rows in `ep_map_queries`: each form reads rows of its own, and both share the scan (`nearest::nearest_row`). A caller that goes through records itself has a step for one record, and what is answered at the end.
 #![tactic(auto)]
 
 ghost use Rattle.std.specs.Prelude.{◌≡◌, Ok};
-ghost use Rattle.format.specs.Questions.{span_of};
+ghost use Rattle.format.specs.ClipRecord.{time};
+ghost use Rattle.format.specs.Questions.{answer_numbers, span_of};
 ghost use Rattle.queries.specs.Answers.{found_of};
 ghost use Rattle.ticks.specs.Times.{as90};
-ghost use Rattle.nearest.specs.Nearest.{find_in, seek_in};
+ghost use Rattle.clpi_answers.specs.Numbers.{found_numbers};
+ghost use Rattle.nearest.specs.Nearest.{find_in, seek_in, closer_of, row_found};
 ghost use Rattle.ep_entry_steps.specs.Records.{as_row, as_rows};
-ghost use Rattle.ep_entry_steps.specs.Lookups.{ends_of, span_between};
+ghost use Rattle.ep_entry_steps.specs.Lookups.{ends_of, span_between, row_or_packet};
 
-use nearest::{Side, nearest_row};
+use clpi_answers::{ClpiAnswer, answer_of};
+use nearest::{Nearest, Side, found_row, look_at_time, nearest_row};
 use ticks::Ticks90;
 
 // An entry of a map.
@@ -54,7 +57,7 @@ fn ends(rows: &[EpEntry]) -> Option<(EpEntry, EpEntry)>
 }
 
 // The last time less the first, not below 0.
-fn between(first: EpEntry, last: EpEntry) -> Ticks90
+pub fn between(first: EpEntry, last: EpEntry) -> Ticks90
     ensures { as90 result ≡ span_between (as_row first) (as_row last) }
 {
     let start = Ticks90(u64::from(first.pts_ep_start));
@@ -70,4 +73,36 @@ pub fn span(rows: &[EpEntry]) -> Ticks90
         Some((first, last)) => between(first, last),
         None => Ticks90(0),
     }
+}
+
+// The nearest so far, or entry k where its time is nearer.
+pub fn look_at(so_far: Nearest, k: usize, entry: EpEntry, side: Side, at: u32) -> Nearest
+    ensures { result ≡ closer_of side at so_far k (time (as_row entry)) }
+{
+    let time = u64::from(entry.pts_ep_start);
+    look_at_time(so_far, k, side, u64::from(at), time)
+}
+
+// The row that was found, or the packet of its entry.
+fn row_or_packet(found: Option<u64>, entry: EpEntry, is_packet: bool) -> Option<u64>
+    ensures { found_of (Ok result) ≡ row_or_packet is_packet (as_row entry) (found_of (Ok found)) }
+{
+    match found {
+        Some(_) if is_packet => Some(u64::from(entry.spn_ep_start)),
+        _ => found,
+    }
+}
+
+// What is answered once all are looked at, with the entry that is nearest.
+pub fn answer(
+    nearest: Nearest,
+    rows: usize,
+    entry: EpEntry,
+    side: Side,
+    is_packet: bool,
+) -> ClpiAnswer
+    ensures { found_numbers result ≡ answer_numbers (row_or_packet is_packet (as_row entry) (row_found side rows nearest)) }
+{
+    let found = found_row(nearest, rows, side);
+    answer_of(Ok(row_or_packet(found, entry, is_packet)))
 }

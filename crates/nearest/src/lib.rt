@@ -1,9 +1,9 @@
-// The nearest of some times to the one asked for, before it or after it: one scan, for times in any order.
+// The nearest of some times to the one asked for, before it or after it: one scan, for times in any order; and a step for one row, for a caller that goes through rows itself, with what is found at the end.
 #![tactic(auto)]
 
 ghost use Rattle.std.specs.Prelude.{◌≡◌, ◌<◌, ℕ, List, Ok};
 ghost use Rattle.queries.specs.Answers.{found_of};
-ghost use Rattle.nearest.specs.Nearest.{on_side, distance_to, row_in, Tells};
+ghost use Rattle.nearest.specs.Nearest.{on_side, distance_to, row_in, Tells, distance_on, none_yet, closer_at, closer_of, row_found};
 
 // The times that are asked for: those at or before one, or those after it. An enum and no closures: which times are asked for, how far each is and what stands for none go by it, and a caller would hand over all three.
 #[derive(Clone, Copy)]
@@ -32,6 +32,17 @@ impl Side {
             Side::After => time.wrapping_sub(at).wrapping_sub(1),
         }
     }
+
+    // How far a time on this side is from the one asked for; the very next after it is at 0. A time on the other side is far.
+    fn distance_on(self, at: u64, time: u64) -> u64
+        ensures { result ≡ distance_on self at time }
+    {
+        match self {
+            Side::AtOrBefore if time <= at => at - time,
+            Side::After if at < time => time - (at + 1),
+            _ => FAR,
+        }
+    }
 }
 
 // The row of the nearest time on one side, the earliest among equals, of so many that the closure tells; none without rows; row 0 where all are later and one at or before is asked for.
@@ -58,5 +69,57 @@ pub fn nearest_row<F: Fn(usize) -> u64>(rows: usize, side: Side, at: u64, time_o
     match side {
         Side::AtOrBefore => Some(0),
         Side::After => None,
+    }
+}
+
+// Farther than any time of 64 bits is from one that is asked for. A time after that one counts from 0, so that the distance of no time is this number.
+const FAR: u64 = 18446744073709551615;
+
+// The row of the nearest time, the earliest among equals, and how far it is; row 0 and far where all stand on the other side.
+#[derive(Clone, Copy)]
+pub struct Nearest {
+    pub row: usize,
+    pub distance: u64,
+}
+
+// Before any row is looked at.
+pub fn none_yet() -> Nearest
+    ensures { result ≡ none_yet }
+{
+    Nearest {
+        row: 0,
+        distance: FAR,
+    }
+}
+
+// The nearest so far, or row k at distance d where that is nearer.
+fn closer(so_far: Nearest, k: usize, d: u64) -> Nearest
+    ensures { result ≡ closer_at so_far k d }
+{
+    if d < so_far.distance {
+        Nearest {
+            row: k,
+            distance: d,
+        }
+    } else {
+        so_far
+    }
+}
+
+// The nearest so far, or row k with this time where that is nearer.
+pub fn look_at_time(so_far: Nearest, k: usize, side: Side, at: u64, time: u64) -> Nearest
+    ensures { result ≡ closer_of side at so_far k time }
+{
+    closer(so_far, k, side.distance_on(at, time))
+}
+
+// The row that is found once all are looked at: none without rows; row 0 where all are later and one at or before is asked for.
+pub fn found_row(nearest: Nearest, rows: usize, side: Side) -> Option<u64>
+    ensures { found_of (Ok result) ≡ row_found side rows nearest }
+{
+    match side {
+        _ if rows == 0 => None,
+        Side::After if nearest.distance == FAR => None,
+        _ => Some(nearest.row as u64),
     }
 }
