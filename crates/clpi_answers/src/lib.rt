@@ -5,7 +5,7 @@ pub mod part;
 pub mod seconds;
 
 ghost use Rattle.std.specs.Prelude.{◌≡◌};
-ghost use Rattle.format.specs.Questions.{answer_numbers};
+ghost use Rattle.format.specs.Questions.{refused, answer_numbers};
 ghost use Rattle.queries.specs.Answers.{found_of, time45_of, time90_of};
 ghost use Rattle.table_rows.specs.OwnRows.{owned_of, owned_numbers};
 ghost use Rattle.clpi_answers.specs.Numbers.{found_numbers, rows_numbers};
@@ -32,6 +32,17 @@ pub struct ClpiRows {
     pub first: u64,
 }
 
+// The numbers of a refusal, by its own.
+pub fn refused(refusal: u32) -> ClpiAnswer
+    ensures { found_numbers result ≡ answer_numbers (refused refusal) }
+{
+    ClpiAnswer {
+        refusal,
+        found: 0,
+        value: 0,
+    }
+}
+
 // The numbers of what was found.
 pub fn answer_of(found: Found) -> ClpiAnswer
     ensures { found_numbers result ≡ answer_numbers (found_of found) }
@@ -47,11 +58,7 @@ pub fn answer_of(found: Found) -> ClpiAnswer
             found: 0,
             value: 0,
         },
-        Err(refusal) => ClpiAnswer {
-            refusal: refusal.number(),
-            found: 0,
-            value: 0,
-        },
+        Err(refusal) => refused(refusal.number()),
     }
 }
 

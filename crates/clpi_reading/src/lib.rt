@@ -37,8 +37,8 @@ pub struct ClpiReading {
     pub has_list: u32,
 }
 
-// A refusal, with the table and the rows it needs where it is 21.
-fn refused(refusal: u32, table: u32, rows_needed: u32) -> ClpiReading
+// The numbers of a refusal, by its own, with the table and the rows it needs where it is 21.
+pub fn refused(refusal: u32, table: u32, rows_needed: u32) -> ClpiReading
     ensures { reading_numbers result ≡ refused_numbers refusal table rows_needed }
 {
     ClpiReading {

@@ -8,8 +8,8 @@ ghost use Rattle.queries.specs.Answers.{found_of};
 ghost use Rattle.ticks.specs.Times.{as90};
 ghost use Rattle.clpi_answers.specs.Numbers.{found_numbers};
 ghost use Rattle.nearest.specs.Nearest.{find_in, seek_in, closer_of, row_found};
-ghost use Rattle.ep_entry_steps.specs.Records.{as_row, as_rows};
-ghost use Rattle.ep_entry_steps.specs.Lookups.{ends_of, span_between, row_or_packet};
+ghost use Rattle.ep_entry_steps.specs.Records.{as_row, as_rows, no_entry};
+ghost use Rattle.ep_entry_steps.specs.Lookups.{ends_of, last_row, span_between, row_or_packet};
 
 use clpi_answers::{ClpiAnswer, answer_of};
 use nearest::{Nearest, Side, found_row, look_at_time, nearest_row};
@@ -105,4 +105,24 @@ pub fn answer(
 {
     let found = found_row(nearest, rows, side);
     answer_of(Ok(row_or_packet(found, entry, is_packet)))
+}
+
+// What stands past the end of a row.
+pub fn no_entry() -> EpEntry
+    ensures { result ≡ no_entry }
+{
+    EpEntry {
+        is_angle_change_point: false,
+        i_end_position_offset: 0,
+        pts_ep_start: 0,
+        spn_ep_start: 0,
+        ep_stream_type: 0,
+    }
+}
+
+// The last row of so many; 0 without any.
+pub fn last_row(rows: usize) -> usize
+    ensures { result ≡ last_row rows }
+{
+    if rows == 0 { 0 } else { rows - 1 }
 }
