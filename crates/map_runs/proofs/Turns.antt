@@ -21,7 +21,7 @@ use Rattle.ep_entries.proofs.Walks.{walk_stop, walk_later}
 use Rattle.ep_entries.proofs.Joined.{left_all, left_turn, left_done}
 use Rattle.runs.specs.Runs.{run_end, coarse_from}
 use Rattle.runs.proofs.Runs.{coarse_all}
-use Rattle.map_runs.specs.Entries.{AtRow, IsMet, IsEnd, Along, Under, UntilIs}
+use Rattle.map_runs.specs.Entries.{AtRow, IsMet, IsEnd, Along, Under, UntilIs, under}
 use Rattle.map_runs.specs.declared.walked.Met.{Met}
 use Rattle.map_runs.specs.declared.walked.RunEnd.{RunEnd}
 use Rattle.map_runs.proofs.Entries.{next_run}
@@ -97,25 +97,27 @@ module _ (f : List ℕ) (m : MapBody) where
   -- ---- the fine rows under one coarse row
 
   module _ (from end : ℕ) (w : Walk) (u : Under f m from end w) where
-    -- row k of them was joined with the walk's coarse row
-    under_met : (k x : ℕ) (entry : EntryRow) → from ≤ k → k < end → x ≡ be_at f (m.fine + 4 * k) 4
-        → entry ≡ joined m.kind w.time w.packet (unpacked fine_widths x) → IsMet f m k (record { walk = w; entry = entry })
-    under_met k x entry h g word e =
+    -- row k of them uses the walk's coarse row
+    under_met : (k : ℕ) → from ≤ k → k < end → IsMet f m k (record { walk = w; entry = under f m k w })
+    under_met k h g =
         let is = later from k w h u.walk_is in
         let at = walk_stop f m.num_fine (coarse_in f m) k w is (omega (arith, u.before)) in
-        record { walk_is = is; entry_is = rw (e, word, at.0, at.1) }
+        record { walk_is = is; entry_is = rw (at.0, at.1) }
 
     module _ (first : Met) where
       -- up to row k each is in the run of the entry
       abbrev pub Going : ℕ → Type 0
       Going k = (start : ℕ) → IsMet f m start first → Along f m start w from → Along f m start w k
 
-      module _ (k x : ℕ) (entry : EntryRow) (h : from ≤ k) (g : k < end) (word : x ≡ be_at f (m.fine + 4 * k) 4)
-          (e : entry ≡ joined m.kind w.time w.packet (unpacked fine_widths x)) (i : Going k) {s : Bool} (is : s ≡ same_keys first.entry.time first.entry.packet entry.time entry.packet) where
+      -- before any is looked at
+      pub going_first : Going from
+      going_first start known a = a
+
+      module _ (k : ℕ) (h : from ≤ k) (g : k < end) (i : Going k) {s : Bool} (is : s ≡ same_keys first.entry.time first.entry.packet (under f m k w).time (under f m k w).packet) where
         -- row k is too
         pub going_on : s ≡ true → Going (k + 1)
         going_on y start known a =
-            along_turn start first known w k (i start known a) (omega (arith, g, u.within)) (record { walk = w; entry = entry }) (under_met k x entry h g word e) is y
+            along_turn start first known w k (i start known a) (omega (arith, g, u.within)) (record { walk = w; entry = under f m k w }) (under_met k h g) is y
 
         -- row k is not
         pub going_stop : s ≡ false → UntilIs f m from end w first k
@@ -124,7 +126,7 @@ module _ (f : List ℕ) (m : MapBody) where
           last = omega (arith, g);
           along = i;
           stops = λ start known a b.
-              along_stop start first known w k (i start known a) (omega (arith, g, u.within)) (record { walk = w; entry = entry }) (under_met k x entry h g word e) is y;
+              along_stop start first known w k (i start known a) (omega (arith, g, u.within)) (record { walk = w; entry = under f m k w }) (under_met k h g) is y;
         }
 
       -- all are

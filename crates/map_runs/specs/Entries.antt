@@ -1,8 +1,12 @@
 -- What is wanted and known of a map's entries in a file, where they are met one by one.
 use Rattle.std.specs.Prelude.{ℕ, ◌+◌, ◌*◌, ◌≤◌, ◌<◌, ◌≡◌, List, length}
+use Rattle.format.specs.Bytes.{be_at, unpacked}
+use Rattle.format.specs.EntryPoints.{fine_widths}
 use Rattle.format.specs.Rewriting.{runs, body_bytes}
 use Rattle.ep_entries.specs.Body.{coarse_in, entries_in, entries_left, entry_in, RowsIn}
 use Rattle.entry_rows.specs.Reads.{row_of}
+use Rattle.entry_rows.specs.declared.EntryRow.{EntryRow}
+use Rattle.ep_entries.specs.Entries.{joined}
 use Rattle.ep_entries.specs.Walks.{IsWalk}
 use Rattle.ep_entries.specs.declared.body.MapBody.{MapBody}
 use Rattle.ep_entries.specs.declared.walk.Walk.{Walk}
@@ -42,6 +46,10 @@ pub record Along (f : List ℕ) (m : MapBody) (from : ℕ) (walk : Walk) (k : �
   pub within : k ≤ m.num_fine
   pub walk_is : IsWalk f m.num_fine (coarse_in f m) k walk
   pub rest : run_end (entry_in f m from) k (entries_left f m k) ≡ end_from from (entries_left f m from)
+
+-- fine row k's entry under the walk's coarse row
+abbrev pub under : List ℕ → MapBody → ℕ → Walk → EntryRow
+under f m k w = joined m.kind w.time w.packet (unpacked fine_widths (be_at f (m.fine + 4 * k) 4))
 
 -- fine rows `from` up to `end` of a map that is in the file use the walk's coarse row
 pub record Under (f : List ℕ) (m : MapBody) (from end : ℕ) (w : Walk) : Type 0 where

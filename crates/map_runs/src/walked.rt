@@ -1,8 +1,8 @@
 // The entries of one map, met one by one in the file: where a run ends, and how many runs there are.
-ghost use Rattle.std.specs.Prelude.{◌≡◌, ◌<◌};
-ghost use Rattle.format.specs.Rewriting.{runs};
+ghost use Rattle.std.specs.Prelude.{◌≡◌, ◌<◌, ◌≤◌, ◌+◌, ◌*◌, length};
+ghost use Rattle.format.specs.Rewriting.{runs, same_keys};
 ghost use Rattle.ep_entries.specs.Body.{entries_in, RowsIn};
-ghost use Rattle.map_runs.specs.Entries.{AtRow, IsMet, IsEnd, Under, UntilIs};
+ghost use Rattle.map_runs.specs.Entries.{AtRow, IsMet, IsEnd, Under, UntilIs, under};
 
 use entry_rows::EntryRow;
 use ep_entries::body::MapBody;
@@ -35,14 +35,28 @@ pub fn meet(file: &[u8], m: MapBody, k: usize, from: Walk) -> Met
     Met { walk, entry }
 }
 
-// The first fine row from number `from` up to `end`, all under the walk's coarse row, that is not in the run of the entry `first`; `end` where all are. In a loop over one coarse row's fine rows nothing looks at the next coarse row.
+// Whether the entry of fine row k, under the walk's coarse row, is in the run of the entry `first`.
+fn in_run(file: &[u8], m: MapBody, k: usize, w: Walk, first: Met) -> bool
+    requires { m.fine + 4 * k + 4 ≤ length file.now }
+    ensures { result ≡ same_keys first.entry.time first.entry.packet (under file.now m k w).time (under file.now m k w).packet }
+{
+    let entry = join(u32_at::<4>(file, m.fine + 4 * k), w, m.kind);
+    same_key(first.entry, entry)
+}
+
+// The first fine row from number `from` up to `end`, all under the walk's coarse row, that is not in the run of the entry `first`; `end` where all are. In a loop over one coarse row's fine rows nothing looks at the next coarse row. A run mostly ends with a coarse row, so the first fine row is looked at before the loop, which has to be made ready.
 fn same_until(file: &[u8], m: MapBody, from: usize, end: usize, w: Walk, first: Met) -> usize
     requires { Under file.now m from end w }
     ensures { UntilIs file.now m from end w first result }
 {
-    for k in from..end {
-        let entry = join(u32_at::<4>(file, m.fine + 4 * k), w, m.kind);
-        if !same_key(first.entry, entry) {
+    if from == end {
+        return end;
+    }
+    if !in_run(file, m, from, w, first) {
+        return from;
+    }
+    for k in from + 1..end {
+        if !in_run(file, m, k, w, first) {
             return k;
         }
     }

@@ -1,13 +1,31 @@
--- Each turn passes a fine row that is in the run.
+-- Each fine row that is in the run is passed, the first before the loop.
+use Prim.Native.Nat.{◌<◌}
 use native.Mathlib.Omega.{arith}
-use Rattle.map_runs.proofs.Turns.{going_on, going_stop}
+use Rattle.map_runs.proofs.Turns.{going_first, going_on, going_stop, going_done}
 use Rattle.map_runs.proofs.walked.same_until.Goals as goal
 
-pub returns-then-not-same_key : goal.returns-then-not-same_key
-returns-then-not-same_key c =
+pub returns-then-from-end : goal.returns-then-from-end
+returns-then-from-end c =
+    let a = c.args in
+    going_done a.file.now a.m a.from a.end a.w c.requires a.first a.from c.if-from-end.true (going_first a.file.now a.m a.from a.end a.w c.requires a.first)
+
+pub returns-then-not-in_run : goal.returns-then-not-in_run
+returns-then-not-in_run c =
+    let a = c.args in
+    let some : a.from < a.end = omega (arith, c.requires.turns, c.if-from-end.false) in
+    going_stop a.file.now a.m a.from a.end a.w c.requires a.first a.from (omega arith) some (going_first a.file.now a.m a.from a.end a.w c.requires a.first) c.in_run.ensures c.if-not-in_run.true
+
+pub returns-then-not-in_run-2 : goal.returns-then-not-in_run-2
+returns-then-not-in_run-2 c =
     let a = c.args in
     let l = c.loop-k in
-    going_stop a.file.now a.m a.from a.end a.w c.requires a.first l.k c.u32_at.result c.join-entry.result l.invariant.0 c.loop-k-test.true c.u32_at.ensures.same c.join-entry.ensures l.invariant.2 c.same_key.ensures c.if-not-same_key.true
+    going_stop a.file.now a.m a.from a.end a.w c.requires a.first l.k l.invariant.0 c.loop-k-test.true l.invariant.2 c.in_run-in-loop-k.ensures c.if-not-in_run-2.true
+
+pub loop-k-init : goal.loop-k-init
+loop-k-init c =
+    let a = c.args in
+    let some : a.from < a.end = omega (arith, c.requires.turns, c.if-from-end.false) in
+    (omega arith, omega (arith, some), going_on a.file.now a.m a.from a.end a.w c.requires a.first a.from (omega arith) some (going_first a.file.now a.m a.from a.end a.w c.requires a.first) c.in_run.ensures c.if-not-in_run.false)
 
 pub loop-k-preserved : goal.loop-k-preserved
 loop-k-preserved c =
@@ -15,5 +33,5 @@ loop-k-preserved c =
     let l = c.loop-k in (
       omega (arith, l.invariant.0),
       omega (arith, c.loop-k-test.true),
-      going_on a.file.now a.m a.from a.end a.w c.requires a.first l.k c.u32_at.result c.join-entry.result l.invariant.0 c.loop-k-test.true c.u32_at.ensures.same c.join-entry.ensures l.invariant.2 c.same_key.ensures c.if-not-same_key.false,
+      going_on a.file.now a.m a.from a.end a.w c.requires a.first l.k l.invariant.0 c.loop-k-test.true l.invariant.2 c.in_run-in-loop-k.ensures c.if-not-in_run-2.false,
     )
