@@ -131,7 +131,7 @@ module _ (f : List ℕ) (m : MapBody) where
 
       -- all are
       pub going_done : (k : ℕ) → k ≡ end → Going k → UntilIs f m from end w first end
-      going_done k z i = record { past = u.turns; last = omega arith; along = rw z at i; stops = λ start known a b. absurd (omega (arith, b)) }
+      going_done k z i = record { past = omega (arith, u.some); last = omega arith; along = rw z at i; stops = λ start known a b. absurd (omega (arith, b)) }
 
   -- ---- from run to run
 

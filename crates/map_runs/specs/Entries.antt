@@ -51,10 +51,10 @@ pub record Along (f : List ℕ) (m : MapBody) (from : ℕ) (walk : Walk) (k : �
 abbrev pub under : List ℕ → MapBody → ℕ → Walk → EntryRow
 under f m k w = joined m.kind w.time w.packet (unpacked fine_widths (be_at f (m.fine + 4 * k) 4))
 
--- fine rows `from` up to `end` of a map that is in the file use the walk's coarse row
+-- fine rows `from` up to `end`, one at least, of a map that is in the file use the walk's coarse row
 pub record Under (f : List ℕ) (m : MapBody) (from end : ℕ) (w : Walk) : Type 0 where
   pub rows : RowsIn f m
-  pub turns : from ≤ end
+  pub some : from < end
   pub within : end ≤ m.num_fine
   pub before : end ≤ w.end
   pub walk_is : IsWalk f m.num_fine (coarse_in f m) from w

@@ -44,14 +44,11 @@ fn in_run(file: &[u8], m: MapBody, k: usize, w: Walk, first: Met) -> bool
     same_key(first.entry, entry)
 }
 
-// The first fine row from number `from` up to `end`, all under the walk's coarse row, that is not in the run of the entry `first`; `end` where all are. In a loop over one coarse row's fine rows nothing looks at the next coarse row. A run mostly ends with a coarse row, so the first fine row is looked at before the loop, which has to be made ready.
+// The first fine row from number `from` up to `end`, one at least and all under the walk's coarse row, that is not in the run of the entry `first`; `end` where all are. In a loop over one coarse row's fine rows nothing looks at the next coarse row. A run mostly ends with a coarse row, so the first fine row is looked at before the loop, which has to be made ready.
 fn same_until(file: &[u8], m: MapBody, from: usize, end: usize, w: Walk, first: Met) -> usize
     requires { Under file.now m from end w }
     ensures { UntilIs file.now m from end w first result }
 {
-    if from == end {
-        return end;
-    }
     if !in_run(file, m, from, w, first) {
         return from;
     }

@@ -1,19 +1,12 @@
 -- Each fine row that is in the run is passed, the first before the loop.
-use Prim.Native.Nat.{◌<◌}
 use native.Mathlib.Omega.{arith}
-use Rattle.map_runs.proofs.Turns.{going_first, going_on, going_stop, going_done}
+use Rattle.map_runs.proofs.Turns.{going_first, going_on, going_stop}
 use Rattle.map_runs.proofs.walked.same_until.Goals as goal
-
-pub returns-then-from-end : goal.returns-then-from-end
-returns-then-from-end c =
-    let a = c.args in
-    going_done a.file.now a.m a.from a.end a.w c.requires a.first a.from c.if-from-end.true (going_first a.file.now a.m a.from a.end a.w c.requires a.first)
 
 pub returns-then-not-in_run : goal.returns-then-not-in_run
 returns-then-not-in_run c =
     let a = c.args in
-    let some : a.from < a.end = omega (arith, c.requires.turns, c.if-from-end.false) in
-    going_stop a.file.now a.m a.from a.end a.w c.requires a.first a.from (omega arith) some (going_first a.file.now a.m a.from a.end a.w c.requires a.first) c.in_run.ensures c.if-not-in_run.true
+    going_stop a.file.now a.m a.from a.end a.w c.requires a.first a.from (omega arith) c.requires.some (going_first a.file.now a.m a.from a.end a.w c.requires a.first) c.in_run.ensures c.if-not-in_run.true
 
 pub returns-then-not-in_run-2 : goal.returns-then-not-in_run-2
 returns-then-not-in_run-2 c =
@@ -24,8 +17,7 @@ returns-then-not-in_run-2 c =
 pub loop-k-init : goal.loop-k-init
 loop-k-init c =
     let a = c.args in
-    let some : a.from < a.end = omega (arith, c.requires.turns, c.if-from-end.false) in
-    (omega arith, omega (arith, some), going_on a.file.now a.m a.from a.end a.w c.requires a.first a.from (omega arith) some (going_first a.file.now a.m a.from a.end a.w c.requires a.first) c.in_run.ensures c.if-not-in_run.false)
+    (omega arith, omega (arith, c.requires.some), going_on a.file.now a.m a.from a.end a.w c.requires a.first a.from (omega arith) c.requires.some (going_first a.file.now a.m a.from a.end a.w c.requires a.first) c.in_run.ensures c.if-not-in_run.false)
 
 pub loop-k-preserved : goal.loop-k-preserved
 loop-k-preserved c =
