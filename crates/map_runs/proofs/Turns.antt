@@ -21,7 +21,7 @@ use Rattle.ep_entries.proofs.Walks.{walk_stop, walk_later}
 use Rattle.ep_entries.proofs.Joined.{left_all, left_turn, left_done}
 use Rattle.runs.specs.Runs.{run_end, coarse_from}
 use Rattle.runs.proofs.Runs.{coarse_all}
-use Rattle.map_runs.specs.Entries.{AtRow, IsMet, IsEnd, Along, Under, UntilIs, under}
+use Rattle.map_runs.specs.Entries.{AtRow, IsMet, IsEnd, Along, Under, under}
 use Rattle.map_runs.specs.declared.walked.Met.{Met}
 use Rattle.map_runs.specs.declared.walked.RunEnd.{RunEnd}
 use Rattle.map_runs.proofs.Entries.{next_run}
@@ -120,18 +120,13 @@ module _ (f : List ℕ) (m : MapBody) where
             along_turn start first known w k (i start known a) (omega (arith, g, u.within)) (record { walk = w; entry = under f m k w }) (under_met k h g) is y
 
         -- row k is not
-        pub going_stop : s ≡ false → UntilIs f m from end w first k
-        going_stop y = record {
-          past = h;
-          last = omega (arith, g);
-          along = i;
-          stops = λ start known a b.
-              along_stop start first known w k (i start known a) (omega (arith, g, u.within)) (record { walk = w; entry = under f m k w }) (under_met k h g) is y;
-        }
+        pub going_stop : s ≡ false → (start : ℕ) → IsMet f m start first → Along f m start w from → IsEnd f m start (record { row = k; walk = w })
+        going_stop y start known a =
+            along_stop start first known w k (i start known a) (omega (arith, g, u.within)) (record { walk = w; entry = under f m k w }) (under_met k h g) is y
 
       -- all are
-      pub going_done : (k : ℕ) → k ≡ end → Going k → UntilIs f m from end w first end
-      going_done k z i = record { past = omega (arith, u.some); last = omega arith; along = rw z at i; stops = λ start known a b. absurd (omega (arith, b)) }
+      pub going_done : (k : ℕ) → k ≡ end → Going k → (start : ℕ) → IsMet f m start first → Along f m start w from → Along f m start w end
+      going_done k z i = rw z at i
 
   -- ---- from run to run
 

@@ -1,5 +1,5 @@
 -- What is wanted and known of a map's entries in a file, where they are met one by one.
-use Rattle.std.specs.Prelude.{ℕ, ◌+◌, ◌*◌, ◌≤◌, ◌<◌, ◌≡◌, List, length}
+use Rattle.std.specs.Prelude.{ℕ, ◌+◌, ◌*◌, ◌≤◌, ◌<◌, ◌≡◌, List, length, Option, None, Some}
 use Rattle.format.specs.Bytes.{be_at, unpacked}
 use Rattle.format.specs.EntryPoints.{fine_widths}
 use Rattle.format.specs.Rewriting.{runs, body_bytes}
@@ -59,9 +59,7 @@ pub record Under (f : List ℕ) (m : MapBody) (from end : ℕ) (w : Walk) : Type
   pub before : end ≤ w.end
   pub walk_is : IsWalk f m.num_fine (coarse_in f m) from w
 
--- the run of an entry goes on from one of them up to row r, and ends there if that is not the last
-pub record UntilIs (f : List ℕ) (m : MapBody) (from end : ℕ) (w : Walk) (first : Met) (r : ℕ) : Type 0 where
-  pub past : from ≤ r
-  pub last : r ≤ end
-  pub along : (start : ℕ) → IsMet f m start first → Along f m start w from → Along f m start w r
-  pub stops : (start : ℕ) → IsMet f m start first → Along f m start w from → r < end → IsEnd f m start (record { row = r; walk = w })
+-- the run of an entry that goes on to the first of them ends at the row that is told, or goes on past them all
+abbrev pub OutsideIs : (f : List ℕ) (m : MapBody) (from end : ℕ) (w : Walk) (first : Met) → Option ℕ → Type 0
+OutsideIs f m from end w first (Some r) = (start : ℕ) → IsMet f m start first → Along f m start w from → IsEnd f m start (record { row = r; walk = w })
+OutsideIs f m from end w first None = (start : ℕ) → IsMet f m start first → Along f m start w from → Along f m start w end

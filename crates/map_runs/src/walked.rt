@@ -2,7 +2,7 @@
 ghost use Rattle.std.specs.Prelude.{◌≡◌, ◌<◌, ◌≤◌, ◌+◌, ◌*◌, length};
 ghost use Rattle.format.specs.Rewriting.{runs, same_keys};
 ghost use Rattle.ep_entries.specs.Body.{entries_in, RowsIn};
-ghost use Rattle.map_runs.specs.Entries.{AtRow, IsMet, IsEnd, Under, UntilIs, under};
+ghost use Rattle.map_runs.specs.Entries.{AtRow, IsMet, IsEnd, Under, OutsideIs, under};
 
 use entry_rows::EntryRow;
 use ep_entries::body::MapBody;
@@ -44,20 +44,27 @@ fn in_run(file: &[u8], m: MapBody, k: usize, w: Walk, first: Met) -> bool
     same_key(first.entry, entry)
 }
 
-// The first fine row from number `from` up to `end`, one at least and all under the walk's coarse row, that is not in the run of the entry `first`; `end` where all are. In a loop over one coarse row's fine rows nothing looks at the next coarse row. A run mostly ends with a coarse row, so the first fine row is looked at before the loop, which has to be made ready.
-fn same_until(file: &[u8], m: MapBody, from: usize, end: usize, w: Walk, first: Met) -> usize
+// Of the fine rows from number `from` up to `end`, one at least and all under the walk's coarse row, the first that is not in the run of the entry `first`. Here nothing looks at the next coarse row. A run mostly ends with a coarse row, so the first fine row is looked at before the loop, which has to be made ready.
+fn first_outside(
+    file: &[u8],
+    m: MapBody,
+    from: usize,
+    end: usize,
+    w: Walk,
+    first: Met,
+) -> Option<usize>
     requires { Under file.now m from end w }
-    ensures { UntilIs file.now m from end w first result }
+    ensures { OutsideIs file.now m from end w first result }
 {
     if !in_run(file, m, from, w, first) {
-        return from;
+        return Some(from);
     }
     for k in from + 1..end {
         if !in_run(file, m, k, w, first) {
-            return k;
+            return Some(k);
         }
     }
-    end
+    None
 }
 
 // The end of the run that begins at row `from`, of which the entry is `first`. Each next entry is compared with the run's first, coarse row by coarse row.
@@ -71,10 +78,10 @@ pub fn run_end(file: &[u8], m: MapBody, from: usize, first: Met) -> RunEnd
     while k < m.num_fine {
         walk = walk.reach(file, m, k);
         let end = walk.end.min(m.num_fine);
-        k = same_until(file, m, k, end, walk, first);
-        if k < end {
-            return RunEnd { row: k, walk };
+        if let Some(row) = first_outside(file, m, k, end, walk, first) {
+            return RunEnd { row, walk };
         }
+        k = end;
     }
     RunEnd {
         row: m.num_fine,

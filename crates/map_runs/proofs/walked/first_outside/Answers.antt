@@ -1,7 +1,7 @@
 -- Each fine row that is in the run is passed, the first before the loop.
 use native.Mathlib.Omega.{arith}
 use Rattle.map_runs.proofs.Turns.{going_first, going_on, going_stop}
-use Rattle.map_runs.proofs.walked.same_until.Goals as goal
+use Rattle.map_runs.proofs.walked.first_outside.Goals as goal
 
 pub returns-then-not-in_run : goal.returns-then-not-in_run
 returns-then-not-in_run c =
