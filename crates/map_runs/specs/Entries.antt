@@ -61,5 +61,5 @@ pub record Under (f : List ℕ) (m : MapBody) (from end : ℕ) (w : Walk) : Type
 
 -- the run of an entry that goes on to the first of them ends at the row that is told, or goes on past them all
 abbrev pub OutsideIs : (f : List ℕ) (m : MapBody) (from end : ℕ) (w : Walk) (first : Met) → Option ℕ → Type 0
-OutsideIs f m from end w first (Some r) = (start : ℕ) → IsMet f m start first → Along f m start w from → IsEnd f m start (record { row = r; walk = w })
+OutsideIs f m from end w first (Some r) = (from ≤ r) × (r < end) × ((start : ℕ) → IsMet f m start first → Along f m start w from → IsEnd f m start (record { row = r; walk = w }))
 OutsideIs f m from end w first None = (start : ℕ) → IsMet f m start first → Along f m start w from → Along f m start w end
