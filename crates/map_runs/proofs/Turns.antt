@@ -121,8 +121,12 @@ module _ (f : List ℕ) (m : MapBody) where
 
         -- row k is not
         pub going_stop : s ≡ false → (from ≤ k) × (k < end) × ((start : ℕ) → IsMet f m start first → Along f m start w from → IsEnd f m start (record { row = k; walk = w }))
-        going_stop y = (h, g, λ start known a.
-            along_stop start first known w k (i start known a) (omega (arith, g, u.within)) (record { walk = w; entry = under f m k w }) (under_met k h g) is y)
+        going_stop y = (
+          h,
+          g,
+          λ start known a.
+              along_stop start first known w k (i start known a) (omega (arith, g, u.within)) (record { walk = w; entry = under f m k w }) (under_met k h g) is y,
+        )
 
       -- all are
       pub going_done : (k : ℕ) → k ≡ end → Going k → (start : ℕ) → IsMet f m start first → Along f m start w from → Along f m start w end

@@ -75,8 +75,6 @@ pub fn first_row_by_cell<F: Fn(u32) -> bool>(
     let is_found = |row: u32|
         requires { (4 * (cells * row + cell) + 4 ≤ length bytes.now) × F.IsAlwaysCallable passes }
         ensures { F.post passes (cell_at bytes.entry.now (4 * (cells * row + cell))) result }
-    {
-        passes(cell_at(bytes, 4 * (cells * row as usize + cell)))
-    };
+    { passes(cell_at(bytes, 4 * (cells * row as usize + cell))) };
     Ok(first_of(table.rows, from, is_found))
 }

@@ -15,5 +15,5 @@ pub returns : goal.returns
 returns g c = λ test is.
     let lent = stated c.args.table.bytes.now c.args.table.rows in
     c.first_of.ensures (λ r. test (cell_in c.args.cell r)) (rows_of c.args.cells lent) (rows_stated c.args.cells c.args.table.bytes.now c.args.table.rows)
-        (λ k within passes post. is (cell_at lent.bytes (4 * (c.args.cells * k + c.args.cell))) passes (search rules) ∙ ap test (cell_told c.args.cells c.args.cell lent k within c.requires.width.0))
+    (λ k within passes post. is (cell_at lent.bytes (4 * (c.args.cells * k + c.args.cell))) passes (search rules) ∙ ap test (cell_told c.args.cells c.args.cell lent k within c.requires.width.0))
     ∙ asked_row _ _ _ _ (sym c.is_stated.ensures ∙ c.if-not-is_stated.false, refl)
